@@ -1,0 +1,10 @@
+pub mod Fields
+pub mod Tail
+pub mod Prefix
+pub mod Evex
+pub mod Line
+pub mod Rows
+pub mod Names
+pub mod Reading
+pub mod Sequence
+pub mod Shortest

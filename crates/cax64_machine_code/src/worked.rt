@@ -1,0 +1,36 @@
+//! Worked rows of the definitions, computed.
+
+ghost use Rattle.std.specs.Prelude.{◌≡◌, [], ◌∷◌, Some, None, pos, negsuc};
+ghost use Rattle.cax64_machine_code.specs.Tail.{read_tail};
+ghost use Rattle.cax64_machine_code.specs.Reading.{read};
+
+use crate::reading::{Place, Reading, RegView};
+use crate::row::Row;
+
+/// Tails: the stack pointer as a base, `%rbp` with no displacement, `%r12`, a byte under a factor, an index, a place
+/// relative to the end.
+#[tactic(auto, unfolding(crate::specs::Tail::read_tail, crate::specs::Tail::sib_at, crate::specs::Tail::disp_at, crate::specs::Fields::number_at))]
+pub fn tails()
+    ensures rsp { read_tail 0 0 1 (0x04 ∷ 0x24 ∷ []) ≡ Some (record { reg = 0; place = Place.Mem (Some 4) None (pos 0); rest = [] }) }
+    ensures rbp { read_tail 0 0 1 (0x45 ∷ 0x00 ∷ []) ≡ Some (record { reg = 0; place = Place.Mem (Some 5) None (pos 0); rest = [] }) }
+    ensures r12 { read_tail 0 1 1 (0x44 ∷ 0x24 ∷ 0x80 ∷ []) ≡ Some (record { reg = 0; place = Place.Mem (Some 12) None (negsuc 127); rest = [] }) }
+    ensures long { read_tail 0 0 127 (0x80 ∷ 0x80 ∷ 0x3F ∷ 0 ∷ 0 ∷ []) ≡ Some (record { reg = 0; place = Place.Mem (Some 0) None (pos 16256); rest = [] }) }
+    ensures factor { read_tail 0 0 127 (0x40 ∷ 0x80 ∷ []) ≡ Some (record { reg = 0; place = Place.Mem (Some 0) None (negsuc 16255); rest = [] }) }
+    ensures indexed { read_tail 0 1 1 (0x54 ∷ 0x8D ∷ 0x00 ∷ []) ≡ Some (record { reg = 2; place = Place.Mem (Some 13) (Some (1, 4)) (pos 0); rest = [] }) }
+    ensures relative { read_tail 0 0 1 (0x1D ∷ 255 ∷ 255 ∷ 255 ∷ 255 ∷ []) ≡ Some (record { reg = 3; place = Place.Rip (negsuc 0); rest = [] }) }
+    ensures cut { read_tail 0 0 1 (0x44 ∷ 0x24 ∷ []) ≡ None }
+{}
+
+/// Instructions, and what has no reading: no input, cut ones, a repeated prefix, a register for a memory operand.
+#[tactic(auto, unfolding(crate::specs::Reading::read, crate::specs::Reading::find, crate::specs::Reading::row_at, crate::specs::Reading::operands_at, crate::specs::Rows::line_of, crate::specs::Rows::all_rows, crate::specs::Line::after, crate::specs::Prefix::prefix_at, crate::specs::Prefix::legacy_at, crate::specs::Prefix::rex_at, crate::specs::Prefix::vex_at, crate::specs::Tail::read_tail, crate::specs::Tail::sib_at, crate::specs::Tail::disp_at, crate::specs::Fields::number_at))]
+pub fn instructions()
+    ensures andb { read (0x24 ∷ 0xAA ∷ []) ≡ Some (record { row = Row.andb_i; length = 2; tail = 0; reg = None; vvvv = None; place = None; imm = Some (pos 170) }) }
+    ensures lock_addl { read (0xF0 ∷ 0x45 ∷ 0x01 ∷ 0x4C ∷ 0x24 ∷ 0x80 ∷ 0x90 ∷ []) ≡ Some (record { row = Row.lock_addl_mr; length = 6; tail = 3; reg = Some (RegView.Low 9); vvvv = None; place = Some (Place.Mem (Some 12) None (negsuc 127)); imm = None }) }
+    ensures high_byte { read (0xF0 ∷ 0x00 ∷ 0x30 ∷ []) ≡ Some (record { row = Row.lock_addb_mr; length = 3; tail = 1; reg = Some (RegView.High 2); vvvv = None; place = Some (Place.Mem (Some 0) None (pos 0)); imm = None }) }
+    ensures compare { read (0xC5 ∷ 0xF8 ∷ 0xC2 ∷ 0xC1 ∷ 0x00 ∷ []) ≡ Some (record { row = Row.vcmpps_b; length = 5; tail = 1; reg = Some (RegView.Low 0); vvvv = Some 0; place = Some (Place.Reg (RegView.Low 1)); imm = Some (pos 0) }) }
+    ensures none { read [] ≡ None }
+    ensures cut { read (0xF0 ∷ 0x45 ∷ 0x01 ∷ 0x4C ∷ 0x24 ∷ []) ≡ None }
+    ensures cut_immediate { read (0x24 ∷ []) ≡ None }
+    ensures repeated { read (0xF0 ∷ 0xF0 ∷ 0x01 ∷ 0x08 ∷ []) ≡ None }
+    ensures memory_alone { read (0xF0 ∷ 0x01 ∷ 0xC8 ∷ []) ≡ None }
+{}
