@@ -1,2 +1,4 @@
+pub mod Bytes
 pub mod Table
 pub mod Uniqueness
+pub mod Matched
