@@ -17,7 +17,8 @@ equal a b h = grind (arith, nat_tests)
 itself : (a : ℕ) → (a == a) ≡ true
 itself a = grind (arith, nat_tests)
 
-some_if : {A : Type 0} (t : Bool) (x : Option A) (r : A) → (if t then x else None) ≡ Some r → (t ≡ true) × (x ≡ Some r)
+-- a test that something was read under
+pub some_if : {A : Type 0} (t : Bool) (x : Option A) (r : A) → (if t then x else None) ≡ Some r → (t ≡ true) × (x ≡ Some r)
 some_if true x r h = (refl, h)
 some_if false x r h = cc
 
