@@ -1,5 +1,5 @@
-use Rattle.std.proofs.Common.{◌≡◌, ℕ, List, [], ◌∷◌, ◌++◌, length, Result, Ok, Err, inl, inr, refl, sym, ◌∙◌, ap, append_assoc, append-nil, if◌then◌else◌}
-use Rattle.cax64_sink.specs.Sink.{State, Action, Step, Went, Ran, Refusal, bytes_of, all_bytes, all_notices}
+use Rattle.std.proofs.Common.{◌≡◌, List, [], ◌∷◌, ◌++◌, Result, Err, inl, inr, refl, sym, ◌∙◌, ap, append_assoc, append-nil}
+use Rattle.cax64_sink.specs.Sink.{State, Action, Went, Ran, Refusal, bytes_of, all_bytes}
 use Rattle.cax64_sink.specs.declared.SinkError.{SinkError}
 use Rattle.cax64_sink.proofs.Runs.{notices_next, told_nothing}
 

@@ -1,6 +1,6 @@
-use Rattle.std.proofs.Common.{◌≡◌, ℕ, ◌+◌, ◌-◌, ◌≤◌, List, [], ◌∷◌, ◌++◌, length, Result, Ok, Err, inl, inr, refl, sym, ◌∙◌, ap, arith, subst, take, length-append, length-take, true, IsOk, ◌↔◌}
+use Rattle.std.proofs.Common.{◌≡◌, ℕ, ◌+◌, ◌-◌, ◌≤◌, List, [], ◌∷◌, ◌++◌, length, Result, Ok, Err, inl, inr, refl, ◌∙◌, ap, arith, subst, length-append, length-take, IsOk, ◌↔◌}
 use Rattle.cax64_sink.specs.Room.{Room, HasRoom, FallsBy, endless, count}
-use Rattle.cax64_sink.specs.Sink.{State, Action, Step, Went, Ran, bytes_of, notes_of, notice_of, put, trap, target, size, notes, all_bytes, all_notices}
+use Rattle.cax64_sink.specs.Sink.{State, Action, Went, Ran, bytes_of, notes_of, notice_of, put, trap, target, size, notes, all_bytes, all_notices}
 use Rattle.cax64_sink.specs.FixedSink.{fixed_sink_state}
 use Rattle.cax64_sink.specs.declared.SinkError.{SinkError}
 use Rattle.cax64_sink.specs.declared.fixed_sink.FixedSink.{FixedSink}

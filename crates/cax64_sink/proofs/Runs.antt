@@ -1,5 +1,4 @@
-use Rattle.std.proofs.Common.{◌≡◌, ℕ, ◌+◌, ◌≤◌, List, [], ◌∷◌, ◌++◌, length, Bool, true, false, Result, Ok, Err, ◌⊎◌, inl, inr, refl, sym, ◌∙◌, ap, append_assoc, arith, Option, ℤ, append-nil, length-append, add_assoc, IfErr, subst, if◌then◌else◌}
-use Rattle.cax64_sink.specs.Room.{Room, HasRoom, FallsBy}
+use Rattle.std.proofs.Common.{◌≡◌, ℕ, ◌+◌, List, [], ◌∷◌, ◌++◌, length, Bool, true, false, Result, Ok, Err, inl, inr, refl, sym, ◌∙◌, ap, append_assoc, arith, append-nil, length-append, add_assoc, subst, if◌then◌else◌}
 use Rattle.cax64_sink.specs.Sink.{State, Action, Step, Went, Ran, bytes_of, notice_of, all_bytes, all_notices}
 use Rattle.cax64_sink.specs.declared.SinkError.{SinkError}
 use Rattle.cax64_sink.specs.declared.Notice.{Notice}
@@ -74,8 +73,8 @@ told_next false old mid new more rest e k = k ∙ e
 pub notices_next : (act : Action) (acts : List Action) (s u t : State) → Step act s u (Ok tt) → t.notices ≡ (if u.records then u.notices ++ all_notices acts (length u.bytes) else u.notices) → t.notices ≡ (if s.records then s.notices ++ all_notices (act ∷ acts) (length s.bytes) else s.notices)
 notices_next act acts s u t h k =
     let same : t.notices ≡ (if s.records then u.notices ++ all_notices acts (length s.bytes + length (bytes_of act)) else u.notices) =
-      k ∙ ap (λ (b : Bool). if b then u.notices ++ all_notices acts (length u.bytes) else u.notices) h.records
-        ∙ ap (λ (n : ℕ). if s.records then u.notices ++ all_notices acts n else u.notices) (ap length h.bytes ∙ length-append s.bytes (bytes_of act)) in
+    k ∙ ap (λ (b : Bool). if b then u.notices ++ all_notices acts (length u.bytes) else u.notices) h.records
+    ∙ ap (λ (n : ℕ). if s.records then u.notices ++ all_notices acts n else u.notices) (ap length h.bytes ∙ length-append s.bytes (bytes_of act)) in
     told_next s.records s.notices u.notices t.notices (notice_of act (length s.bytes)) (all_notices acts (length s.bytes + length (bytes_of act))) h.notices same
 
 -- nothing is told by no call
@@ -132,10 +131,10 @@ all_notices_append [] more at = ap (all_notices more) (omega arith)
 all_notices_append (act ∷ acts) more at =
     let next : ℕ = at + length (bytes_of act) in
     let place : next + length (all_bytes acts) ≡ at + length (bytes_of act ++ all_bytes acts) =
-      add_assoc at (length (bytes_of act)) (length (all_bytes acts)) ∙ ap (λ n. at + n) (sym (length-append (bytes_of act) (all_bytes acts))) in
+    add_assoc at (length (bytes_of act)) (length (all_bytes acts)) ∙ ap (λ n. at + n) (sym (length-append (bytes_of act) (all_bytes acts))) in
     ap (λ x. notice_of act at ++ x) (all_notices_append acts more next)
-      ∙ sym (append_assoc (notice_of act at) (all_notices acts next) (all_notices more (next + length (all_bytes acts))))
-      ∙ ap (λ n. (notice_of act at ++ all_notices acts next) ++ all_notices more n) place
+    ∙ sym (append_assoc (notice_of act at) (all_notices acts next) (all_notices more (next + length (all_bytes acts))))
+    ∙ ap (λ n. (notice_of act at ++ all_notices acts next) ++ all_notices more n) place
 
 went_front : (acts : List Action) (s t : State) (r : Result (Unit {0}) SinkError) → Went acts s t r → (c : List ℕ) × (t.bytes ≡ s.bytes ++ c)
 unfolding Went

@@ -1,5 +1,5 @@
-use Rattle.std.specs.Prelude.{ℕ, ℤ, None, ◌-◌, Option, ◌+◌, ◌≤◌, ◌≡◌, List, [], ◌∷◌, ◌++◌, length, Bool, true, false, if◌then◌else◌, Result, Ok, Err, is_ok, IsOk, IfErr, ◌⊎◌}
-use Rattle.cax64_sink.specs.Room.{Room, HasRoom, FallsBy, endless, count}
+use Rattle.std.specs.Prelude.{ℕ, ℤ, None, Option, ◌+◌, ◌≡◌, List, [], ◌∷◌, ◌++◌, length, Bool, true, false, if◌then◌else◌, Result, Ok, Err, is_ok, IsOk, IfErr, ◌⊎◌}
+use Rattle.cax64_sink.specs.Room.{Room, HasRoom, FallsBy, endless}
 use Rattle.cax64_sink.specs.declared.SinkError.{SinkError}
 use Rattle.cax64_sink.specs.declared.TrapCode.{TrapCode}
 use Rattle.cax64_sink.specs.declared.DeferredTarget.{DeferredTarget}

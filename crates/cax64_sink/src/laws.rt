@@ -11,12 +11,10 @@ pub fn laws_of_runs()
     ensures keep { RunsKeep }
     ensures succeed { RunsWithRoomSucceed }
     ensures rooms { RunsLowerRooms }
-{
-}
+{}
 
 /// The laws of a sink of `N` bytes. It does nothing: its clauses are the laws.
 pub fn laws_of_fixed_sinks<const N: usize>()
     ensures hold { FixedSinksHold N }
     ensures take { FixedSinksTake N }
-{
-}
+{}

@@ -74,9 +74,7 @@ impl<A: Allocator> Recorder<A> {
         ensures succeeds { HasRoom (recorder_state self.old).byte_room bytes → HasRoom (recorder_state self.old).notice_room notices → IsOk result }
         ensures no_memory { IfErr result (λ e. e ≡ SinkError.NoMemory) }
     {
-        self.code
-            .reserve(bytes)
-            .map_err(|_| SinkError::NoMemory)?;
+        self.code.reserve(bytes).map_err(|_| SinkError::NoMemory)?;
         self.told.reserve(notices).map_err(|_| SinkError::NoMemory)
     }
 

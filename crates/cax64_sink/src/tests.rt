@@ -5,18 +5,24 @@ ghost use Rattle.std.specs.Int.{to_le_bytes, w32};
 ghost use Rattle.cax64_sink.specs.Sink.{Ran, put, trap};
 
 use crate::laws::{laws_of_fixed_sinks, laws_of_runs};
-use crate::{CodeSink, Constant, DeferredTarget, FixedSink, KnownOffset, Label, Notice, Recorder, SinkError, TrapCode};
+use crate::{
+    CodeSink, Constant, DeferredTarget, FixedSink, KnownOffset, Label, Notice, Recorder, SinkError,
+    TrapCode,
+};
+use std::alloc::AllocError;
 use std::num::NonZeroU8;
-
-const FIVE: TrapCode = TrapCode(NonZeroU8::new(5).unwrap());
 
 const ALL_BYTES: [u8; 15] = [
     0x01, 0x02, 0x01, 0x04, 0x03, 0x02, 0x01, 0x08, 0x07, 0x06, 0x05, 0x04, 0x03, 0x02, 0x01,
 ];
 
+fn five() -> TrapCode {
+    TrapCode(NonZeroU8::new(5).unwrap())
+}
+
 fn put_each<S: CodeSink>(sink: &mut S) -> Result<(), SinkError> {
     sink.put1(0x01)?;
-    sink.add_trap(FIVE)?;
+    sink.add_trap(five())?;
     sink.put2(0x0102)?;
     sink.use_target(DeferredTarget::Label(Label(7)))?;
     sink.put4(0x0102_0304)?;
@@ -54,7 +60,7 @@ fn a_recorder_keeps_bytes_and_notices(rt: HostRuntime) {
     assert_eq!(rt; put_each(&mut sink), Ok(()));
     assert_eq!(rt; sink.bytes(), &ALL_BYTES[..]);
     let told = [
-        Notice::Trap(1, FIVE),
+        Notice::Trap(1, five()),
         Notice::Target(3, DeferredTarget::Label(Label(7))),
     ];
     assert_eq!(rt; sink.notices(), &told[..]);
@@ -73,7 +79,10 @@ fn a_recorder_patches(rt: HostRuntime) {
 
     assert!(rt; sink.bytes().len() == 7);
     sink.patch4(3, 0x0102_0304);
-    assert_eq!(rt; sink.bytes(), &[0xF0, 0x01, 0x0D, 0x04, 0x03, 0x02, 0x01][..]);
+    assert_eq!(rt;
+        sink.bytes(),
+        &[0xF0, 0x01, 0x0D, 0x04, 0x03, 0x02, 0x01][..]
+    );
     let told = [Notice::Target(3, DeferredTarget::Label(Label(0)))];
     assert_eq!(rt; sink.notices(), &told[..]);
 }
@@ -96,7 +105,7 @@ fn a_fixed_sink_refuses_what_does_not_fit(rt: HostRuntime) {
     assert_eq!(rt; put_each(&mut whole), Ok(()));
     assert_eq!(rt; whole.bytes(), &ALL_BYTES[..]);
     assert_eq!(rt; whole.put1(0), Err(SinkError::Full));
-    assert_eq!(rt; whole.add_trap(FIVE), Ok(()));
+    assert_eq!(rt; whole.add_trap(five()), Ok(()));
     assert_eq!(rt; whole.known_offset(0), 0);
 
     let mut short = FixedSink::<6>::new();
@@ -114,16 +123,16 @@ fn a_run_meets_the_laws(rt: HostRuntime) {
     laws_of_runs();
     laws_of_fixed_sinks::<4>();
     let mut fixed = FixedSink::<4>::new();
-    assert_eq!(rt; trap_and_put(&mut fixed, FIVE, 1), Ok(()));
-    assert_eq!(rt; trap_and_put(&mut fixed, FIVE, 1), Err(SinkError::Full));
+    assert_eq!(rt; trap_and_put(&mut fixed, five(), 1), Ok(()));
+    assert_eq!(rt; trap_and_put(&mut fixed, five(), 1), Err(SinkError::Full));
     assert_eq!(rt; fixed.bytes(), &[1, 0, 0, 0][..]);
 
     let mut recorder = Recorder::new(rt.alloc());
-    assert_eq!(rt; trap_and_put(&mut recorder, FIVE, 1), Ok(()));
-    assert_eq!(rt; recorder.notices(), &[Notice::Trap(0, FIVE)][..]);
+    assert_eq!(rt; trap_and_put(&mut recorder, five(), 1), Ok(()));
+    assert_eq!(rt; recorder.notices(), &[Notice::Trap(0, five())][..]);
 
     let mut bytes: Vec<u8> = Vec::new(rt.alloc());
-    assert_eq!(rt; trap_and_put(&mut bytes, FIVE, 1), Ok(()));
+    assert_eq!(rt; trap_and_put(&mut bytes, five(), 1), Ok(()));
     assert_eq!(rt; bytes.as_slice(), &[1, 0, 0, 0][..]);
 }
 
@@ -135,13 +144,14 @@ fn items_compare_by_variant_and_number(rt: HostRuntime) {
     assert!(rt; label != DeferredTarget::Constant(Constant(1)));
     assert!(rt; label != DeferredTarget::None);
     assert!(rt; Notice::Target(1, label) != Notice::Target(2, label));
-    assert!(rt; Notice::Target(1, label) != Notice::Trap(1, FIVE));
-    assert!(rt; FIVE != TrapCode(NonZeroU8::MIN));
+    assert!(rt; Notice::Target(1, label) != Notice::Trap(1, five()));
+    assert!(rt; five() != TrapCode(NonZeroU8::MIN));
     assert!(rt; SinkError::NoMemory != SinkError::Full);
 }
 
 #[test]
-fn a_trap_code_prints_its_number(rt: HostRuntime) {
-    let text = FIVE.to_string(rt.alloc()).unwrap();
+fn a_trap_code_prints_its_number(rt: HostRuntime) -> Result<(), AllocError> {
+    let text = five().to_string(rt.alloc())?;
     assert_eq!(rt; text.as_str(), "trap=5");
+    Ok(())
 }
