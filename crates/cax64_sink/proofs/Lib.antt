@@ -1,0 +1,4 @@
+pub mod Offsets
+pub mod Refusals
+pub mod Rooms
+pub mod Runs
