@@ -1,0 +1,6 @@
+-- which registers an instruction can hold
+use Rattle.std.specs.Prelude.{ℕ, Bool, ◌&&◌, nat_lt}
+
+-- the register has a hardware number, and that number is below 16
+abbrev pub is_real : {R : Type 0} → (R → Bool) → (R → ℕ) → R → Bool
+is_real settled enc r = settled r && nat_lt (enc r) 16

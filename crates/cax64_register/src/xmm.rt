@@ -1,0 +1,3 @@
+//! XMM registers.
+
+pub mod enc;
