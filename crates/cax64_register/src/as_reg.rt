@@ -5,10 +5,9 @@ ghost use Rattle.cax64_register.specs.declared.gpr.Size.{Size};
 ghost use Rattle.cax64_register.specs.Real.{is_real};
 ghost use Rattle.cax64_register.specs.Names.{register_name};
 
-use std::alloc::{AllocError, Allocator};
-
 use crate::gpr::Size;
 use crate::{gpr, xmm};
+use std::alloc::{AllocError, Allocator};
 
 /// A register of some family, physical or still virtual.
 ///

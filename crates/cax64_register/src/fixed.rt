@@ -2,9 +2,8 @@
 ghost use Rattle.std.specs.Prelude.{◌≡◌, ◌==◌, ◌&&◌, IsTrue, IfOk, string_bytes};
 ghost use Rattle.std.proofs.Common.{ap};
 
-use std::alloc::{AllocError, Allocator};
-
 use crate::{AsReg, Size};
+use std::alloc::{AllocError, Allocator};
 
 /// A register that an instruction fixes to the number `E`, as the accumulator of `cmpxchg`.
 ///

@@ -11,4 +11,5 @@ pub mod xmm;
 
 pub use as_reg::{AsReg, Registers, register_name};
 pub use fixed::Fixed;
-pub use gpr::{Gpr, Size};
+pub use gpr::{Gpr, NonRspGpr, Size};
+pub use xmm::Xmm;
