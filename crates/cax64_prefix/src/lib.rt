@@ -1,0 +1,4 @@
+//! The prefixes of 64-bit mode that carry register bits: REX, VEX and EVEX.
+#![tactic(auto)]
+
+pub mod rex;
