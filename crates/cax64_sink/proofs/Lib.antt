@@ -2,3 +2,4 @@ pub mod Offsets
 pub mod Refusals
 pub mod Rooms
 pub mod Runs
+pub mod Ends

@@ -5,3 +5,4 @@ pub mod FixedSink
 pub mod Vec
 pub mod Laws
 pub mod TrapCode
+pub mod Ends
