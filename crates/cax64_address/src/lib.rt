@@ -1,13 +1,9 @@
-// A library with one function.
+//! Memory operands, and the tails that they are written as: ModR/M, SIB and displacement.
 #![tactic(auto)]
 
-ghost use Rattle.std.specs.Prelude.{◌≡◌};
-ghost use Rattle.cax64_address.specs.Echo.{echo_of};
+pub mod amode;
 
-// The `ensures` clause is the contract: what `echo` returns is `echo_of` of its argument, a definition
-// in `specs/Echo.antt`, which a caller's clause can cite too.
-pub fn echo(x: usize) -> usize
-    ensures { result ≡ echo_of x }
-{
-    x
-}
+pub mod disp;
+pub mod offset;
+pub mod operand;
+
