@@ -5,3 +5,4 @@ pub mod Matched
 pub mod Tails
 pub mod Extended
 pub mod Whole
+pub mod Forms
