@@ -7,3 +7,4 @@ pub mod disp;
 pub mod offset;
 pub mod operand;
 
+pub mod tail;
