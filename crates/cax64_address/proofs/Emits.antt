@@ -215,3 +215,9 @@ emits_relative n reg k m word place hf hk em ew = record {
 -- a small number negated
 pub negated : (k word : ℕ) (from : ℤ) → k < 256 → from ≡ pos k → word ≡ cast_unsigned w32 (cast_signed w32 (cast_unsigned w32 (pos 0 -ℤ cast_signed w32 (cast_unsigned w32 from)))) → word ≡ cast_unsigned w32 (pos 0 -ℤ pos k)
 negated k word from hk ef e = omega (arith, ints)
+
+pub chosen_five : (n base : ℕ) (v : ℤ) (d : Disp) → IsClassOf n v d → GivesBack n v d → base % 8 ≡ 5 → Chosen n base v d (forced d)
+chosen_five n base v d k b e = record { class = k; back = forced_back n v d b; five = λ _. refl; other = λ f. absurd (f e) }
+
+pub chosen_other : (n base : ℕ) (v : ℤ) (d : Disp) → IsClassOf n v d → GivesBack n v d → base % 8 ≢ 5 → Chosen n base v d d
+chosen_other n base v d k b f = record { class = k; back = b; five = λ e. absurd (f e); other = λ _. refl }

@@ -6,6 +6,7 @@ ghost use Rattle.cax64_address.specs.Displacement.{factor_of};
 ghost use Rattle.cax64_address.specs.Emitted.{AddsTail, LeavesTail, TailOf, tail_actions, field_actions, sib_actions};
 ghost use Rattle.cax64_machine_code.specs.Fields.{IsBytes};
 ghost use Rattle.cax64_machine_code.specs.Tail.{IsTail};
+ghost use Rattle.cax64_sink.specs.Keeps.{Keeps};
 ghost use Rattle.cax64_sink.specs.Room.{HasRoom};
 ghost use Rattle.cax64_sink.specs.Sink.{Ran};
 
@@ -182,9 +183,7 @@ pub fn emit_modrm_sib_disp<R: AsReg, S: CodeSink>(
     ensures adds { OnOk result (AddsTail (index_bit R.enc mem_e.now) (base_bit R.enc mem_e.now) (factor_of evex_scaling) (enc_g % 8) (place_of R.enc (S.state sink.old).offsets bytes_at_end mem_e.now) (target_notices mem_e.now) (S.state sink.old) (S.state sink.new)) }
     ensures leaves { OnErr result (LeavesTail (index_bit R.enc mem_e.now) (base_bit R.enc mem_e.now) (factor_of evex_scaling) (enc_g % 8) (place_of R.enc (S.state sink.old).offsets bytes_at_end mem_e.now) (target_notices mem_e.now) (S.state sink.old) (S.state sink.new)) }
     ensures error { IfErr result (λ e. (S.state sink.old).answers e ≡ true) }
-    ensures offsets { (S.state sink.new).offsets ≡ (S.state sink.old).offsets }
-    ensures records { (S.state sink.new).records ≡ (S.state sink.old).records }
-    ensures answers { (S.state sink.new).answers ≡ (S.state sink.old).answers }
+    ensures keeps { Keeps (S.state sink.old) (S.state sink.new) }
     // Any tail of bytes that reads as the operand shows how much room is enough: what is put is the shortest.
     ensures room {
       (t : List ℕ) → IsBytes t

@@ -1,9 +1,11 @@
-use Rattle.std.proofs.Common.{◌≡◌, ℕ, ◌+◌, ◌<◌, arith, List, [], ◌∷◌, ◌++◌, length, sym, ◌∙◌, ap}
+use Rattle.cax64_sink.specs.declared.SinkError.{SinkError}
+use Rattle.std.proofs.Common.{Result, ◌≡◌, ℕ, ◌+◌, ◌<◌, arith, List, [], ◌∷◌, ◌++◌, length, sym, ◌∙◌, ap}
 use Rattle.std.proofs.lemmas.List.{length-append}
-use Rattle.cax64_sink.specs.Sink.{State, Action, Refusal, bytes_of, all_bytes, all_notices}
+use Rattle.cax64_sink.specs.Keeps.{Keeps}
+use Rattle.cax64_sink.specs.Sink.{State, Action, Ran, Refusal, bytes_of, all_bytes, all_notices}
 use Rattle.cax64_sink.specs.Ends.{EndsInBytes}
 use Rattle.cax64_sink.specs.declared.Notice.{Notice}
-use Rattle.cax64_sink.proofs.Runs.{all_bytes_append, all_notices_append}
+use Rattle.cax64_sink.proofs.Runs.{all_bytes_append, all_notices_append, ran_offsets, ran_records, ran_answers}
 
 -- more actions before those that end in bytes
 pub ends_append : (acts more : List Action) → EndsInBytes more → EndsInBytes (acts ++ more)
@@ -34,3 +36,7 @@ pub refused_notices : {acts : List Action} {s t : State} (left : Refusal acts s 
 refused_notices {acts} left at =
     (all_notices (left.act ∷ left.later) (at + length (all_bytes left.done)),
      sym (ap (λ (x : List Action). all_notices x at) left.parts ∙ all_notices_append left.done (left.act ∷ left.later) at))
+
+-- what no run changes
+pub ran_keeps : {acts : List Action} {s t : State} {r : Result (Unit {0}) SinkError} → Ran acts s t r → Keeps s t
+ran_keeps h = record { offsets = ran_offsets h; records = ran_records h; answers = ran_answers h }

@@ -6,3 +6,4 @@ pub mod Vec
 pub mod Laws
 pub mod TrapCode
 pub mod Ends
+pub mod Keeps
