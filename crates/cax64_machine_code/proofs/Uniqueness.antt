@@ -3,8 +3,18 @@ use Rattle.std.specs.Prelude.{◌==◌, ◌&&◌, ◌||◌, not, if◌then◌els
 use Rattle.std.proofs.lemmas.Bool.{and_parts}
 use Rattle.std.proofs.lemmas.Bool.Decides.{nat_tests}
 use Rattle.cax64_machine_code.specs.Fields.{reg_of}
-use Rattle.cax64_machine_code.specs.Prefix.{Legacy, Rex, Prefix, legacy_prefix, vex_prefix, has_rex, w_of}
-use Rattle.cax64_machine_code.specs.Line.{Line, PrefixField, legacy, vex, VvvvField, RegField, digit, r8, register, PlaceField, TailField, no_tail, modrm, same_bool, same_legacy, w_matches, field_matches, prefix_matches, after, reg_matches, digit_matches, opcode_at}
+use Rattle.cax64_machine_code.specs.Prefix.{Rex, Prefix, legacy_prefix, vex_prefix, has_rex, w_of}
+use Rattle.cax64_machine_code.specs.Line.{same_bool, same_legacy, w_matches, field_matches, prefix_matches, after, reg_matches, digit_matches, opcode_at, opcode_bytes}
+use Rattle.cax64_machine_code.specs.declared.line.LegacySet.{LegacySet}
+use Rattle.cax64_machine_code.specs.declared.line.Line.{Line}
+use Rattle.cax64_machine_code.specs.declared.line.VvvvField.{VvvvField}
+use Rattle.cax64_machine_code.specs.declared.line.PrefixField.{PrefixField}
+use Rattle.cax64_machine_code.specs.declared.line.RegField.{RegField}
+use Rattle.cax64_machine_code.specs.declared.line.PlaceField.{PlaceField}
+use Rattle.cax64_machine_code.specs.declared.line.TailField.{TailField}
+use Rattle.cax64_machine_code.specs.declared.line.PrefixField.TheVariants.{LegacyField, VexField}
+use Rattle.cax64_machine_code.specs.declared.line.RegField.TheVariants.{Digit, Register8, Register}
+use Rattle.cax64_machine_code.specs.declared.line.TailField.TheVariants.{NoTail, Modrm}
 use Rattle.cax64_machine_code.specs.Apart.{prefix_apart, w_apart, bytes_apart, reg_apart, digit_apart, apart, apart_from_all, all_apart}
 use Rattle.cax64_machine_code.specs.Reading.{matched_at}
 use Rattle.cax64_machine_code.specs.Rows.{line_of, all_rows}
@@ -32,17 +42,17 @@ bool_self : (a : Bool) → same_bool a a ≡ true
 bool_self true = refl
 bool_self false = refl
 
-legacy_rebuilt : (a a' b b' c c' d d' : Bool) → a ≡ a' → b ≡ b' → c ≡ c' → d ≡ d' → ◌≡◌ {A = Legacy} (record { lock = a; operand_size = b; repne = c; rep = d }) (record { lock = a'; operand_size = b'; repne = c'; rep = d' })
+legacy_rebuilt : (a a' b b' c c' d d' : Bool) → a ≡ a' → b ≡ b' → c ≡ c' → d ≡ d' → ◌≡◌ {A = LegacySet} (record { lock = a; operand_size = b; repne = c; rep = d }) (record { lock = a'; operand_size = b'; repne = c'; rep = d' })
 legacy_rebuilt a a' b b' c c' d d' e1 e2 e3 e4 = rw (e1, e2, e3, e4) refl
 
-pub legacy_same : (a b : Legacy) → same_legacy a b ≡ true → a ≡ b
+pub legacy_same : (a b : LegacySet) → same_legacy a b ≡ true → a ≡ b
 legacy_same a b h =
     let p = and_parts (same_bool a.lock b.lock) (same_bool a.operand_size b.operand_size && (same_bool a.repne b.repne && same_bool a.rep b.rep)) h in
     let q = and_parts (same_bool a.operand_size b.operand_size) (same_bool a.repne b.repne && same_bool a.rep b.rep) p.1 in
     let r = and_parts (same_bool a.repne b.repne) (same_bool a.rep b.rep) q.1 in
     legacy_rebuilt a.lock b.lock a.operand_size b.operand_size a.repne b.repne a.rep b.rep (bool_same a.lock b.lock p.0) (bool_same a.operand_size b.operand_size q.0) (bool_same a.repne b.repne r.0) (bool_same a.rep b.rep r.1)
 
-pub legacy_self : (a : Legacy) → same_legacy a a ≡ true
+pub legacy_self : (a : LegacySet) → same_legacy a a ≡ true
 legacy_self a = rw (bool_self a.lock, bool_self a.operand_size, bool_self a.repne, bool_self a.rep) refl
 
 no_true : true ≡ false → ⊥
@@ -52,7 +62,7 @@ not_true : (t : Bool) → t ≡ true → not t ≡ true → ⊥
 not_true true e h = cc
 not_true false e h = cc
 
-set_excluded : (a b found : Legacy) → same_legacy a found ≡ true → same_legacy b found ≡ true → not (same_legacy a b) ≡ true → ⊥
+set_excluded : (a b found : LegacySet) → same_legacy a found ≡ true → same_legacy b found ≡ true → not (same_legacy a b) ≡ true → ⊥
 set_excluded a b found h k n =
     let e : a ≡ b = legacy_same a found h ∙ sym (legacy_same b found k) in
     not_true (same_legacy a b) (ap (λ x. same_legacy x b) e ∙ legacy_self b) n
@@ -81,13 +91,13 @@ vex_excluded f1 f2 f3 v1 v2 a1 a2 a3 b1 b2 b3 h k n =
       | inr n3 ↦ number_excluded f3 a3 b3 h3.0 k3.0 n3 ] ]
 
 prefix_excluded : (a b : PrefixField) (p : Prefix) → prefix_apart a b ≡ true → field_matches a p ≡ true → field_matches b p ≡ true → ⊥
-prefix_excluded (legacy set rex) (legacy other may) (legacy_prefix found byte) n h k =
+prefix_excluded (LegacyField set rex) (LegacyField other may) (legacy_prefix found byte) n h k =
     set_excluded set other found (and_parts (same_legacy set found) (rex || not (is_some byte)) h).0 (and_parts (same_legacy other found) (may || not (is_some byte)) k).0 n
-prefix_excluded (legacy set rex) other (vex_prefix found) n h k = no_true (sym h)
-prefix_excluded (legacy set rex) (vex pp map l v) (legacy_prefix found byte) n h k = no_true (sym k)
-prefix_excluded (vex pp map l v) other (legacy_prefix found byte) n h k = no_true (sym h)
-prefix_excluded (vex pp map l v) (legacy set rex) (vex_prefix found) n h k = no_true (sym k)
-prefix_excluded (vex pp map l v) (vex qq other m w) (vex_prefix found) n h k = vex_excluded found.pp found.map found.l _ _ pp map l qq other m h k n
+prefix_excluded (LegacyField set rex) other (vex_prefix found) n h k = no_true (sym h)
+prefix_excluded (LegacyField set rex) (VexField pp map l v) (legacy_prefix found byte) n h k = no_true (sym k)
+prefix_excluded (VexField pp map l v) other (legacy_prefix found byte) n h k = no_true (sym h)
+prefix_excluded (VexField pp map l v) (LegacyField set rex) (vex_prefix found) n h k = no_true (sym k)
+prefix_excluded (VexField pp map l v) (VexField qq other m w) (vex_prefix found) n h k = vex_excluded found.pp found.map found.l _ _ pp map l qq other m h k n
 
 w_excluded : (a b : Option ℕ) (w : ℕ) → w_apart a b ≡ true → w_matches a w ≡ true → w_matches b w ≡ true → ⊥
 w_excluded None b w n h k = no_true (sym n)
@@ -122,21 +132,21 @@ after_same (x ∷ xs) (y ∷ ys) (c ∷ bytes) r s n h k =
     after_same xs ys bytes r s (suc_same _ _ n) (some_if (x == c) (after xs bytes) r h).1 (some_if (y == c) (after ys bytes) s k).1
 
 reg_excluded : (a b : RegField) (byte : ℕ) → reg_apart a b ≡ true → reg_matches a byte ≡ true → reg_matches b byte ≡ true → ⊥
-reg_excluded (digit d) (digit e) byte n h k = number_excluded (reg_of byte) d e h k n
-reg_excluded (digit d) r8 byte n h k = no_true (sym n)
-reg_excluded (digit d) register byte n h k = no_true (sym n)
-reg_excluded r8 b byte n h k = no_true (sym n)
-reg_excluded register b byte n h k = no_true (sym n)
+reg_excluded (Digit d) (Digit e) byte n h k = number_excluded (reg_of byte) d e h k n
+reg_excluded (Digit d) Register8 byte n h k = no_true (sym n)
+reg_excluded (Digit d) Register byte n h k = no_true (sym n)
+reg_excluded Register8 b byte n h k = no_true (sym n)
+reg_excluded Register b byte n h k = no_true (sym n)
 
 digit_excluded : (a b : TailField) (bytes : List ℕ) → digit_apart a b ≡ true → digit_matches a bytes ≡ true → digit_matches b bytes ≡ true → ⊥
-digit_excluded no_tail b bytes n h k = no_true (sym n)
-digit_excluded (modrm reg place) no_tail bytes n h k = no_true (sym n)
-digit_excluded (modrm reg place) (modrm other field) [] n h k = no_true (sym h)
-digit_excluded (modrm reg place) (modrm other field) (byte ∷ bytes) n h k = reg_excluded reg other byte n h k
+digit_excluded NoTail b bytes n h k = no_true (sym n)
+digit_excluded (Modrm reg place) NoTail bytes n h k = no_true (sym n)
+digit_excluded (Modrm reg place) (Modrm other field) [] n h k = no_true (sym h)
+digit_excluded (Modrm reg place) (Modrm other field) (byte ∷ bytes) n h k = reg_excluded reg other byte n h k
 
 -- what stands behind the opcode, and the digit that is there
 pub record Behind (line : Line) (bytes rest : List ℕ) : Type 0 where
-  pub opcode : after line.opcode bytes ≡ Some rest
+  pub opcode : after (opcode_bytes line.opcode) bytes ≡ Some rest
   pub digit : digit_matches line.tail rest ≡ true
 
 behind_of : (t : TailField) (o : Option (List ℕ)) (rest : List ℕ) → option_and_then (λ r. if digit_matches t r then Some r else None) o ≡ Some rest → (o ≡ Some rest) × (digit_matches t rest ≡ true)
@@ -147,12 +157,12 @@ behind_of t (Some r) rest h =
     (p.1, rw e at p.0)
 
 pub behind : (line : Line) (bytes rest : List ℕ) → opcode_at line bytes ≡ Some rest → Behind line bytes rest
-behind line bytes rest h = let p = behind_of line.tail (after line.opcode bytes) rest h in record { opcode = p.0; digit = p.1 }
+behind line bytes rest h = let p = behind_of line.tail (after (opcode_bytes line.opcode) bytes) rest h in record { opcode = p.0; digit = p.1 }
 
-opcode_excluded : (a b : Line) (bytes r s : List ℕ) → (length a.opcode == length b.opcode) && digit_apart a.tail b.tail ≡ true → Behind a bytes r → Behind b bytes s → ⊥
+opcode_excluded : (a b : Line) (bytes r s : List ℕ) → (length (opcode_bytes a.opcode) == length (opcode_bytes b.opcode)) && digit_apart a.tail b.tail ≡ true → Behind a bytes r → Behind b bytes s → ⊥
 opcode_excluded a b bytes r s n h k =
-    let p = and_parts (length a.opcode == length b.opcode) (digit_apart a.tail b.tail) n in
-    let e : r ≡ s = after_same a.opcode b.opcode bytes r s (equal _ _ p.0) h.opcode k.opcode in
+    let p = and_parts (length (opcode_bytes a.opcode) == length (opcode_bytes b.opcode)) (digit_apart a.tail b.tail) n in
+    let e : r ≡ s = after_same (opcode_bytes a.opcode) (opcode_bytes b.opcode) bytes r s (equal _ _ p.0) h.opcode k.opcode in
     digit_excluded a.tail b.tail s p.1 (rw e at h.digit) k.digit
 
 -- rows that are apart don't match the same bytes
@@ -168,8 +178,8 @@ excluded a b p bytes r s n h k =
       inl m ↦ prefix_excluded a.prefix b.prefix p m hp.0 kp.0
     | inr m1 ↦ elim (or_true (w_apart a.w b.w) _ m1) as (λ _. ⊥) [
         inl m ↦ w_excluded a.w b.w (w_of p) m hp.1 kp.1
-      | inr m2 ↦ elim (or_true (bytes_apart a.opcode b.opcode) _ m2) as (λ _. ⊥) [
-          inl m ↦ bytes_excluded a.opcode b.opcode bytes r s m ho.opcode ko.opcode
+      | inr m2 ↦ elim (or_true (bytes_apart (opcode_bytes a.opcode) (opcode_bytes b.opcode)) _ m2) as (λ _. ⊥) [
+          inl m ↦ bytes_excluded (opcode_bytes a.opcode) (opcode_bytes b.opcode) bytes r s m ho.opcode ko.opcode
         | inr m ↦ opcode_excluded a b bytes r s m ho ko ] ] ]
 
 apart_at : (a b : Row) (rows : List Row) → IsIn b rows → apart_from_all a rows ≡ true → apart (line_of a) (line_of b) ≡ true

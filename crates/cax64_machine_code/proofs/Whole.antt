@@ -4,8 +4,17 @@ use Rattle.std.proofs.lemmas.Bool.{and_parts}
 use Rattle.std.proofs.lemmas.List.{length-append}
 use Rattle.cax64_machine_code.specs.Fields.{number_at, signed_of, reg_of}
 use Rattle.cax64_machine_code.specs.Tail.{Tail, read_tail}
-use Rattle.cax64_machine_code.specs.Prefix.{Legacy, no_legacy, legacy_at, Rex, rex_of, rex_at, Vex, vex_two_byte, vex_three_byte, is_vex_map, vex_at, Prefix, legacy_prefix, vex_prefix, begins_vex, is_no_legacy, after_vex, after_legacy, prefix_at, x_of, b_of}
-use Rattle.cax64_machine_code.specs.Line.{Line, TailField, no_tail, modrm, RegField, digit, r8, register, PlaceField, ImmField, no_imm, imm, simm, prefix_matches, after, digit_matches, opcode_at}
+use Rattle.cax64_machine_code.specs.Prefix.{no_legacy, legacy_at, Rex, rex_of, rex_at, Vex, vex_two_byte, vex_three_byte, is_vex_map, vex_at, Prefix, legacy_prefix, vex_prefix, begins_vex, is_no_legacy, after_vex, after_legacy, prefix_at, x_of, b_of}
+use Rattle.cax64_machine_code.specs.Line.{prefix_matches, after, digit_matches, opcode_at, opcode_bytes}
+use Rattle.cax64_machine_code.specs.declared.line.LegacySet.{LegacySet}
+use Rattle.cax64_machine_code.specs.declared.line.Line.{Line}
+use Rattle.cax64_machine_code.specs.declared.line.RegField.{RegField}
+use Rattle.cax64_machine_code.specs.declared.line.PlaceField.{PlaceField}
+use Rattle.cax64_machine_code.specs.declared.line.TailField.{TailField}
+use Rattle.cax64_machine_code.specs.declared.line.ImmField.{ImmField}
+use Rattle.cax64_machine_code.specs.declared.line.RegField.TheVariants.{Digit, Register8, Register}
+use Rattle.cax64_machine_code.specs.declared.line.TailField.TheVariants.{NoTail, Modrm}
+use Rattle.cax64_machine_code.specs.declared.line.ImmField.TheVariants.{NoImm, Imm, Simm}
 use Rattle.cax64_machine_code.specs.Reading.{Parts, Found, reading_of, read, place_at, imm_at, bare_operands, tail_operands, operands_of, operands_at, matched_at, or_later, row_at, find, vvvv_at, reg_view}
 use Rattle.cax64_machine_code.specs.Rows.{line_of, all_rows}
 use Rattle.cax64_machine_code.specs.declared.row.Row.{Row}
@@ -30,7 +39,7 @@ second_same {A} {B} a c b d e = ap (λ (z : A × B). z.1) e
 some_same : {A : Type 0} (a b : A) → ◌≡◌ {A = Option A} (Some a) (Some b) → a ≡ b
 some_same a b e = cc
 
-stopped : (seen l : Legacy) (c d : ℕ) (rest bytes more : List ℕ) → ◌≡◌ {A = Legacy × List ℕ} (seen, d ∷ bytes) (l, c ∷ rest) → ◌≡◌ {A = Legacy × List ℕ} (seen, d ∷ (bytes ++ more)) (l, c ∷ (rest ++ more))
+stopped : (seen l : LegacySet) (c d : ℕ) (rest bytes more : List ℕ) → ◌≡◌ {A = LegacySet × List ℕ} (seen, d ∷ bytes) (l, c ∷ rest) → ◌≡◌ {A = LegacySet × List ℕ} (seen, d ∷ (bytes ++ more)) (l, c ∷ (rest ++ more))
 stopped seen l c d rest bytes more h =
     let p : seen ≡ l = first_same _ _ _ _ h in
     let q : d ∷ bytes ≡ c ∷ rest = second_same _ _ _ _ h in
@@ -38,7 +47,7 @@ stopped seen l c d rest bytes more h =
     let s : bytes ≡ rest = cc in
     rw (p, r, s) refl
 
-legacy_at_more : (seen : Legacy) (bytes more : List ℕ) (l : Legacy) (c : ℕ) (rest : List ℕ) → legacy_at seen bytes ≡ (l, c ∷ rest) → legacy_at seen (bytes ++ more) ≡ (l, c ∷ (rest ++ more))
+legacy_at_more : (seen : LegacySet) (bytes more : List ℕ) (l : LegacySet) (c : ℕ) (rest : List ℕ) → legacy_at seen bytes ≡ (l, c ∷ rest) → legacy_at seen (bytes ++ more) ≡ (l, c ∷ (rest ++ more))
 unfolding legacy_at
 legacy_at_more seen [] more l c rest h = let p : ◌≡◌ {A = List ℕ} [] (c ∷ rest) = second_same _ _ _ _ h in cc
 legacy_at_more seen (byte ∷ bytes) more l c rest h =
@@ -82,7 +91,7 @@ after_vex_more (Some found) o' more p c rest later h =
     let r : found.1 ≡ c ∷ rest = second_same _ _ _ _ e in
     rw (later found.0 found.1 refl, q, r) refl
 
-after_legacy_more : (l : Legacy) (byte : ℕ) (bytes more : List ℕ) (p : Prefix) (c : ℕ) (rest : List ℕ) → after_legacy l (rex_at (byte ∷ bytes)) ≡ Some (p, c ∷ rest) → after_legacy l (rex_at (byte ∷ (bytes ++ more))) ≡ Some (p, c ∷ (rest ++ more))
+after_legacy_more : (l : LegacySet) (byte : ℕ) (bytes more : List ℕ) (p : Prefix) (c : ℕ) (rest : List ℕ) → after_legacy l (rex_at (byte ∷ bytes)) ≡ Some (p, c ∷ rest) → after_legacy l (rex_at (byte ∷ (bytes ++ more))) ≡ Some (p, c ∷ (rest ++ more))
 after_legacy_more l byte bytes more p c rest h =
     let e = some_same _ _ h in
     let r : (rex_at (byte ∷ bytes)).1 ≡ c ∷ rest = second_same _ _ _ _ e in
@@ -90,12 +99,12 @@ after_legacy_more l byte bytes more p c rest h =
     let pair : rex_at (byte ∷ bytes) ≡ ((rex_at (byte ∷ bytes)).0, c ∷ rest) = ap (λ (z : List ℕ). ((rex_at (byte ∷ bytes)).0, z)) r in
     rw (rex_at_more byte bytes more (rex_at (byte ∷ bytes)).0 c rest pair, q) refl
 
-none_left : (l : Legacy) (t : Bool) (p : Prefix) (c : ℕ) (rest : List ℕ) → (if t && false then after_vex (vex_at []) else after_legacy l (rex_at [])) ≡ Some (p, c ∷ rest) → ⊥
+none_left : (l : LegacySet) (t : Bool) (p : Prefix) (c : ℕ) (rest : List ℕ) → (if t && false then after_vex (vex_at []) else after_legacy l (rex_at [])) ≡ Some (p, c ∷ rest) → ⊥
 unfolding vex_at rex_at
 none_left l true p c rest h = let q : ◌≡◌ {A = List ℕ} [] (c ∷ rest) = second_same _ _ _ _ (some_same _ _ h) in cc
 none_left l false p c rest h = let q : ◌≡◌ {A = List ℕ} [] (c ∷ rest) = second_same _ _ _ _ (some_same _ _ h) in cc
 
-prefix_by : (l : Legacy) (ls bytes more : List ℕ) (p : Prefix) (c : ℕ) (rest : List ℕ) → legacy_at no_legacy bytes ≡ (l, ls) → (if is_no_legacy l && begins_vex ls then after_vex (vex_at ls) else after_legacy l (rex_at ls)) ≡ Some (p, c ∷ rest) → prefix_at (bytes ++ more) ≡ Some (p, c ∷ (rest ++ more))
+prefix_by : (l : LegacySet) (ls bytes more : List ℕ) (p : Prefix) (c : ℕ) (rest : List ℕ) → legacy_at no_legacy bytes ≡ (l, ls) → (if is_no_legacy l && begins_vex ls then after_vex (vex_at ls) else after_legacy l (rex_at ls)) ≡ Some (p, c ∷ rest) → prefix_at (bytes ++ more) ≡ Some (p, c ∷ (rest ++ more))
 unfolding prefix_at
 prefix_by l [] bytes more p c rest e h = absurd (none_left l (is_no_legacy l) p c rest h)
 prefix_by l (d ∷ ls) bytes more p c rest e h = rw (legacy_at_more no_legacy bytes more l d ls e)
@@ -115,15 +124,15 @@ after_more (c ∷ opcode) [] more rest h = cc
 after_more (c ∷ opcode) (byte ∷ bytes) more rest h = choice (c == byte) _ _ _ _ _ _ (after_more opcode bytes more rest) (λ e. cc) h
 
 digit_more : (tail : TailField) (bytes more : List ℕ) → digit_matches tail bytes ≡ true → digit_matches tail (bytes ++ more) ≡ true
-digit_more no_tail bytes more h = refl
-digit_more (modrm reg place) [] more h = cc
-digit_more (modrm reg place) (byte ∷ bytes) more h = h
+digit_more NoTail bytes more h = refl
+digit_more (Modrm reg place) [] more h = cc
+digit_more (Modrm reg place) (byte ∷ bytes) more h = h
 
 opcode_more : (line : Line) (bytes more rest : List ℕ) → opcode_at line bytes ≡ Some rest → opcode_at line (bytes ++ more) ≡ Some (rest ++ more)
 opcode_more line bytes more rest h =
     let b = behind line bytes rest h in
     let d : digit_matches line.tail (rest ++ more) ≡ true = digit_more line.tail rest more b.digit in
-    rw (after_more line.opcode bytes more rest b.opcode, d) refl
+    rw (after_more (opcode_bytes line.opcode) bytes more rest b.opcode, d) refl
 
 pub matched_at_more : (line : Line) (p : Prefix) (bytes more rest : List ℕ) → matched_at line p bytes ≡ Some rest → matched_at line p (bytes ++ more) ≡ Some (rest ++ more)
 matched_at_more line p bytes more rest h = choice (prefix_matches line p) _ _ _ _ _ _ (opcode_more line bytes more rest) (λ e. cc) h
@@ -143,13 +152,13 @@ row_matches p bytes (other ∷ rows) row rest h = first_or_later p bytes other r
       rw (← same, ← left) e
 
 imm_at_more : (field : ImmField) (bytes more : List ℕ) (r : Option ℤ × List ℕ) → imm_at field bytes ≡ Some r → imm_at field (bytes ++ more) ≡ Some (r.0, r.1 ++ more)
-imm_at_more no_imm bytes more r h =
+imm_at_more NoImm bytes more r h =
     let e = some_same _ _ h in
     let p : ◌≡◌ {A = Option ℤ} None r.0 = ap (λ (z : Option ℤ × List ℕ). z.0) e in
     let q : bytes ≡ r.1 = ap (λ (z : Option ℤ × List ℕ). z.1) e in
     rw (← p, ← q) refl
-imm_at_more (imm size) bytes more r h = mapped (λ (n : ℕ). Some (pos n)) (number_at size bytes) (number_at size (bytes ++ more)) more r (number_at_more size bytes more) h
-imm_at_more (simm size) bytes more r h = mapped (λ (n : ℕ). Some (signed_of size n)) (number_at size bytes) (number_at size (bytes ++ more)) more r (number_at_more size bytes more) h
+imm_at_more (Imm size) bytes more r h = mapped (λ (n : ℕ). Some (pos n)) (number_at size bytes) (number_at size (bytes ++ more)) more r (number_at_more size bytes more) h
+imm_at_more (Simm size) bytes more r h = mapped (λ (n : ℕ). Some (signed_of size n)) (number_at size bytes) (number_at size (bytes ++ more)) more r (number_at_more size bytes more) h
 
 -- what is found, with more behind it
 abbrev pub with_more : List ℕ → Found → Found
@@ -180,8 +189,8 @@ tail_more row line reg field p bytes more (Some t) o' found later h =
     rw (later t refl) (place_more row line reg field p bytes more t (place_at field p t.place) found h)
 
 operands_more : (field : TailField) (row : Row) (line : Line) (p : Prefix) (bytes more : List ℕ) (found : Found) → operands_of field row line p bytes ≡ Some found → operands_of field row line p (bytes ++ more) ≡ Some (with_more more found)
-operands_more no_tail row line p bytes more found h = bare_more row line p (imm_at line.imm bytes) (imm_at line.imm (bytes ++ more)) more found (imm_at_more line.imm bytes more) h
-operands_more (modrm reg field) row line p bytes more found h = tail_more row line reg field p bytes more (read_tail (x_of p) (b_of p) 1 bytes) (read_tail (x_of p) (b_of p) 1 (bytes ++ more)) found (read_tail_more (x_of p) (b_of p) 1 bytes more) h
+operands_more NoTail row line p bytes more found h = bare_more row line p (imm_at line.imm bytes) (imm_at line.imm (bytes ++ more)) more found (imm_at_more line.imm bytes more) h
+operands_more (Modrm reg field) row line p bytes more found h = tail_more row line reg field p bytes more (read_tail (x_of p) (b_of p) 1 bytes) (read_tail (x_of p) (b_of p) 1 (bytes ++ more)) found (read_tail_more (x_of p) (b_of p) 1 bytes more) h
 
 pub operands_at_more : (row : Row) (p : Prefix) (bytes more : List ℕ) (found : Found) → operands_at row p bytes ≡ Some found → operands_at row p (bytes ++ more) ≡ Some (with_more more found)
 unfolding operands_at
@@ -213,7 +222,7 @@ is_cons : List ℕ → Bool
 is_cons [] = false
 is_cons (c ∷ bytes) = true
 
-has_opcode : (row : Row) → is_cons (line_of row).opcode ≡ true
+has_opcode : (row : Row) → is_cons (opcode_bytes (line_of row).opcode) ≡ true
 unfolding line_of is_cons
 has_opcode lock_addb_mi = refl
 has_opcode _ = refl
@@ -228,7 +237,7 @@ unfolding find
 behind_more row bytes [] more rest p found hp hr ho =
     let m : matched_at (line_of row) p [] ≡ Some rest = row_matches p [] all_rows row rest hr in
     let b = behind (line_of row) [] rest (some_if (prefix_matches (line_of row) p) (opcode_at (line_of row) []) rest m).1 in
-    absurd (after_none (line_of row).opcode rest (has_opcode row) b.opcode)
+    absurd (after_none (opcode_bytes (line_of row).opcode) rest (has_opcode row) b.opcode)
 behind_more row bytes (c ∷ left) more rest p found hp hr ho =
     let m : matched_at (line_of row) p ((c ∷ left) ++ more) ≡ Some (rest ++ more) = matched_at_more (line_of row) p (c ∷ left) more rest (row_matches p (c ∷ left) all_rows row rest hr) in
     rw (prefix_at_more bytes more p c left hp, row_found row p (c ∷ (left ++ more)) (rest ++ more) m, operands_at_more row p rest more found ho) refl

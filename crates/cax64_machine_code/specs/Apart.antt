@@ -1,15 +1,22 @@
 use Rattle.std.specs.Prelude.{ℕ, Bool, true, false, not, ◌&&◌, ◌||◌, ◌==◌, Option, Some, None, List, [], ◌∷◌, length}
-use Rattle.cax64_machine_code.specs.Line.{Line, PrefixField, legacy, vex, RegField, digit, r8, register, TailField, no_tail, modrm, same_legacy}
+use Rattle.cax64_machine_code.specs.Line.{same_legacy, opcode_bytes}
+use Rattle.cax64_machine_code.specs.declared.line.Line.{Line}
+use Rattle.cax64_machine_code.specs.declared.line.PrefixField.{PrefixField}
+use Rattle.cax64_machine_code.specs.declared.line.RegField.{RegField}
+use Rattle.cax64_machine_code.specs.declared.line.TailField.{TailField}
+use Rattle.cax64_machine_code.specs.declared.line.PrefixField.TheVariants.{LegacyField, VexField}
+use Rattle.cax64_machine_code.specs.declared.line.RegField.TheVariants.{Digit, Register8, Register}
+use Rattle.cax64_machine_code.specs.declared.line.TailField.TheVariants.{NoTail, Modrm}
 use Rattle.cax64_machine_code.specs.Rows.{line_of}
 use Rattle.cax64_machine_code.specs.declared.row.Row.{Row}
 
 -- A test that two rows match no bytes both: their prefixes differ, or W, or a byte of their opcodes, or their digits.
 
 abbrev pub prefix_apart : PrefixField → PrefixField → Bool
-prefix_apart (legacy set rex) (legacy other may) = not (same_legacy set other)
-prefix_apart (legacy set rex) (vex pp map l vvvv) = true
-prefix_apart (vex pp map l vvvv) (legacy set rex) = true
-prefix_apart (vex pp map l vvvv) (vex qq other k wwww) = not (pp == qq) || (not (map == other) || not (l == k))
+prefix_apart (LegacyField set rex) (LegacyField other may) = not (same_legacy set other)
+prefix_apart (LegacyField set rex) (VexField pp map l vvvv) = true
+prefix_apart (VexField pp map l vvvv) (LegacyField set rex) = true
+prefix_apart (VexField pp map l vvvv) (VexField qq other k wwww) = not (pp == qq) || (not (map == other) || not (l == k))
 
 abbrev pub w_apart : Option ℕ → Option ℕ → Bool
 w_apart None w = false
@@ -22,23 +29,23 @@ bytes_apart (byte ∷ bytes) [] = false
 bytes_apart (byte ∷ bytes) (found ∷ other) = not (byte == found) || bytes_apart bytes other
 
 abbrev pub reg_apart : RegField → RegField → Bool
-reg_apart (digit d) (digit e) = not (d == e)
-reg_apart (digit d) r8 = false
-reg_apart (digit d) register = false
-reg_apart r8 reg = false
-reg_apart register reg = false
+reg_apart (Digit d) (Digit e) = not (d == e)
+reg_apart (Digit d) Register8 = false
+reg_apart (Digit d) Register = false
+reg_apart Register8 reg = false
+reg_apart Register reg = false
 
 abbrev pub digit_apart : TailField → TailField → Bool
-digit_apart no_tail tail = false
-digit_apart (modrm reg place) no_tail = false
-digit_apart (modrm reg place) (modrm other field) = reg_apart reg other
+digit_apart NoTail tail = false
+digit_apart (Modrm reg place) NoTail = false
+digit_apart (Modrm reg place) (Modrm other field) = reg_apart reg other
 
 abbrev pub apart : Line → Line → Bool
 apart a b =
     prefix_apart a.prefix b.prefix
     || (w_apart a.w b.w
-    || (bytes_apart a.opcode b.opcode
-    || ((length a.opcode == length b.opcode) && digit_apart a.tail b.tail)))
+    || (bytes_apart (opcode_bytes a.opcode) (opcode_bytes b.opcode)
+    || ((length (opcode_bytes a.opcode) == length (opcode_bytes b.opcode)) && digit_apart a.tail b.tail)))
 
 abbrev pub apart_from_all : Row → List Row → Bool
 apart_from_all row [] = true

@@ -2,6 +2,7 @@
 #![tactic(auto)]
 
 pub mod laws;
+pub mod line;
 pub mod reading;
 pub mod row;
 pub mod worked;
