@@ -22,7 +22,7 @@ pub use recorder::Recorder;
 pub enum SinkError {
     /// A growth was refused.
     NoMemory,
-    /// A sink of fixed size has no place left.
+    /// No place is left in a sink of fixed size, or no number for another label.
     Full,
 }
 
@@ -72,6 +72,7 @@ pub enum Notice {
 pub trait CodeSink {
     ghost state: { Self → State };
 
+    /// Puts one byte.
     fn put1(&mut self, value: u8) -> Result<(), SinkError>
         ensures { Step (put (value ∷ [])) (state self.old) (state self.new) result };
 
@@ -95,9 +96,11 @@ pub trait CodeSink {
     fn use_target(&mut self, place: DeferredTarget) -> Result<(), SinkError>
         ensures { Step (target place) (state self.old) (state self.new) result };
 
+    /// Whether the value of `offset` is known.
     fn knows_offset(&self, offset: KnownOffset) -> bool
         ensures { result ≡ is_some ((state self.now).offsets offset) };
 
+    /// The value of an offset that is known.
     fn known_offset(&self, offset: KnownOffset) -> i32
         requires { IsSome ((state self.now).offsets offset) }
         ensures { (state self.now).offsets offset ≡ Some result };
