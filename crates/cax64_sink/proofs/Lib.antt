@@ -1,4 +1,6 @@
 pub mod Offsets
+pub mod Patches
 pub mod Refusals
+pub mod Results
 pub mod Rooms
 pub mod Runs

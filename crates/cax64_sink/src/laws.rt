@@ -1,6 +1,6 @@
 //! What follows for each run of calls of a sink, up to the first that is refused.
 
-ghost use Rattle.cax64_sink.specs.Laws.{RunsAddBytes, RunsAddNotices, RefusedRunsLeave, RunsAnswerErrors, RunsKeep, RunsWithRoomSucceed, RunsLowerRooms, FixedSinksHold, FixedSinksTake};
+ghost use Rattle.cax64_sink.specs.Laws.{RunsAddBytes, RunsAddNotices, RefusedRunsLeave, RunsAnswerErrors, RunsAnswerNoMemory, RunsAnswerFull, RunsKeep, RunsWithRoomSucceed, RunsLowerRooms, FixedSinksHold, FixedSinksTake};
 
 /// The laws of a run of calls, in any sink. It does nothing: its clauses are the laws.
 pub fn laws_of_runs()
@@ -8,6 +8,8 @@ pub fn laws_of_runs()
     ensures notices { RunsAddNotices }
     ensures refusal { RefusedRunsLeave }
     ensures errors { RunsAnswerErrors }
+    ensures no_memory { RunsAnswerNoMemory }
+    ensures full { RunsAnswerFull }
     ensures keep { RunsKeep }
     ensures succeed { RunsWithRoomSucceed }
     ensures rooms { RunsLowerRooms }
