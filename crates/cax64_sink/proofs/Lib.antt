@@ -1,3 +1,4 @@
+pub mod Equality
 pub mod Offsets
 pub mod Patches
 pub mod Refusals

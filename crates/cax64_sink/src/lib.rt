@@ -2,9 +2,9 @@
 #![tactic(auto)]
 
 ghost use Rattle.std.specs.Prelude.{◌≡◌, ◌∷◌, [], IsSome, is_some, Some};
-ghost use Rattle.cax64_sink.specs.TrapCode.{trap_text};
 ghost use Rattle.std.specs.Int.{to_le_bytes, w16, w32, w64};
 ghost use Rattle.cax64_sink.specs.Sink.{State, Step, put, trap, target};
+ghost use Rattle.cax64_sink.specs.TrapCode.{trap_text};
 
 use std::fmt;
 use std::num::NonZeroU8;
@@ -67,8 +67,8 @@ pub enum Notice {
 
 /// A sink of bytes and notices.
 ///
-/// A refused call changes nothing. What a sink knows of offsets, whether it records notices, and
-/// which errors it can answer never change by these calls.
+/// A refused call adds nothing. A recording sink keeps each notice with the number of bytes before
+/// it, and any other lets notices go. These calls never change what the sink knows of offsets.
 pub trait CodeSink {
     ghost state: { Self → State };
 
