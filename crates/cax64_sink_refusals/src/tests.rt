@@ -1,3 +1,4 @@
+use crate::RefusingSink;
 use cax64_sink::{CodeSink, DeferredTarget, Label, Notice, Recorder, SinkError, TrapCode};
 use linked_list_allocator::LocalHeap;
 use std::alloc::AllocError;
@@ -122,4 +123,30 @@ fn a_half_refused_reserve_changes_nothing(rt: HostRuntime) -> Result<(), AllocEr
         assert_eq!(rt; sink.put2(0), Ok(()));
     }
     Ok(())
+}
+
+/// Each call of a run is refused in turn, and the calls before it have added all of theirs.
+#[test]
+fn a_refused_run_keeps_the_calls_before(rt: HostRuntime) {
+    let lens = [0, 1, 1, 3, 3, 7, 15];
+    let told = [0, 0, 1, 1, 2, 2, 2];
+    for calls in 0..7 {
+        let mut sink = RefusingSink::new(Recorder::new(rt.alloc()), calls);
+        let result = put_each(&mut sink);
+        let recorder = sink.into_recorder();
+        let (len, count) = (lens[calls], told[calls]);
+        assert!(rt; len <= ALL_BYTES.len() && count <= ALL_NOTICES.len());
+        assert_eq!(rt; recorder.bytes(), &ALL_BYTES[..len], "after {calls} calls");
+        assert_eq!(rt;
+            recorder.notices(),
+            &ALL_NOTICES[..count],
+            "after {calls} calls"
+        );
+        let wanted = if calls == 6 {
+            Ok(())
+        } else {
+            Err(SinkError::NoMemory)
+        };
+        assert_eq!(rt; result, wanted, "after {calls} calls");
+    }
 }
