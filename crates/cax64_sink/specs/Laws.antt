@@ -1,9 +1,10 @@
 -- What follows for each run of calls, from the law of one call.
 use Rattle.std.specs.Prelude.{ℕ, ◌-◌, ◌≤◌, ◌≡◌, List, ◌++◌, length, true, if◌then◌else◌, Result, Ok, Err, IsOk, ◌↔◌}
 use Rattle.cax64_sink.specs.Room.{HasRoom, FallsBy}
-use Rattle.cax64_sink.specs.Sink.{State, Action, Ran, Refusal, all_bytes, all_notices, size, notes}
+use Rattle.cax64_sink.specs.Sink.{State, Action, Ran, Refusal, all_bytes, all_notices, size, notes, is_no_memory, is_full}
 use Rattle.cax64_sink.specs.FixedSink.{fixed_sink_state}
 use Rattle.cax64_sink.specs.declared.SinkError.{SinkError}
+use Rattle.cax64_sink.specs.declared.SinkError.TheVariants.{NoMemory, Full}
 use Rattle.cax64_sink.specs.declared.fixed_sink.FixedSink.{FixedSink}
 
 -- after an Ok the old bytes and then those of all calls, in order
@@ -21,6 +22,14 @@ RefusedRunsLeave = (acts : List Action) (s t : State) (r : Result (Unit {0}) Sin
 -- a refusal's error is one that the sink can answer
 abbrev pub RunsAnswerErrors : Type 0
 RunsAnswerErrors = (acts : List Action) (s t : State) (r : Result (Unit {0}) SinkError) (e : SinkError) → Ran acts s t r → r ≡ Err e → s.answers e ≡ true
+
+-- a sink that can answer `NoMemory` alone, as a vector or a recorder, does so
+abbrev pub RunsAnswerNoMemory : Type 0
+RunsAnswerNoMemory = (acts : List Action) (s t : State) (r : Result (Unit {0}) SinkError) (e : SinkError) → Ran acts s t r → s.answers ≡ is_no_memory → r ≡ Err e → e ≡ NoMemory
+
+-- a sink that can answer `Full` alone, as a fixed sink, does so
+abbrev pub RunsAnswerFull : Type 0
+RunsAnswerFull = (acts : List Action) (s t : State) (r : Result (Unit {0}) SinkError) (e : SinkError) → Ran acts s t r → s.answers ≡ is_full → r ≡ Err e → e ≡ Full
 
 -- offsets, whether the sink records, and its possible errors stay, whatever a run answers
 abbrev pub RunsKeep : Type 0

@@ -1,3 +1,4 @@
+-- What a contract sees of a sink, the law of one call, and runs of calls.
 use Rattle.std.specs.Prelude.{ℕ, ℤ, None, Option, ◌+◌, ◌≡◌, List, [], ◌∷◌, ◌++◌, length, Bool, true, false, if◌then◌else◌, Result, Ok, Err, is_ok, IsOk, IfErr, ◌⊎◌}
 use Rattle.cax64_sink.specs.Room.{Room, HasRoom, FallsBy, endless}
 use Rattle.cax64_sink.specs.declared.SinkError.{SinkError}
@@ -23,6 +24,7 @@ pub data Action : Type 0 where
   trap : TrapCode → Action
   target : DeferredTarget → Action
 
+-- the bytes that an action puts
 abbrev pub bytes_of : Action → List ℕ
 bytes_of (put bytes) = bytes
 bytes_of (trap code) = []
@@ -40,7 +42,7 @@ notes_of (put bytes) = 0
 notes_of (trap code) = 1
 notes_of (target t) = 1
 
--- one call of a sink
+-- one call of a sink, which answers r: a refused call adds nothing, and one with room for it isn't refused
 pub record Step (act : Action) (old new : State) (r : Result (Unit {0}) SinkError) : Type 0 where
   pub bytes : new.bytes ≡ (if is_ok r then old.bytes ++ bytes_of act else old.bytes)
   pub notices : new.notices ≡ (if is_ok r then (if old.records then old.notices ++ notice_of act (length old.bytes) else old.notices) else old.notices)
@@ -61,7 +63,7 @@ Went (act ∷ acts) s t r = ((u : State) × Step act s u (Ok tt) × Went acts u 
 pub record Ran (acts : List Action) (old new : State) (r : Result (Unit {0}) SinkError) : Type 0 where
   pub went : Went acts old new r
 
--- bytes alone: no notices, no offsets
+-- a sink that keeps bytes alone: it never refuses a notice, and knows no offset
 abbrev pub bytes_only : List ℕ → Room → (SinkError → Bool) → State
 bytes_only held room errors = record {
   bytes = held;
@@ -73,10 +75,12 @@ bytes_only held room errors = record {
   answers = errors;
 }
 
+-- the errors of a sink that is refused memory alone
 abbrev pub is_no_memory : SinkError → Bool
 is_no_memory NoMemory = true
 is_no_memory Full = false
 
+-- the errors of a sink that is full alone
 abbrev pub is_full : SinkError → Bool
 is_full NoMemory = false
 is_full Full = true

@@ -15,6 +15,7 @@ pub struct FixedSink<const N: usize> {
 impl<const N: usize> FixedSink<N> {
     ghost use Rattle.cax64_sink.specs.FixedSink.{fixed_sink_state};
 
+    /// An empty sink.
     pub fn new() -> Self
         ensures { (fixed_sink_state result).bytes ≡ [] }
     {
@@ -24,6 +25,7 @@ impl<const N: usize> FixedSink<N> {
         }
     }
 
+    /// All bytes that were put.
     pub fn bytes(&self) -> &[u8]
         ensures value { result.now ≡ (fixed_sink_state self.now).bytes }
         ensures within { length result.now ≤ N }
@@ -81,10 +83,10 @@ impl<const N: usize> CodeSink for FixedSink<N> {
         false
     }
 
-    // No offset is known, so nobody asks for one.
     fn known_offset(&self, _offset: KnownOffset) -> i32
         ensures { result ≡ pos 0 }
     {
+        // No offset is known, so nobody asks for one.
         0
     }
 }

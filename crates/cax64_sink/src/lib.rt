@@ -2,9 +2,9 @@
 #![tactic(auto)]
 
 ghost use Rattle.std.specs.Prelude.{◌≡◌, ◌∷◌, [], IsSome, is_some, Some};
-ghost use Rattle.cax64_sink.specs.TrapCode.{trap_text};
 ghost use Rattle.std.specs.Int.{to_le_bytes, w16, w32, w64};
 ghost use Rattle.cax64_sink.specs.Sink.{State, Step, put, trap, target};
+ghost use Rattle.cax64_sink.specs.TrapCode.{trap_text};
 
 use std::fmt;
 use std::num::NonZeroU8;
@@ -22,7 +22,7 @@ pub use recorder::Recorder;
 pub enum SinkError {
     /// A growth was refused.
     NoMemory,
-    /// A sink of fixed size has no place left.
+    /// No place is left in a sink of fixed size, or no number for another label.
     Full,
 }
 
@@ -67,11 +67,12 @@ pub enum Notice {
 
 /// A sink of bytes and notices.
 ///
-/// A refused call changes nothing. What a sink knows of offsets, whether it records notices, and
-/// which errors it can answer never change by these calls.
+/// A refused call adds nothing. A recording sink keeps each notice with the number of bytes before
+/// it, and any other lets notices go. These calls never change what the sink knows of offsets.
 pub trait CodeSink {
     ghost state: { Self → State };
 
+    /// Puts one byte.
     fn put1(&mut self, value: u8) -> Result<(), SinkError>
         ensures { Step (put (value ∷ [])) (state self.old) (state self.new) result };
 
@@ -95,9 +96,11 @@ pub trait CodeSink {
     fn use_target(&mut self, place: DeferredTarget) -> Result<(), SinkError>
         ensures { Step (target place) (state self.old) (state self.new) result };
 
+    /// Whether the value of `offset` is known.
     fn knows_offset(&self, offset: KnownOffset) -> bool
         ensures { result ≡ is_some ((state self.now).offsets offset) };
 
+    /// The value of an offset that is known.
     fn known_offset(&self, offset: KnownOffset) -> i32
         requires { IsSome ((state self.now).offsets offset) }
         ensures { (state self.now).offsets offset ≡ Some result };

@@ -18,7 +18,7 @@ pub struct Recorder<A: Allocator> {
 impl<A: Allocator + Copy> Recorder<A> {
     ghost use Rattle.cax64_sink.specs.Recorder.{recorder_state};
 
-    /// Takes no memory.
+    /// An empty recorder that knows no offset. Takes no memory.
     pub fn new(alloc: A) -> Self
         ensures bytes { (recorder_state result).bytes ≡ [] }
         ensures notices { (recorder_state result).notices ≡ [] }
@@ -38,13 +38,14 @@ impl<A: Allocator> Recorder<A> {
     ghost use Rattle.cax64_sink.specs.Recorder.{recorder_state, with_offset, with_patch};
     ghost use Rattle.cax64_sink.specs.Vec.{vec_state};
 
-    /// Replaces the value of a key that is there. Takes no memory.
+    /// Makes `offset` known, or replaces its value. Takes no memory.
     pub fn set_offset(&mut self, offset: KnownOffset, value: i32)
         ensures { recorder_state self.new ≡ with_offset offset value (recorder_state self.old) }
     {
         self.known[offset as usize] = Some(value);
     }
 
+    /// All bytes that were put.
     pub fn bytes(&self) -> &[u8]
         ensures { result.now ≡ (recorder_state self.now).bytes }
     {
@@ -86,12 +87,13 @@ impl<A: Allocator> Recorder<A> {
         self.code[at..at + 4].copy_from_slice(&value.to_le_bytes());
     }
 
-    /// Takes no memory.
+    /// Gives the bytes, and lets go of the notices. Takes no memory.
     pub fn into_bytes(self) -> Vec<u8, A>
         ensures bytes { result.items ≡ (recorder_state self).bytes }
         ensures room { (vec_state result).byte_room ≡ (recorder_state self).byte_room }
     {
-        self.code
+        let Recorder { code, .. } = self;
+        code
     }
 }
 

@@ -4,7 +4,7 @@ ghost use Rattle.std.specs.Prelude.{◌≡◌, ◌∷◌, []};
 ghost use Rattle.std.specs.Int.{to_le_bytes, w32};
 ghost use Rattle.cax64_sink.specs.Sink.{Ran, put, trap};
 
-use crate::laws::{laws_of_fixed_sinks, laws_of_runs};
+use crate::laws::{laws_of_equality, laws_of_fixed_sinks, laws_of_runs};
 use crate::{
     CodeSink, Constant, DeferredTarget, FixedSink, KnownOffset, Label, Notice, Recorder, SinkError,
     TrapCode,
@@ -120,6 +120,7 @@ fn a_fixed_sink_refuses_what_does_not_fit(rt: HostRuntime) {
 
 #[test]
 fn a_run_meets_the_laws(rt: HostRuntime) {
+    laws_of_equality();
     laws_of_runs();
     laws_of_fixed_sinks::<4>();
     let mut fixed = FixedSink::<4>::new();

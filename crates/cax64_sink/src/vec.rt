@@ -40,10 +40,10 @@ impl<A: Allocator> CodeSink for Vec<u8, A> {
         false
     }
 
-    // No offset is known, so nobody asks for one.
     fn known_offset(&self, _offset: KnownOffset) -> i32
         ensures { result ≡ pos 0 }
     {
+        // No offset is known, so nobody asks for one.
         0
     }
 }
