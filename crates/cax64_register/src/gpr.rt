@@ -113,8 +113,8 @@ impl<R> From<R> for Gpr<R> {
 
 /// A general register that isn't the stack pointer: the index of an address.
 ///
-/// The number of `%rsp` stands for no index in a SIB byte (Intel SDM volume 2, section 2.1.5,
-/// table 2-3).
+/// The number of `%rsp` stands for no index in a SIB byte (Intel SDM volume 2, section 2.2.1.2,
+/// table 2-5).
 #[derive(Copy, Debug, PartialEq)]
 pub struct NonRspGpr<R>(R);
 
