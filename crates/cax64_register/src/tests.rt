@@ -323,3 +323,15 @@ fn a_family_serves_its_six_uses(rt: HostRuntime) -> Result<(), Fail> {
     assert!(rt; clone_of(&held)? == Fixed(Virtual(9)));
     Ok(())
 }
+
+#[test]
+fn each_can_be_printed_for_debugging(rt: HostRuntime) -> Result<(), Fail> {
+    let general = Gpr::new(RAX);
+    let index = NonRspGpr::new(RAX);
+    let vector = Xmm::new(RAX);
+    let fixed = Fixed::<u8, RAX>(RAX);
+    let size = clone_of(&Size::Byte)?;
+    let shown = format!(in rt.alloc(); "{general:?} {index:?} {vector:?} {fixed:?} {size:?}")?;
+    assert!(rt; shown.as_str().ends_with(" Byte"), "{shown}");
+    Ok(())
+}
