@@ -1,8 +1,9 @@
 //! What no clause says: that the names are the right ones, and that each call can be made, with the
 //! numbers and with a family that has names of its own.
-ghost use Rattle.std.specs.Prelude.{◌≡◌, ◌==◌, ◌++◌, false, true, IsTrue, IfOk, codes, nat_lt, string_bytes};
+ghost use Rattle.std.specs.Prelude.{◌≡◌, ◌==◌, ◌&&◌, ◌++◌, false, true, IsTrue, codes, nat_lt};
 ghost use Rattle.std.specs.Fmt.{decimal};
 ghost use Rattle.std.specs.Mem.{FitsInMemory};
+ghost use Rattle.cax64_register.specs.Real.{is_real};
 ghost use Rattle.cax64_register.specs.contracts.fixed.Fixed.{the_row};
 ghost use Rattle.std.proofs.Common.{rules};
 
@@ -124,6 +125,25 @@ fn numbers_of<R: Registers>(number: u8) -> Option<[u8; 6]> {
         number_back::<R::ReadWriteXmm>(number)?,
         number_back::<R::WriteXmm>(number)?,
     ])
+}
+
+/// The number of a user's read register, where it is real.
+fn read_number<R: Registers>(operand: &Gpr<R::ReadGpr>) -> Option<u8>
+    ensures real { IsTrue (is_real R.ReadGpr.settled R.ReadGpr.enc operand.now) →
+        result ≡ Some (R.ReadGpr.enc operand.now) }
+    ensures others { is_real R.ReadGpr.settled R.ReadGpr.enc operand.now ≡ false → result ≡ None }
+{
+    if operand.is_real() {
+        return Some(operand.enc());
+    }
+    None
+}
+
+/// Whether a user's register is the one that an instruction fixes, by the register held.
+fn is_accumulator<R: Registers>(held: &Fixed<R::ReadWriteGpr, RAX>) -> bool
+    ensures { result ≡ (R.ReadWriteGpr.settled held.now.0 && (R.ReadWriteGpr.enc held.now.0 == 0)) }
+{
+    held.0.settled() && held.0.enc() == RAX
 }
 
 /// The number of a real register.
@@ -319,6 +339,8 @@ fn xmm_operands_hold_registers(rt: HostRuntime) -> Result<(), Fail> {
 fn a_family_serves_its_six_uses(rt: HostRuntime) -> Result<(), Fail> {
     assert_eq!(rt; numbers_of::<Compiler>(7), Some([7; 6]));
     assert_eq!(rt; numbers_of::<Compiler>(16), None);
+    assert_eq!(rt; read_number::<Compiler>(&Gpr::new(7)), Some(7));
+    assert!(rt; is_accumulator::<Compiler>(&Fixed(Virtual(0))));
     let held: Fixed<Virtual, RAX> = operand_of(Virtual(9));
     assert!(rt; clone_of(&held)? == Fixed(Virtual(9)));
     Ok(())
