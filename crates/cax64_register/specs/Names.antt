@@ -4,7 +4,7 @@ use Rattle.cax64_register.specs.declared.gpr.Size.{Size}
 use Rattle.cax64_register.specs.declared.gpr.Size.TheVariants.{Byte, Word, Doubleword, Quadword}
 
 -- the names of the general registers by number, at each size
-abbrev pub gpr_names : Size → List (List ℕ)
+unfoldable pub gpr_names : Size → List (List ℕ)
 gpr_names Byte =
     codes "%al" ∷ codes "%cl" ∷ codes "%dl" ∷ codes "%bl" ∷
     codes "%spl" ∷ codes "%bpl" ∷ codes "%sil" ∷ codes "%dil" ∷
@@ -31,7 +31,7 @@ abbrev pub gpr_name : ℕ → Size → List ℕ
 gpr_name number size = unwrap_or (slice_get (gpr_names size) number) []
 
 -- the names of the XMM registers, by number
-abbrev pub xmm_names : List (List ℕ)
+unfoldable pub xmm_names : List (List ℕ)
 xmm_names =
     codes "%xmm0" ∷ codes "%xmm1" ∷ codes "%xmm2" ∷ codes "%xmm3" ∷
     codes "%xmm4" ∷ codes "%xmm5" ∷ codes "%xmm6" ∷ codes "%xmm7" ∷

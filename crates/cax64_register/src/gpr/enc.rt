@@ -1,4 +1,7 @@
 //! The numbers and names of the general registers (Intel SDM volume 1, section 3.4.1).
+//!
+//! A number is what the fields of an instruction hold: three bits in ModR/M or SIB, and a fourth
+//! in the prefix (Intel SDM volume 2, section 2.2.1.2).
 ghost use Rattle.std.specs.Prelude.{◌≡◌, ◌<◌};
 ghost use Rattle.cax64_register.specs.Names.{gpr_name};
 
@@ -49,6 +52,7 @@ pub fn to_string(number: u8, size: Size) -> &'static str
     }
 }
 
+#[tactic(auto, unfolding(crate::specs::Names::gpr_names))]
 fn byte_name(number: u8) -> &'static str
     requires { number < 16 }
     ensures { result.now ≡ gpr_name number Size.Byte }
@@ -73,6 +77,7 @@ fn byte_name(number: u8) -> &'static str
     }
 }
 
+#[tactic(auto, unfolding(crate::specs::Names::gpr_names))]
 fn word_name(number: u8) -> &'static str
     requires { number < 16 }
     ensures { result.now ≡ gpr_name number Size.Word }
@@ -97,6 +102,7 @@ fn word_name(number: u8) -> &'static str
     }
 }
 
+#[tactic(auto, unfolding(crate::specs::Names::gpr_names))]
 fn doubleword_name(number: u8) -> &'static str
     requires { number < 16 }
     ensures { result.now ≡ gpr_name number Size.Doubleword }
@@ -121,6 +127,7 @@ fn doubleword_name(number: u8) -> &'static str
     }
 }
 
+#[tactic(auto, unfolding(crate::specs::Names::gpr_names))]
 fn quadword_name(number: u8) -> &'static str
     requires { number < 16 }
     ensures { result.now ≡ gpr_name number Size.Quadword }

@@ -35,6 +35,7 @@ pub const XMM14: u8 = 14;
 pub const XMM15: u8 = 15;
 
 /// The name of the XMM register with this number.
+#[tactic(auto, unfolding(crate::specs::Names::xmm_names))]
 pub fn to_string(number: u8) -> &'static str
     requires { number < 16 }
     ensures { result.now ≡ xmm_name number }
