@@ -1,3 +1,5 @@
 pub mod Bits
 pub mod Prefixes
+pub mod PutRuns
 pub mod RexBits
+pub mod VexBits
