@@ -1,4 +1,5 @@
 pub mod Bits
+pub mod EvexBits
 pub mod Prefixes
 pub mod PutRuns
 pub mod RexBits

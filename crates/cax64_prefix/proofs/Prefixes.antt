@@ -1,6 +1,6 @@
 use Rattle.std.proofs.Common.{◌≡◌, ◌≢◌, ℕ, ◌/◌, arith, List, [], ◌∷◌, ◌++◌, Bool, true, false, Option, Some, None, refl, ap}
 use Rattle.std.specs.Prelude.{◌==◌, ◌&&◌, ◌||◌, if◌then◌else◌, ◌↔◌, IsTrue, IsSome, IfSome}
-use Rattle.cax64_machine_code.specs.Prefix.{Vex, vex_at, rex_bits, Legacy, no_legacy, legacy_at, Rex, legacy_prefix, vex_prefix, prefix_at}
+use Rattle.cax64_machine_code.specs.Prefix.{Vex, rex_bits, Legacy, no_legacy, legacy_at, Rex, legacy_prefix, vex_prefix, prefix_at}
 use Rattle.cax64_prefix.specs.declared.vex.VexPrefix.{VexPrefix}
 use Rattle.cax64_prefix.specs.declared.vex.VexPrefix.TheVariants.{TwoByte, ThreeByte}
 use Rattle.cax64_prefix.specs.Vex.{VexReadsAs, vex_bytes}

@@ -1,10 +1,9 @@
-use Rattle.std.proofs.Common.{◌≡◌, ◌≢◌, ℕ, ◌+◌, ◌-◌, ◌*◌, ◌/◌, ◌%◌, ◌<◌, ◌≤◌, arith, refl, Bool, true, false, List, [], ◌∷◌, ◌++◌, length, length-append, Option, Some, None, ap, ◌⊎◌, inl, inr}
-use Rattle.std.specs.Prelude.{◌==◌, ◌&&◌, ◌||◌, if◌then◌else◌, IfSome, unwrap_or}
+use Rattle.std.proofs.Common.{◌≡◌, ℕ, ◌+◌, ◌-◌, ◌*◌, ◌/◌, ◌%◌, ◌<◌, ◌≤◌, arith, refl, Bool, true, false, List, [], ◌∷◌, ◌++◌, length, length-append, Option, Some, None, ap, ◌⊎◌, inl, inr}
+use Rattle.std.specs.Prelude.{◌==◌, ◌&&◌, if◌then◌else◌, IfSome, unwrap_or}
 use Rattle.std.proofs.lemmas.Bool.Decides.{nat_tests}
 use Rattle.cax64_machine_code.specs.Prefix.{Vex, vex_at, vex_two_byte, vex_three_byte, is_vex_map}
 use Rattle.cax64_prefix.specs.Vex.{vex_fields, VexReadsAs, IsShortestVex, fits_two_bytes}
 use Rattle.cax64_prefix.proofs.Bits.{bool_below}
-use Rattle.cax64_prefix.proofs.RexBits.{equal, apart}
 
 -- fields that a VEX prefix can hold
 pub record IsVex (vex : Vex) : Type 0 where
@@ -119,13 +118,13 @@ two_shortest vex last = record { least = λ other rest h. least_two other rest v
 pub three_shortest : (vex : Vex) (second last : ℕ) → fits_two_bytes vex ≡ false → IsShortestVex vex (0xC4 ∷ second ∷ last ∷ [])
 three_shortest vex second last f = record { least = λ other rest h. least_three other rest vex f (two_or_three (other ++ rest) rest vex h) }
 
--- a register below 16, or none
-pub top_bit : (register : Option ℕ) → IfSome register (λ n. n < 16) → unwrap_or register 0 < 16
-top_bit None h = omega arith
-top_bit (Some n) h = h
+-- an absent register is register 0
+pub register_below : (bound : ℕ) (register : Option ℕ) → 0 < bound → IfSome register (λ n. n < bound) → unwrap_or register 0 < bound
+register_below bound None above h = above
+register_below bound (Some n) above h = h
 
 pub is_vex : (w : Bool) (reg vvvv : ℕ) (operand : Option ℕ × Option ℕ) (l pp map : ℕ) → reg < 16 → vvvv < 16 → IfSome operand.0 (λ b. b < 16) → IfSome operand.1 (λ x. x < 16) → l < 2 → pp < 4 → 1 ≤ map → map ≤ 3 → IsVex (vex_fields reg vvvv operand l pp map w)
 is_vex w reg vvvv operand l pp map hr hv hb hx hl hp low high =
-    let b : unwrap_or operand.0 0 < 16 = top_bit operand.0 hb in
-    let x : unwrap_or operand.1 0 < 16 = top_bit operand.1 hx in
+    let b : unwrap_or operand.0 0 < 16 = register_below 16 operand.0 (omega arith) hb in
+    let x : unwrap_or operand.1 0 < 16 = register_below 16 operand.1 (omega arith) hx in
     record { w = bool_below w; r = omega arith; x = omega arith; b = omega arith; vvvv = hv; l = hl; pp = hp; map_low = low; map_high = high }

@@ -11,6 +11,7 @@ use crate::puts::put_each;
 use cax64_sink::{CodeSink, SinkError};
 
 /// A VEX prefix: the bytes after C5, or those after C4.
+#[derive(Drop)]
 pub enum VexPrefix {
     TwoByte(u8),
     ThreeByte(u8, u8),
