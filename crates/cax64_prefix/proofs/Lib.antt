@@ -1,3 +1,6 @@
 pub mod Bits
+pub mod EvexBits
 pub mod Prefixes
+pub mod PutRuns
 pub mod RexBits
+pub mod VexBits

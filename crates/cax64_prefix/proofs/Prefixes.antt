@@ -1,6 +1,9 @@
-use Rattle.std.proofs.Common.{◌≡◌, ◌≢◌, ℕ, ◌/◌, arith, List, [], ◌∷◌, ◌++◌, Bool, true, false, Option, Some, None, refl}
-use Rattle.std.specs.Prelude.{◌==◌, ◌&&◌, ◌||◌, if◌then◌else◌, IfSome}
-use Rattle.cax64_machine_code.specs.Prefix.{Legacy, no_legacy, legacy_at, Rex, legacy_prefix, prefix_at}
+use Rattle.std.proofs.Common.{◌≡◌, ◌≢◌, ℕ, ◌/◌, arith, List, [], ◌∷◌, ◌++◌, Bool, true, false, Option, Some, None, refl, ap}
+use Rattle.std.specs.Prelude.{◌==◌, ◌&&◌, ◌||◌, if◌then◌else◌, ◌↔◌, IsTrue, IsSome, IfSome}
+use Rattle.cax64_machine_code.specs.Prefix.{Vex, rex_bits, Legacy, no_legacy, legacy_at, Rex, legacy_prefix, vex_prefix, prefix_at}
+use Rattle.cax64_prefix.specs.declared.vex.VexPrefix.{VexPrefix}
+use Rattle.cax64_prefix.specs.declared.vex.VexPrefix.TheVariants.{TwoByte, ThreeByte}
+use Rattle.cax64_prefix.specs.Vex.{VexReadsAs, vex_bytes}
 use Rattle.cax64_prefix.specs.Rex.{rex_byte, rex_bytes}
 use Rattle.cax64_prefix.proofs.RexBits.{AreBits, apart, rex_at-some, rex_at-none, rex_byte_above}
 
@@ -77,3 +80,16 @@ prefix_without_rex l c rest n h =
 pub prefix_back : (l : Legacy) (rex : Option Rex) (c : ℕ) (rest : List ℕ) → (l.repne && l.rep) ≡ false → IfSome rex AreBits → IsPlain c → prefix_at (legacy_bytes l ++ (rex_bytes rex ++ (c ∷ rest))) ≡ Some (legacy_prefix l rex, c ∷ rest)
 prefix_back l None c rest n b h = prefix_without_rex l c rest n h
 prefix_back l (Some rex) c rest n b h = prefix_with_rex l rex (c ∷ rest) n b
+
+-- a VEX prefix is read back, whatever follows
+pub prefix_vex : (prefix : VexPrefix) (vex : Vex) (rest : List ℕ) → VexReadsAs vex (vex_bytes prefix) → prefix_at (vex_bytes prefix ++ rest) ≡ Some (vex_prefix vex, rest)
+unfolding prefix_at legacy_at
+prefix_vex (TwoByte last) vex rest h = rw (h.reads rest) refl
+prefix_vex (ThreeByte second last) vex rest h = rw (h.reads rest) refl
+
+-- a REX prefix of which bits are known, and whether its byte stands
+pub rex_is : (rex : Option Rex) (bits : Rex) (stands : Bool) → rex_bits rex ≡ bits → (IsSome rex ↔ IsTrue stands) → rex ≡ (if stands then Some bits else None)
+rex_is None bits true is h = let bad : false ≡ true = h.1 refl in cc
+rex_is None bits false is h = refl
+rex_is (Some rex) bits true is h = ap Some is
+rex_is (Some rex) bits false is h = let bad : false ≡ true = h.0 refl in cc

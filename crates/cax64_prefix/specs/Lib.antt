@@ -1,2 +1,4 @@
+pub mod Evex
 pub mod Puts
 pub mod Rex
+pub mod Vex

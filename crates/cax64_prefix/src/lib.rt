@@ -1,4 +1,8 @@
 //! The prefixes of 64-bit mode that carry register bits: REX, VEX and EVEX.
 #![tactic(auto)]
 
+pub mod evex;
+mod fields;
+mod puts;
 pub mod rex;
+pub mod vex;
