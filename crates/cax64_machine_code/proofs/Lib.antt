@@ -6,3 +6,4 @@ pub mod Tails
 pub mod Extended
 pub mod Whole
 pub mod Forms
+pub mod Written
