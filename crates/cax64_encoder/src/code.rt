@@ -1,0 +1,138 @@
+//! The code of an instruction: the sink calls that write it, as a value.
+
+ghost use Rattle.std.specs.Prelude.{◌≡◌};
+ghost use Rattle.cax64_encoder.specs.Code.{code_actions, trap_actions, prefix_actions, set_actions, when, opcode_actions, tail_actions, imm_actions, optional_imm_actions};
+ghost use Rattle.cax64_sink.specs.Sink.{Ran};
+
+use crate::operands::ImmOperand;
+use cax64_address::tail::TailCode;
+use cax64_machine_code::line::{LegacySet, Opcode};
+use cax64_prefix::rex::RexPrefix;
+use cax64_prefix::vex::VexPrefix;
+use cax64_sink::{CodeSink, SinkError, TrapCode};
+
+/// What stands before the opcode.
+#[derive(Drop)]
+pub enum PrefixCode {
+    Legacy(LegacySet, RexPrefix),
+    Vex(VexPrefix),
+}
+
+/// ModR/M and what belongs to it.
+#[derive(Clone, Copy)]
+pub enum TailPart {
+    NoTail,
+    /// ModR/M alone, which names a register.
+    Register(u8),
+    Memory(TailCode),
+}
+
+/// An instruction as it is put: computed whole before anything is put.
+#[derive(Drop)]
+pub struct Code {
+    pub trap: Option<TrapCode>,
+    pub prefix: PrefixCode,
+    pub opcode: Opcode,
+    pub tail: TailPart,
+    pub imm: Option<ImmOperand>,
+}
+
+#[tactic(auto, using(cax64_sink::proofs::Runs::ran_none, cax64_sink::proofs::Runs::ran_one))]
+fn put_trap<S: CodeSink>(sink: &mut S, trap: Option<TrapCode>) -> Result<(), SinkError>
+    ensures { Ran (trap_actions trap) (S.state sink.old) (S.state sink.new) result }
+{
+    match trap {
+        Some(code) => sink.add_trap(code),
+        None => Ok(()),
+    }
+}
+
+#[tactic(auto, using(cax64_sink::proofs::Runs::ran_none, cax64_sink::proofs::Runs::ran_one))]
+fn put_when<S: CodeSink>(sink: &mut S, stands: bool, byte: u8) -> Result<(), SinkError>
+    ensures { Ran (when stands byte) (S.state sink.old) (S.state sink.new) result }
+{
+    if stands { sink.put1(byte) } else { Ok(()) }
+}
+
+/// F0 first, then 66, F2 or F3.
+fn put_set<S: CodeSink>(sink: &mut S, set: LegacySet) -> Result<(), SinkError>
+    ensures { Ran (set_actions set) (S.state sink.old) (S.state sink.new) result }
+{
+    put_when(sink, set.lock, 0xF0)?;
+    put_when(sink, set.operand_size, 0x66)?;
+    put_when(sink, set.repne, 0xF2)?;
+    put_when(sink, set.rep, 0xF3)
+}
+
+impl PrefixCode {
+    fn put<S: CodeSink>(&self, sink: &mut S) -> Result<(), SinkError>
+        ensures { Ran (prefix_actions self.now) (S.state sink.old) (S.state sink.new) result }
+    {
+        match self {
+            PrefixCode::Legacy(set, rex) => {
+                put_set(sink, *set)?;
+                rex.encode(sink)
+            }
+            PrefixCode::Vex(vex) => vex.encode(sink),
+        }
+    }
+}
+
+fn put_opcode<S: CodeSink>(sink: &mut S, opcode: Opcode) -> Result<(), SinkError>
+    ensures { Ran (opcode_actions opcode) (S.state sink.old) (S.state sink.new) result }
+{
+    put_when(sink, opcode.escape, 0x0F)?;
+    sink.put1(opcode.byte)
+}
+
+impl TailPart {
+    #[tactic(auto, using(cax64_sink::proofs::Runs::ran_none, cax64_sink::proofs::Runs::ran_one))]
+    fn put<S: CodeSink>(self, sink: &mut S) -> Result<(), SinkError>
+        ensures { Ran (tail_actions self) (S.state sink.old) (S.state sink.new) result }
+    {
+        match self {
+            TailPart::NoTail => Ok(()),
+            TailPart::Register(modrm) => sink.put1(modrm),
+            TailPart::Memory(code) => code.put(sink),
+        }
+    }
+}
+
+impl ImmOperand {
+    /// One put of the immediate's size.
+    #[tactic(auto, using(cax64_sink::proofs::Runs::ran_one))]
+    pub fn put<S: CodeSink>(self, sink: &mut S) -> Result<(), SinkError>
+        ensures { Ran (imm_actions self) (S.state sink.old) (S.state sink.new) result }
+    {
+        match self {
+            ImmOperand::Imm8(value) => sink.put1(value),
+            ImmOperand::Imm16(value) => sink.put2(value),
+            ImmOperand::Imm32(value) => sink.put4(value),
+            ImmOperand::Simm8(value) => sink.put1(value.cast_unsigned()),
+            ImmOperand::Simm32(value) => sink.put4(value.cast_unsigned()),
+        }
+    }
+}
+
+#[tactic(auto, using(cax64_sink::proofs::Runs::ran_none))]
+fn put_imm<S: CodeSink>(sink: &mut S, imm: Option<ImmOperand>) -> Result<(), SinkError>
+    ensures { Ran (optional_imm_actions imm) (S.state sink.old) (S.state sink.new) result }
+{
+    match imm {
+        Some(imm) => imm.put(sink),
+        None => Ok(()),
+    }
+}
+
+impl Code {
+    /// The trap is told first; then come the prefixes, the opcode, the tail and the immediate.
+    pub fn put<S: CodeSink>(&self, sink: &mut S) -> Result<(), SinkError>
+        ensures { Ran (code_actions self.now) (S.state sink.old) (S.state sink.new) result }
+    {
+        put_trap(sink, self.trap)?;
+        self.prefix.put(sink)?;
+        put_opcode(sink, self.opcode)?;
+        self.tail.put(sink)?;
+        put_imm(sink, self.imm)
+    }
+}
