@@ -1,7 +1,7 @@
 //! A sink that refuses after so many calls, and tests of the sinks where growths are refused in turn.
 #![tactic(auto)]
 
-ghost use Rattle.std.specs.Prelude.{◌≡◌, IfErr};
+ghost use Rattle.std.specs.Prelude.{◌≡◌, ◌<◌, ◌-◌, ◌↔◌, IsOk, IfErr};
 ghost use Rattle.cax64_sink.specs.Recorder.{recorder_state};
 
 use cax64_sink::{CodeSink, DeferredTarget, KnownOffset, Recorder, SinkError, TrapCode};
@@ -18,13 +18,14 @@ pub struct RefusingSink<A: Allocator> {
 }
 
 impl<A: Allocator> RefusingSink<A> {
-    ghost use Rattle.cax64_sink_refusals.specs.RefusingSink.{refusing_state};
+    ghost use Rattle.cax64_sink_refusals.specs.RefusingSink.{refusing_state, calls_left};
 
     /// `recorder`, which is to take `calls` more calls.
     pub fn new(recorder: Recorder<A>, calls: usize) -> Self
         ensures bytes { (refusing_state result).bytes ≡ (recorder_state recorder).bytes }
         ensures notices { (refusing_state result).notices ≡ (recorder_state recorder).notices }
         ensures offsets { (refusing_state result).offsets ≡ (recorder_state recorder).offsets }
+        ensures calls { calls_left result ≡ calls }
     {
         RefusingSink { recorder, calls }
     }
@@ -40,6 +41,8 @@ impl<A: Allocator> RefusingSink<A> {
 
     fn pass(&mut self) -> Result<(), SinkError>
         ensures unchanged { refusing_state self.new ≡ refusing_state self.old }
+        ensures passes { IsOk result ↔ (0 < calls_left self.old) }
+        ensures calls { calls_left self.new ≡ calls_left self.old - 1 }
         ensures error { IfErr result (λ e. e ≡ SinkError.NoMemory) }
     {
         if self.calls == 0 {
