@@ -3,8 +3,9 @@ use Rattle.std.specs.Prelude.{◌==◌, ◌&&◌, ◌||◌, not, nat_lt, nat_le}
 use Rattle.std.proofs.lemmas.Bool.{and_parts}
 use Rattle.std.proofs.lemmas.Bool.Decides.{nat_tests}
 use Rattle.cax64_prefix.proofs.Prefixes.{IsNoLegacyByte, IsPlain}
+use Rattle.cax64_machine_code.specs.Line.{imm_bytes}
 use Rattle.cax64_machine_code.specs.declared.line.Line.{Line}
-use Rattle.cax64_encoder.specs.Fits.{is_plain, first_byte, is_prefix_field, is_w, is_w0, has_tail, is_digit, is_vex, has_8bit, prefix_size, opcode_size, tail_size, field_size, is_line}
+use Rattle.cax64_encoder.specs.Fits.{is_plain, first_byte, is_prefix_field, is_w, is_w0, has_tail, is_digit, is_vex, has_8bit, prefix_size, opcode_size, tail_size, is_line}
 
 neither : (a b : Bool) → not (a || b) ≡ true → (a ≡ false) × (not b ≡ true)
 neither true b h = cc
@@ -41,7 +42,7 @@ pub record LineFacts (line : Line) : Type 0 where
   pub bare_w : (has_tail line.tail || is_w0 line.w) ≡ true
   pub digit : is_digit line.tail ≡ true
   pub vex_8bit : not (is_vex line.prefix && has_8bit line.tail) ≡ true
-  pub size : nat_le (prefix_size line.prefix + (opcode_size line.opcode + (tail_size line.tail + field_size line.imm))) 13 ≡ true
+  pub size : nat_le (prefix_size line.prefix + (opcode_size line.opcode + (tail_size line.tail + imm_bytes line.imm))) 13 ≡ true
 
 pub line_facts : (line : Line) → is_line line ≡ true → LineFacts line
 line_facts line h =

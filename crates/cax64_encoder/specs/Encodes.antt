@@ -4,9 +4,11 @@ use Rattle.cax64_address.specs.Emitted.{TailOf}
 use Rattle.cax64_address.specs.declared.amode.Amode.{Amode}
 use Rattle.cax64_address.specs.declared.amode.Amode.TheVariants.{ImmReg, ImmRegRegShift, RipRelative}
 use Rattle.cax64_machine_code.specs.Prefix.{Prefix, prefix_at, x_of, b_of, r_of, has_rex}
-use Rattle.cax64_machine_code.specs.Line.{prefix_matches}
+use Rattle.cax64_machine_code.specs.Line.{imm_bytes, prefix_matches}
 use Rattle.cax64_machine_code.specs.Reading.{Parts, vvvv_at}
+use Rattle.cax64_machine_code.specs.Rows.{line_of}
 use Rattle.cax64_machine_code.specs.Sequence.{ReadsAs}
+use Rattle.cax64_machine_code.specs.Shortest.{HasShortestTail}
 use Rattle.cax64_machine_code.specs.declared.line.Line.{Line}
 use Rattle.cax64_machine_code.specs.declared.line.TailField.{TailField}
 use Rattle.cax64_machine_code.specs.declared.line.TailField.TheVariants.{NoTail, Modrm}
@@ -87,3 +89,33 @@ operand_parts enc row disp o = record {
   place = named_place enc disp (imm_size o.imm) o.place;
   imm = option_map imm_value o.imm;
 }
+
+abbrev pub memory_in : {M : Type 0} → PlaceOperand M → Option (Amode M)
+memory_in place.TheVariants.NoPlace = None
+memory_in (place.TheVariants.Register number) = None
+memory_in (place.TheVariants.Memory amode) = Some amode
+
+abbrev pub trap_notice : Option TrapCode → ℕ → List Notice
+trap_notice None at = []
+trap_notice (Some code) at = Trap at code ∷ []
+
+-- The notices of an instruction that begins after so many bytes, by its memory operand and its reading: the trap at its
+-- beginning, or the target at the displacement field, which ends where the immediate begins.
+abbrev pub notices_of : {M : Type 0} → Option (Amode M) → ℕ → Reading → List Notice
+notices_of None at reading = []
+notices_of (Some (ImmReg base simm32 trap)) at reading = trap_notice trap at
+notices_of (Some (ImmRegRegShift base index scale simm32 trap)) at reading = trap_notice trap at
+notices_of (Some (RipRelative target)) at reading = Target (at + (reading.length - reading.tail - imm_bytes (line_of reading.row).imm) + 1) target ∷ []
+
+-- the tail of an instruction with a memory operand is the shortest
+abbrev pub ShortestFor : {M : Type 0} → Option (Amode M) → List ℕ → Reading → Type 0
+ShortestFor None bytes reading = Unit {0}
+ShortestFor (Some amode) bytes reading = HasShortestTail bytes reading
+
+-- Actions that write an instruction: their bytes read, whatever follows, as the row with these operands; their notices
+-- are the instruction's; its tail is the shortest.
+pub record EncodesAs {M : Type 0} (parts : Parts) (memory : Option (Amode M)) (acts : List Action) : Type 0 where
+  pub reads : ReadsAs parts (all_bytes acts)
+  pub notices : (at : ℕ) → all_notices acts at ≡ notices_of memory at reads.reading
+  pub shortest : ShortestFor memory (all_bytes acts) reads.reading
+  pub ends : EndsInBytes acts

@@ -6,6 +6,7 @@ use Rattle.cax64_encoder.specs.declared.operands.ImmOperand.TheVariants.{Imm8, I
 use Rattle.cax64_encoder.specs.declared.operands.PlaceOperand as place
 use Rattle.cax64_encoder.specs.declared.operands.PlaceOperand.{PlaceOperand}
 use Rattle.cax64_encoder.specs.declared.operands.Operands.{Operands}
+use Rattle.cax64_machine_code.specs.Line.{imm_bytes}
 use Rattle.cax64_machine_code.specs.declared.line.Line.{Line}
 use Rattle.cax64_machine_code.specs.declared.line.LegacySet.{LegacySet}
 use Rattle.cax64_machine_code.specs.declared.line.Opcode.{Opcode}
@@ -107,11 +108,6 @@ abbrev pub prefix_size : PrefixField → ℕ
 prefix_size (LegacyField set rex) = set_size set + 1
 prefix_size (VexField pp map l vvvv) = 3
 
-abbrev pub field_size : ImmField → ℕ
-field_size NoImm = 0
-field_size (Imm size) = size
-field_size (Simm size) = size
-
 abbrev pub tail_size : TailField → ℕ
 tail_size NoTail = 0
 tail_size (Modrm reg field) = 6
@@ -167,4 +163,4 @@ is_line line =
     && ((has_tail line.tail || is_w0 line.w)
     && (is_digit line.tail
     && (not (is_vex line.prefix && has_8bit line.tail)
-    && nat_le (prefix_size line.prefix + (opcode_size line.opcode + (tail_size line.tail + field_size line.imm))) 13)))))
+    && nat_le (prefix_size line.prefix + (opcode_size line.opcode + (tail_size line.tail + imm_bytes line.imm))) 13)))))
