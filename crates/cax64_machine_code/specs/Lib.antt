@@ -5,6 +5,7 @@ pub mod Evex
 pub mod Line
 pub mod Rows
 pub mod Names
+pub mod Apart
 pub mod Reading
 pub mod Sequence
 pub mod Shortest

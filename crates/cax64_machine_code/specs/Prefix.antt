@@ -1,17 +1,12 @@
 use Rattle.std.specs.Prelude.{ℕ, ◌+◌, ◌-◌, ◌/◌, ◌%◌, Bool, true, false, not, ◌&&◌, ◌||◌, ◌==◌, nat_le, if◌then◌else◌, Option, Some, None, is_some, List, [], ◌∷◌}
+use Rattle.cax64_machine_code.specs.declared.line.LegacySet.{LegacySet}
 
--- The legacy prefixes F0 (lock), 66 (operand size), F2 and F3 that stand at the front. (Intel SDM, volume 2, 2.1.1.)
-pub record Legacy : Type 0 where
-  pub lock : Bool
-  pub operand_size : Bool
-  pub repne : Bool
-  pub rep : Bool
-
-abbrev pub no_legacy : Legacy
+-- The legacy prefixes F0 (lock), 66 (operand size), F2 and F3. (Intel SDM, volume 2, 2.1.1.)
+abbrev pub no_legacy : LegacySet
 no_legacy = record { lock = false; operand_size = false; repne = false; rep = false }
 
 -- the longest front of F0, 66, F2 and F3, each at most once and F2 not with F3, added to those seen before
-unfoldable pub legacy_at : Legacy → List ℕ → Legacy × List ℕ
+unfoldable pub legacy_at : LegacySet → List ℕ → LegacySet × List ℕ
 legacy_at seen [] = (seen, [])
 legacy_at seen (byte ∷ bytes) =
     if (byte == 0xF0) && not seen.lock then legacy_at (record seen { lock = true }) bytes
@@ -90,21 +85,21 @@ vex_at _ = None
 
 -- what stands before the opcode: legacy prefixes and an optional REX byte, or a VEX prefix
 pub data Prefix : Type 0 where
-  legacy_prefix : Legacy → Option Rex → Prefix
+  legacy_prefix : LegacySet → Option Rex → Prefix
   vex_prefix : Vex → Prefix
 
 abbrev pub begins_vex : List ℕ → Bool
 begins_vex [] = false
 begins_vex (byte ∷ bytes) = (byte == 0xC4) || (byte == 0xC5)
 
-abbrev pub is_no_legacy : Legacy → Bool
+abbrev pub is_no_legacy : LegacySet → Bool
 is_no_legacy legacy = not (legacy.lock || (legacy.operand_size || (legacy.repne || legacy.rep)))
 
 abbrev pub after_vex : Option (Vex × List ℕ) → Option (Prefix × List ℕ)
 after_vex None = None
 after_vex (Some vex) = Some (vex_prefix vex.0, vex.1)
 
-abbrev pub after_legacy : Legacy → Option Rex × List ℕ → Option (Prefix × List ℕ)
+abbrev pub after_legacy : LegacySet → Option Rex × List ℕ → Option (Prefix × List ℕ)
 after_legacy legacy rex = Some (legacy_prefix legacy rex.0, rex.1)
 
 -- the prefix at the front of some bytes, and what follows it; VEX only where no legacy prefix stands before it

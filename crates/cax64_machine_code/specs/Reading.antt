@@ -2,7 +2,20 @@ use Rattle.std.specs.Prelude.{◌≡◌, ℕ, ◌+◌, ◌-◌, ◌*◌, Bool, t
 use Rattle.cax64_machine_code.specs.Fields.{number_at, signed_of}
 use Rattle.cax64_machine_code.specs.Prefix.{Prefix, legacy_prefix, vex_prefix, prefix_at, has_rex, r_of, x_of, b_of, vvvv_of}
 use Rattle.cax64_machine_code.specs.Tail.{Tail, read_tail}
-use Rattle.cax64_machine_code.specs.Line.{Line, PrefixField, legacy, vex, VvvvField, vvvv_register, stored_1111, TailField, no_tail, modrm, RegField, digit, r8, register, PlaceField, memory, register_or_memory, register8_or_memory, ImmField, no_imm, imm, simm, prefix_matches, opcode_at}
+use Rattle.cax64_machine_code.specs.Line.{prefix_matches, opcode_at}
+use Rattle.cax64_machine_code.specs.declared.line.Line.{Line}
+use Rattle.cax64_machine_code.specs.declared.line.VvvvField.{VvvvField}
+use Rattle.cax64_machine_code.specs.declared.line.PrefixField.{PrefixField}
+use Rattle.cax64_machine_code.specs.declared.line.RegField.{RegField}
+use Rattle.cax64_machine_code.specs.declared.line.PlaceField.{PlaceField}
+use Rattle.cax64_machine_code.specs.declared.line.TailField.{TailField}
+use Rattle.cax64_machine_code.specs.declared.line.ImmField.{ImmField}
+use Rattle.cax64_machine_code.specs.declared.line.VvvvField.TheVariants.{VvvvRegister, Stored1111}
+use Rattle.cax64_machine_code.specs.declared.line.PrefixField.TheVariants.{LegacyField, VexField}
+use Rattle.cax64_machine_code.specs.declared.line.RegField.TheVariants.{Digit, Register8, Register}
+use Rattle.cax64_machine_code.specs.declared.line.PlaceField.TheVariants.{Memory, RegisterOrMemory, Register8OrMemory}
+use Rattle.cax64_machine_code.specs.declared.line.TailField.TheVariants.{NoTail, Modrm}
+use Rattle.cax64_machine_code.specs.declared.line.ImmField.TheVariants.{NoImm, Imm, Simm}
 use Rattle.cax64_machine_code.specs.Rows.{line_of, all_rows}
 use Rattle.cax64_machine_code.specs.declared.row.Row.{Row}
 use Rattle.cax64_machine_code.specs.declared.reading.Reading.{Reading}
@@ -32,15 +45,15 @@ pub record Found : Type 0 where
 
 -- the register in the reg field
 abbrev pub reg_view : RegField → Prefix → ℕ → Option RegView
-reg_view (digit d) prefix reg = None
-reg_view r8 prefix reg = Some (view_of true (has_rex prefix) (reg + 8 * r_of prefix))
-reg_view register prefix reg = Some (view_of false (has_rex prefix) (reg + 8 * r_of prefix))
+reg_view (Digit d) prefix reg = None
+reg_view Register8 prefix reg = Some (view_of true (has_rex prefix) (reg + 8 * r_of prefix))
+reg_view Register prefix reg = Some (view_of false (has_rex prefix) (reg + 8 * r_of prefix))
 
 abbrev pub reg_place : PlaceField → Prefix → RegView → Option Place
-reg_place memory prefix view = None
-reg_place register_or_memory prefix view = Some (Reg view)
-reg_place register8_or_memory prefix (Low number) = Some (Reg (view_of true (has_rex prefix) number))
-reg_place register8_or_memory prefix (High number) = Some (Reg (High number))
+reg_place Memory prefix view = None
+reg_place RegisterOrMemory prefix view = Some (Reg view)
+reg_place Register8OrMemory prefix (Low number) = Some (Reg (view_of true (has_rex prefix) number))
+reg_place Register8OrMemory prefix (High number) = Some (Reg (High number))
 
 -- the place that the tail names, where the row allows it
 abbrev pub place_at : PlaceField → Prefix → Place → Option Place
@@ -49,19 +62,19 @@ place_at field prefix (Mem base index disp) = Some (Mem base index disp)
 place_at field prefix (Rip disp) = Some (Rip disp)
 
 abbrev pub vvvv_register_of : VvvvField → ℕ → Option ℕ
-vvvv_register_of vvvv_register vvvv = Some vvvv
-vvvv_register_of stored_1111 vvvv = None
+vvvv_register_of VvvvRegister vvvv = Some vvvv
+vvvv_register_of Stored1111 vvvv = None
 
 -- the register in vvvv
 abbrev pub vvvv_at : PrefixField → Prefix → Option ℕ
-vvvv_at (legacy set rex) prefix = None
-vvvv_at (vex pp map l vvvv) prefix = vvvv_register_of vvvv (vvvv_of prefix)
+vvvv_at (LegacyField set rex) prefix = None
+vvvv_at (VexField pp map l vvvv) prefix = vvvv_register_of vvvv (vvvv_of prefix)
 
 -- the immediate at the front, if the row has one, and what follows it
 abbrev pub imm_at : ImmField → List ℕ → Option (Option ℤ × List ℕ)
-imm_at no_imm bytes = Some (None, bytes)
-imm_at (imm size) bytes = option_map (λ n. (Some (pos n.0), n.1)) (number_at size bytes)
-imm_at (simm size) bytes = option_map (λ n. (Some (signed_of size n.0), n.1)) (number_at size bytes)
+imm_at NoImm bytes = Some (None, bytes)
+imm_at (Imm size) bytes = option_map (λ n. (Some (pos n.0), n.1)) (number_at size bytes)
+imm_at (Simm size) bytes = option_map (λ n. (Some (signed_of size n.0), n.1)) (number_at size bytes)
 
 -- the operands of a row without a tail
 abbrev pub bare_operands : Row → Line → Prefix → List ℕ → Option Found
@@ -90,8 +103,8 @@ tail_operands row line reg field prefix bytes =
     (read_tail (x_of prefix) (b_of prefix) 1 bytes)
 
 abbrev pub operands_of : TailField → Row → Line → Prefix → List ℕ → Option Found
-operands_of no_tail row line prefix bytes = bare_operands row line prefix bytes
-operands_of (modrm reg field) row line prefix bytes = tail_operands row line reg field prefix bytes
+operands_of NoTail row line prefix bytes = bare_operands row line prefix bytes
+operands_of (Modrm reg field) row line prefix bytes = tail_operands row line reg field prefix bytes
 
 -- the operands behind the row's opcode
 unfoldable pub operands_at : Row → Prefix → List ℕ → Option Found

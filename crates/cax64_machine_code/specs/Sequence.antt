@@ -1,4 +1,4 @@
-use Rattle.std.specs.Prelude.{◌≡◌, ◌≢◌, ℕ, zero, suc, Option, Some, None, option_map, option_and_then, List, [], ◌∷◌, ◌++◌, drop}
+use Rattle.std.specs.Prelude.{◌≡◌, ◌≢◌, ◌≤◌, ℕ, zero, suc, length, Option, Some, None, option_map, option_and_then, List, [], ◌∷◌, ◌++◌, drop}
 use Rattle.cax64_machine_code.specs.Reading.{Parts, read}
 use Rattle.cax64_machine_code.specs.declared.reading.Reading.{Reading}
 
@@ -34,3 +34,25 @@ pub record IsProperFront (a b : List ℕ) : Type 0 where
   pub rest : List ℕ
   pub whole : a ++ rest ≡ b
   pub proper : rest ≢ []
+
+-- bytes that read, whatever follows, as what is meant, with their own number as length, 1 to 13
+pub record ReadsAs (meant : Parts) (b : List ℕ) : Type 0 where
+  pub reading : Reading
+  pub reads : (rest : List ℕ) → read (b ++ rest) ≡ Some reading
+  pub same : Same reading meant
+  pub length : reading.length ≡ length b
+  pub least : 1 ≤ reading.length
+  pub most : reading.length ≤ 13
+
+-- each reading is the same as what is meant in its place, and has a length of 1 to 13
+abbrev pub EachSame : List Reading → List Parts → Type 0
+EachSame [] [] = Unit {0}
+EachSame [] (meant ∷ later) = ⊥
+EachSame (reading ∷ readings) [] = ⊥
+EachSame (reading ∷ readings) (meant ∷ later) = Same reading meant × (1 ≤ reading.length) × (reading.length ≤ 13) × EachSame readings later
+
+-- bytes that read, whatever follows, as a list of what is meant, and leave what follows
+pub record ReadsAllAs (meant : List Parts) (b : List ℕ) : Type 0 where
+  pub readings : List Reading
+  pub reads : (rest : List ℕ) → read_all (b ++ rest) (length meant) ≡ Some (readings, rest)
+  pub same : EachSame readings meant

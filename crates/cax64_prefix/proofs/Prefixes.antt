@@ -1,6 +1,7 @@
 use Rattle.std.proofs.Common.{◌≡◌, ◌≢◌, ℕ, ◌/◌, arith, List, [], ◌∷◌, ◌++◌, Bool, true, false, Option, Some, None, refl, ap}
 use Rattle.std.specs.Prelude.{◌==◌, ◌&&◌, ◌||◌, if◌then◌else◌, ◌↔◌, IsTrue, IsSome, IfSome}
-use Rattle.cax64_machine_code.specs.Prefix.{Vex, rex_bits, Legacy, no_legacy, legacy_at, Rex, legacy_prefix, vex_prefix, prefix_at}
+use Rattle.cax64_machine_code.specs.Prefix.{Vex, rex_bits, no_legacy, legacy_at, Rex, legacy_prefix, vex_prefix, prefix_at}
+use Rattle.cax64_machine_code.specs.declared.line.LegacySet.{LegacySet}
 use Rattle.cax64_prefix.specs.declared.vex.VexPrefix.{VexPrefix}
 use Rattle.cax64_prefix.specs.declared.vex.VexPrefix.TheVariants.{TwoByte, ThreeByte}
 use Rattle.cax64_prefix.specs.Vex.{VexReadsAs, vex_bytes}
@@ -8,7 +9,7 @@ use Rattle.cax64_prefix.specs.Rex.{rex_byte, rex_bytes}
 use Rattle.cax64_prefix.proofs.RexBits.{AreBits, apart, rex_at-some, rex_at-none, rex_byte_above}
 
 -- the bytes of a set of legacy prefixes, in the order in which they are put
-abbrev pub legacy_bytes : Legacy → List ℕ
+abbrev pub legacy_bytes : LegacySet → List ℕ
 legacy_bytes l = (if l.lock then 0xF0 ∷ [] else []) ++ ((if l.operand_size then 0x66 ∷ [] else []) ++ ((if l.repne then 0xF2 ∷ [] else []) ++ (if l.rep then 0xF3 ∷ [] else [])))
 
 -- a byte that is no legacy prefix
@@ -25,7 +26,7 @@ pub record IsPlain (c : ℕ) : Type 0 where
   pub vex_three : c ≢ 0xC4
   pub vex_two : c ≢ 0xC5
 
-stops : (seen : Legacy) (c : ℕ) (rest : List ℕ) → IsNoLegacyByte c → legacy_at seen (c ∷ rest) ≡ (seen, c ∷ rest)
+stops : (seen : LegacySet) (c : ℕ) (rest : List ℕ) → IsNoLegacyByte c → legacy_at seen (c ∷ rest) ≡ (seen, c ∷ rest)
 unfolding legacy_at
 stops seen c rest h = rw (apart c 0xF0 h.lock, apart c 0x66 h.operand_size, apart c 0xF2 h.repne, apart c 0xF3 h.rep) refl
 
@@ -49,7 +50,7 @@ legacy_by_parts false true true true c rest n h = cc
 legacy_by_parts false false true true c rest n h = cc
 
 -- a set of legacy prefixes is read back before any other byte
-pub legacy_back : (l : Legacy) (c : ℕ) (rest : List ℕ) → (l.repne && l.rep) ≡ false → IsNoLegacyByte c → legacy_at no_legacy (legacy_bytes l ++ (c ∷ rest)) ≡ (l, c ∷ rest)
+pub legacy_back : (l : LegacySet) (c : ℕ) (rest : List ℕ) → (l.repne && l.rep) ≡ false → IsNoLegacyByte c → legacy_at no_legacy (legacy_bytes l ++ (c ∷ rest)) ≡ (l, c ∷ rest)
 legacy_back l c rest n h = legacy_by_parts l.lock l.operand_size l.repne l.rep c rest n h
 
 and_false : (b : Bool) → (b && false) ≡ false
@@ -63,7 +64,7 @@ above_is_no_legacy : (c : ℕ) → c / 16 ≡ 4 → IsNoLegacyByte c
 above_is_no_legacy c h = record { lock = λ e. omega arith; operand_size = λ e. omega arith; repne = λ e. omega arith; rep = λ e. omega arith }
 
 -- legacy prefixes, a REX byte, and whatever follows
-pub prefix_with_rex : (l : Legacy) (rex : Rex) (rest : List ℕ) → (l.repne && l.rep) ≡ false → AreBits rex → prefix_at (legacy_bytes l ++ (rex_byte rex ∷ rest)) ≡ Some (legacy_prefix l (Some rex), rest)
+pub prefix_with_rex : (l : LegacySet) (rex : Rex) (rest : List ℕ) → (l.repne && l.rep) ≡ false → AreBits rex → prefix_at (legacy_bytes l ++ (rex_byte rex ∷ rest)) ≡ Some (legacy_prefix l (Some rex), rest)
 unfolding prefix_at
 prefix_with_rex l rex rest n h =
     let above : rex_byte rex / 16 ≡ 4 = rex_byte_above rex h in
@@ -71,13 +72,13 @@ prefix_with_rex l rex rest n h =
     rw (legacy_back l (rex_byte rex) rest n (above_is_no_legacy (rex_byte rex) above), v, and_false, rex_at-some rex rest h) refl
 
 -- legacy prefixes, and a byte that begins no other prefix
-pub prefix_without_rex : (l : Legacy) (c : ℕ) (rest : List ℕ) → (l.repne && l.rep) ≡ false → IsPlain c → prefix_at (legacy_bytes l ++ (c ∷ rest)) ≡ Some (legacy_prefix l None, c ∷ rest)
+pub prefix_without_rex : (l : LegacySet) (c : ℕ) (rest : List ℕ) → (l.repne && l.rep) ≡ false → IsPlain c → prefix_at (legacy_bytes l ++ (c ∷ rest)) ≡ Some (legacy_prefix l None, c ∷ rest)
 unfolding prefix_at
 prefix_without_rex l c rest n h =
     rw (legacy_back l c rest n h.legacy, no_vex c h.vex_three h.vex_two, and_false, rex_at-none (c ∷ rest) (apart (c / 16) 4 h.rex)) refl
 
 -- legacy prefixes, a REX byte or none, and a byte that begins no prefix
-pub prefix_back : (l : Legacy) (rex : Option Rex) (c : ℕ) (rest : List ℕ) → (l.repne && l.rep) ≡ false → IfSome rex AreBits → IsPlain c → prefix_at (legacy_bytes l ++ (rex_bytes rex ++ (c ∷ rest))) ≡ Some (legacy_prefix l rex, c ∷ rest)
+pub prefix_back : (l : LegacySet) (rex : Option Rex) (c : ℕ) (rest : List ℕ) → (l.repne && l.rep) ≡ false → IfSome rex AreBits → IsPlain c → prefix_at (legacy_bytes l ++ (rex_bytes rex ++ (c ∷ rest))) ≡ Some (legacy_prefix l rex, c ∷ rest)
 prefix_back l None c rest n b h = prefix_without_rex l c rest n h
 prefix_back l (Some rex) c rest n b h = prefix_with_rex l rex (c ∷ rest) n b
 

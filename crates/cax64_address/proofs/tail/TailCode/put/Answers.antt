@@ -1,0 +1,17 @@
+use Rattle.std.proofs.Common.{◌∙◌, ap, Err}
+use Rattle.std.proofs.lemmas.Result.{err_from_is_err_and}
+use Rattle.cax64_sink.proofs.Runs.{ran_next, ran_halt, ran_append, ran_refused}
+use Rattle.cax64_address.proofs.tail.TailCode.put.Goals as goal
+
+pub returns-in_err-put1 : goal.returns-in_err-put1
+returns-in_err-put1 g c =
+    let p = err_from_is_err_and c.from_residual.result c.from_residual.ensures.1 in
+    ran_halt _ _ c.put1.ensures c.in_err-put1.was (p.1 ∙ ap Err p.2)
+
+pub returns-in_err-put_optional : goal.returns-in_err-put_optional
+returns-in_err-put_optional g c =
+    let p = err_from_is_err_and c.from_residual-in_err-put_optional.result c.from_residual-in_err-put_optional.ensures.1 in
+    ran_next c.put1.ensures c.in_ok-put1.was (ran_refused _ _ c.put_optional.ensures c.in_err-put_optional.was (p.1 ∙ ap Err p.2))
+
+pub returns : goal.returns
+returns g c = ran_next c.put1.ensures c.in_ok-put1.was (ran_append c.put_optional.ensures c.in_ok-put_optional.was c.put.ensures)

@@ -1,0 +1,10 @@
+//! Memory operands, and the tails that they are written as: ModR/M, SIB and displacement.
+#![tactic(auto)]
+
+pub mod amode;
+
+pub mod disp;
+pub mod offset;
+pub mod operand;
+
+pub mod tail;

@@ -1,0 +1,200 @@
+//! ModR/M, SIB and displacement. (Intel SDM, volume 2, 2.1.3 and 2.1.5.)
+
+ghost use Rattle.std.specs.Prelude.{◌≡◌, ◌≢◌, ◌+◌, ◌/◌, ◌%◌, ◌^◌, ◌<◌, ◌≤◌, ◌-ℤ◌, ◌∷◌, [], ℕ, List, Some, None, IsTrue, IfSome, IfErr, IsOk, OnOk, OnErr, pos, ◌≤ℤ◌, true, length};
+ghost use Rattle.cax64_address.specs.Address.{is_addressable, registers_are_real, scale_number, place_of, displaced_place, base_bit, index_bit, target_notices};
+ghost use Rattle.cax64_address.specs.Displacement.{factor_of};
+ghost use Rattle.cax64_address.specs.Emitted.{AddsTail, LeavesTail, TailOf, tail_actions, field_actions, sib_actions};
+ghost use Rattle.cax64_machine_code.specs.Fields.{IsBytes};
+ghost use Rattle.cax64_machine_code.specs.Tail.{IsTail};
+ghost use Rattle.cax64_sink.specs.Keeps.{Keeps};
+ghost use Rattle.cax64_sink.specs.Room.{HasRoom};
+ghost use Rattle.cax64_sink.specs.Sink.{Ran};
+
+use crate::amode::{Amode, Scale};
+use crate::disp::{Disp, encode_modrm};
+use cax64_machine_code::reading::Place;
+use cax64_register::AsReg;
+use cax64_sink::{CodeSink, DeferredTarget, Notice, SinkError};
+
+/// A tail as it is put: computed whole before anything is put.
+#[derive(Clone, Copy)]
+pub struct TailCode {
+    pub modrm: u8,
+    pub sib: Option<u8>,
+    pub field: TailField,
+}
+
+/// What follows ModR/M and SIB.
+#[derive(Clone, Copy)]
+pub enum TailField {
+    Plain(Disp),
+    /// Four bytes, told to the sink as a use of the target.
+    Relative(DeferredTarget, u32),
+}
+
+#[tactic(auto, using(cax64_sink::proofs::Runs::ran_none, cax64_sink::proofs::Runs::ran_one))]
+fn put_optional<S: CodeSink>(sink: &mut S, byte: Option<u8>) -> Result<(), SinkError>
+    ensures { Ran (sib_actions byte) (S.state sink.old) (S.state sink.new) result }
+{
+    match byte {
+        Some(byte) => sink.put1(byte),
+        None => Ok(()),
+    }
+}
+
+impl TailField {
+    fn put<S: CodeSink>(self, sink: &mut S) -> Result<(), SinkError>
+        ensures { Ran (field_actions self) (S.state sink.old) (S.state sink.new) result }
+    {
+        match self {
+            TailField::Plain(disp) => disp.emit(sink),
+            TailField::Relative(place, word) => {
+                sink.use_target(place)?;
+                sink.put4(word)
+            }
+        }
+    }
+}
+
+impl TailCode {
+    /// Puts each byte by itself, and four bytes of displacement at once.
+    pub fn put<S: CodeSink>(self, sink: &mut S) -> Result<(), SinkError>
+        ensures { Ran (tail_actions self) (S.state sink.old) (S.state sink.new) result }
+    {
+        sink.put1(self.modrm)?;
+        put_optional(sink, self.sib)?;
+        self.field.put(sink)
+    }
+}
+
+/// The tail of a base and a displacement. Base 4 and 12 stand in a SIB byte, since their low bits in ModR/M mean one;
+/// base 5 and 13 have a displacement, since their low bits mean none.
+fn base_tail(reg: u8, base: u8, displacement: i32, evex_scaling: Option<i8>) -> TailCode
+    requires reg { reg < 8 }
+    requires base { base < 16 }
+    requires factor { IfSome evex_scaling (λ n. pos 1 ≤ℤ n) }
+    ensures { TailOf 0 (base / 8) (factor_of evex_scaling) reg (Place.Mem (Some base) None displacement) (λ at. []) (tail_actions result) }
+{
+    let low = base & 7;
+    let mut disp = Disp::new(displacement, evex_scaling);
+    if low == 4 {
+        return TailCode {
+            modrm: encode_modrm(disp.m0d(), reg, 4),
+            sib: Some(0x24),
+            field: TailField::Plain(disp),
+        };
+    }
+    if low == 5 {
+        disp.force_immediate();
+    }
+    TailCode {
+        modrm: encode_modrm(disp.m0d(), reg, low),
+        sib: None,
+        field: TailField::Plain(disp),
+    }
+}
+
+/// The tail of a base, an index and a displacement.
+fn index_tail(
+    reg: u8,
+    base: u8,
+    index: u8,
+    scale: Scale,
+    displacement: i32,
+    evex_scaling: Option<i8>,
+) -> TailCode
+    requires reg { reg < 8 }
+    requires base { base < 16 }
+    requires index { index < 16 }
+    requires non_rsp { index ≢ 4 }
+    requires factor { IfSome evex_scaling (λ n. pos 1 ≤ℤ n) }
+    ensures { TailOf (index / 8) (base / 8) (factor_of evex_scaling) reg (Place.Mem (Some base) (Some (index, 2 ^ scale_number scale)) displacement) (λ at. []) (tail_actions result) }
+{
+    let low = base & 7;
+    let mut disp = Disp::new(displacement, evex_scaling);
+    if low == 5 {
+        disp.force_immediate();
+    }
+    TailCode {
+        modrm: encode_modrm(disp.m0d(), reg, 4),
+        sib: Some(encode_modrm(scale.enc(), index & 7, low)),
+        field: TailField::Plain(disp),
+    }
+}
+
+/// The tail of a place relative to the end, before this many bytes of immediate.
+fn relative_tail(reg: u8, target: DeferredTarget, bytes_at_end: u8) -> TailCode
+    requires { reg < 8 }
+    ensures { (factor : ℕ) → TailOf 0 0 factor reg (Place.Rip (pos 0 -ℤ pos bytes_at_end)) (λ at. Notice.Target (at + 1) target ∷ []) (tail_actions result) }
+{
+    let field = (-i32::from(bytes_at_end)).cast_unsigned();
+    TailCode {
+        modrm: encode_modrm(0, reg, 5),
+        sib: None,
+        field: TailField::Relative(target, field),
+    }
+}
+
+/// The tail of a memory operand whose displacement is known, with this in its reg field, before this many bytes of
+/// immediate.
+pub fn tail_of<R: AsReg>(
+    enc_g: u8,
+    mem_e: &Amode<R>,
+    displacement: i32,
+    bytes_at_end: u8,
+    evex_scaling: Option<i8>,
+) -> TailCode
+    requires address { IsTrue (registers_are_real R.settled R.enc mem_e.now) }
+    requires factor { IfSome evex_scaling (λ n. pos 1 ≤ℤ n) }
+    ensures { TailOf (index_bit R.enc mem_e.now) (base_bit R.enc mem_e.now) (factor_of evex_scaling) (enc_g % 8) (displaced_place R.enc displacement bytes_at_end mem_e.now) (target_notices mem_e.now) (tail_actions result) }
+{
+    let reg = enc_g % 8;
+    match *mem_e {
+        Amode::ImmReg { base, .. } => base_tail(reg, base.enc(), displacement, evex_scaling),
+        Amode::ImmRegRegShift {
+            base, index, scale, ..
+        } => index_tail(
+            reg,
+            base.enc(),
+            index.enc(),
+            scale,
+            displacement,
+            evex_scaling,
+        ),
+        Amode::RipRelative { target } => relative_tail(reg, target, bytes_at_end),
+    }
+}
+
+/// Puts the tail of a memory operand: ModR/M with the low three bits of `enc_g` in its reg field, SIB, and the
+/// displacement, which a byte holds where it is a multiple of the factor `evex_scaling` (1 to 127, and 1 where it is
+/// absent).
+///
+/// A relative operand is told to the sink after ModR/M, and its four bytes are minus `bytes_at_end`, the number of bytes
+/// of immediate that the instruction has behind the tail.
+pub fn emit_modrm_sib_disp<R: AsReg, S: CodeSink>(
+    sink: &mut S,
+    enc_g: u8,
+    mem_e: &Amode<R>,
+    bytes_at_end: u8,
+    evex_scaling: Option<i8>,
+) -> Result<(), SinkError>
+    requires address { IsTrue (is_addressable R.settled R.enc (S.state sink.old).offsets mem_e.now) }
+    requires factor { IfSome evex_scaling (λ n. pos 1 ≤ℤ n) }
+    ensures adds { OnOk result (AddsTail (index_bit R.enc mem_e.now) (base_bit R.enc mem_e.now) (factor_of evex_scaling) (enc_g % 8) (place_of R.enc (S.state sink.old).offsets bytes_at_end mem_e.now) (target_notices mem_e.now) (S.state sink.old) (S.state sink.new)) }
+    ensures leaves { OnErr result (LeavesTail (index_bit R.enc mem_e.now) (base_bit R.enc mem_e.now) (factor_of evex_scaling) (enc_g % 8) (place_of R.enc (S.state sink.old).offsets bytes_at_end mem_e.now) (target_notices mem_e.now) (S.state sink.old) (S.state sink.new)) }
+    ensures error { IfErr result (λ e. (S.state sink.old).answers e ≡ true) }
+    ensures keeps { Keeps (S.state sink.old) (S.state sink.new) }
+    // Any tail of bytes that reads as the operand shows how much room is enough: what is put is the shortest.
+    ensures room {
+      (t : List ℕ) → IsBytes t
+      → IsTail (index_bit R.enc mem_e.now) (base_bit R.enc mem_e.now) (factor_of evex_scaling) (enc_g % 8) (place_of R.enc (S.state sink.old).offsets bytes_at_end mem_e.now) t
+      → HasRoom (S.state sink.old).byte_room (length t)
+      → HasRoom (S.state sink.old).notice_room (length (target_notices mem_e.now 0))
+      → IsOk result
+    }
+    ensures enough { HasRoom (S.state sink.old).byte_room 6 → HasRoom (S.state sink.old).notice_room 1 → IsOk result }
+{
+    let displacement = mem_e.displacement(sink);
+    let code = tail_of(enc_g, mem_e, displacement, bytes_at_end, evex_scaling);
+    code.put(sink)
+}

@@ -1,0 +1,115 @@
+//! General registers.
+ghost use Rattle.std.specs.Prelude.{◌≡◌, ◌<◌, ⊤, IsTrue, IfOk, Some, string_bytes};
+ghost use Rattle.cax64_register.specs.Real.{is_real};
+
+use crate::AsReg;
+use std::alloc::{AllocError, Allocator};
+use std::marker::Model;
+
+pub mod enc;
+mod non_rsp;
+
+pub use non_rsp::NonRspGpr;
+
+/// How many bits of a general register an instruction uses.
+#[derive(Clone, Copy, Debug)]
+pub enum Size {
+    /// 8 bits.
+    Byte,
+    /// 16 bits.
+    Word,
+    /// 32 bits.
+    Doubleword,
+    /// 64 bits.
+    Quadword,
+}
+
+/// A general register as an operand, as `%rax`.
+#[derive(Copy, Debug, PartialEq)]
+pub struct Gpr<R = u8>(R);
+
+impl<R> Model for Gpr<R> {
+    ghost Value = { R };
+
+    ghost view = { λ operand. operand.0 };
+
+    ghost inverse = { λ reg. record { 0 = reg } };
+}
+
+impl<R: Copy> Clone for Gpr<R> {
+    ghost is_clone = { λ old new. new ≡ old };
+
+    ghost is_infallible = { λ _. ⊤ };
+
+    fn clone(&self) -> Result<Gpr<R>, AllocError> {
+        Ok(*self)
+    }
+}
+
+impl<R> Gpr<R> {
+    ghost use Rattle.std.specs.Prelude.{◌≡◌};
+    ghost use Rattle.std.specs.Borrow.{Lends, sem};
+    ghost use Rattle.cax64_register.specs.contracts.gpr.Gpr.{the_row};
+
+    /// An operand of this register, which may still be virtual.
+    pub fn new(reg: R) -> Self
+        ensures { result ≡ reg }
+    {
+        Gpr(reg)
+    }
+
+    /// The register itself.
+    pub fn as_ref(&self) -> &R
+        ensures { result.now ≡ self.now }
+    {
+        &self.0
+    }
+
+    /// The register itself, to be replaced.
+    pub fn as_mut(&mut self) -> &mut R
+        ensures* writes_back { sem 𝓛 (Lends (the_row R.row) R.row self.entry result (λ w. w)) }
+        ensures value { result.now ≡ self.old }
+    {
+        &mut self.0
+    }
+}
+
+impl<R: AsReg> Gpr<R> {
+    /// Whether an instruction can hold the register.
+    pub fn is_real(&self) -> bool
+        ensures { result ≡ is_real R.settled R.enc self.now }
+    {
+        self.0.is_real()
+    }
+
+    /// The register's hardware number.
+    pub fn enc(&self) -> u8
+        requires { IsTrue (is_real R.settled R.enc self.now) }
+        ensures number { result ≡ R.enc self.now }
+        ensures real { result < 16 }
+    {
+        self.0.enc()
+    }
+
+    /// The register's text at this size.
+    ///
+    /// Fails where there is no memory.
+    pub fn to_string<A: Allocator + Copy>(
+        &self,
+        alloc: A,
+        size: Size,
+    ) -> Result<String<A>, AllocError>
+        requires { IsTrue (R.nameable self.now) }
+        ensures { IfOk result (λ t. string_bytes t ≡ R.text self.now (Some size)) }
+    {
+        self.0.to_string(alloc, Some(size))
+    }
+}
+
+impl<R> From<R> for Gpr<R> {
+    ghost from_gives = { λ reg operand. operand ≡ reg };
+
+    fn from(reg: R) -> Gpr<R> {
+        Gpr(reg)
+    }
+}

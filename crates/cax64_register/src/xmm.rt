@@ -1,0 +1,95 @@
+//! XMM registers.
+ghost use Rattle.std.specs.Prelude.{◌≡◌, ◌<◌, ⊤, IsTrue, IfOk, None, string_bytes};
+ghost use Rattle.cax64_register.specs.Real.{is_real};
+
+use crate::AsReg;
+use std::alloc::{AllocError, Allocator};
+use std::marker::Model;
+
+pub mod enc;
+
+/// An XMM register as an operand, as `%xmm0`.
+#[derive(Copy, Debug)]
+pub struct Xmm<R = u8>(R);
+
+impl<R> Model for Xmm<R> {
+    ghost Value = { R };
+
+    ghost view = { λ operand. operand.0 };
+
+    ghost inverse = { λ reg. record { 0 = reg } };
+}
+
+impl<R: Copy> Clone for Xmm<R> {
+    ghost is_clone = { λ old new. new ≡ old };
+
+    ghost is_infallible = { λ _. ⊤ };
+
+    fn clone(&self) -> Result<Xmm<R>, AllocError> {
+        Ok(*self)
+    }
+}
+
+impl<R> Xmm<R> {
+    ghost use Rattle.std.specs.Prelude.{◌≡◌};
+    ghost use Rattle.std.specs.Borrow.{Lends, sem};
+    ghost use Rattle.cax64_register.specs.contracts.xmm.Xmm.{the_row};
+
+    /// An operand of this register, which may still be virtual.
+    pub fn new(reg: R) -> Self
+        ensures { result ≡ reg }
+    {
+        Xmm(reg)
+    }
+
+    /// The register itself.
+    pub fn as_ref(&self) -> &R
+        ensures { result.now ≡ self.now }
+    {
+        &self.0
+    }
+
+    /// The register itself, to be replaced.
+    pub fn as_mut(&mut self) -> &mut R
+        ensures* writes_back { sem 𝓛 (Lends (the_row R.row) R.row self.entry result (λ w. w)) }
+        ensures value { result.now ≡ self.old }
+    {
+        &mut self.0
+    }
+}
+
+impl<R: AsReg> Xmm<R> {
+    /// Whether an instruction can hold the register.
+    pub fn is_real(&self) -> bool
+        ensures { result ≡ is_real R.settled R.enc self.now }
+    {
+        self.0.is_real()
+    }
+
+    /// The register's hardware number.
+    pub fn enc(&self) -> u8
+        requires { IsTrue (is_real R.settled R.enc self.now) }
+        ensures number { result ≡ R.enc self.now }
+        ensures real { result < 16 }
+    {
+        self.0.enc()
+    }
+
+    /// The register's text.
+    ///
+    /// Fails where there is no memory.
+    pub fn to_string<A: Allocator + Copy>(&self, alloc: A) -> Result<String<A>, AllocError>
+        requires { IsTrue (R.nameable self.now) }
+        ensures { IfOk result (λ t. string_bytes t ≡ R.text self.now None) }
+    {
+        self.0.to_string(alloc, None)
+    }
+}
+
+impl<R> From<R> for Xmm<R> {
+    ghost from_gives = { λ reg operand. operand ≡ reg };
+
+    fn from(reg: R) -> Xmm<R> {
+        Xmm(reg)
+    }
+}

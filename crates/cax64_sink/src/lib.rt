@@ -1,0 +1,110 @@
+//! What an assembler writes to: the trait `CodeSink`, and three sinks.
+#![tactic(auto)]
+
+ghost use Rattle.std.specs.Prelude.{◌≡◌, ◌∷◌, [], IsSome, is_some, Some};
+ghost use Rattle.std.specs.Int.{to_le_bytes, w16, w32, w64};
+ghost use Rattle.cax64_sink.specs.Sink.{State, Step, put, trap, target};
+ghost use Rattle.cax64_sink.specs.TrapCode.{trap_text};
+
+use std::fmt;
+use std::num::NonZeroU8;
+
+pub mod fixed_sink;
+pub mod laws;
+pub mod recorder;
+mod vec;
+
+pub use fixed_sink::FixedSink;
+pub use recorder::Recorder;
+
+/// Why a sink refused a call.
+#[derive(Clone, Copy, Debug, PartialEq)]
+pub enum SinkError {
+    /// A growth was refused.
+    NoMemory,
+    /// No place is left in a sink of fixed size, or no number for another label.
+    Full,
+}
+
+/// The number of a place in code that an address refers to.
+#[derive(Clone, Copy, Debug, PartialEq)]
+pub struct Label(pub u32);
+
+/// The number of a constant in a pool that an address refers to.
+#[derive(Clone, Copy, Debug, PartialEq)]
+pub struct Constant(pub u32);
+
+/// Why an instruction may trap.
+#[derive(Clone, Copy, Debug, PartialEq)]
+pub struct TrapCode(pub NonZeroU8);
+
+impl fmt::Display for TrapCode {
+    ghost output = { λ code. Some (trap_text code) };
+
+    fn fmt<W: fmt::Write>(&self, f: &mut fmt::Formatter<W>) -> fmt::Result {
+        let number = self.0;
+        write!(f, "trap={number}")
+    }
+}
+
+/// The key of an offset whose value the sink knows.
+pub type KnownOffset = u8;
+
+/// What a relative address refers to, where that isn't settled yet.
+#[derive(Clone, Copy, Debug, PartialEq)]
+pub enum DeferredTarget {
+    Label(Label),
+    Constant(Constant),
+    None,
+}
+
+/// What a sink was told, and the number of bytes before it.
+#[derive(Clone, Copy, Debug, PartialEq)]
+pub enum Notice {
+    Trap(usize, TrapCode),
+    Target(usize, DeferredTarget),
+}
+
+/// A sink of bytes and notices.
+///
+/// A refused call adds nothing. A recording sink keeps each notice with the number of bytes before
+/// it, and any other lets notices go. These calls never change what the sink knows of offsets.
+pub trait CodeSink {
+    ghost state: { Self → State };
+
+    /// Puts one byte.
+    fn put1(&mut self, value: u8) -> Result<(), SinkError>
+        ensures { Step (put (value ∷ [])) (state self.old) (state self.new) result };
+
+    /// Puts two bytes, the lowest first.
+    fn put2(&mut self, value: u16) -> Result<(), SinkError>
+        ensures { Step (put (to_le_bytes w16 value)) (state self.old) (state self.new) result };
+
+    /// Puts four bytes, the lowest first.
+    fn put4(&mut self, value: u32) -> Result<(), SinkError>
+        ensures { Step (put (to_le_bytes w32 value)) (state self.old) (state self.new) result };
+
+    /// Puts eight bytes, the lowest first.
+    fn put8(&mut self, value: u64) -> Result<(), SinkError>
+        ensures { Step (put (to_le_bytes w64 value)) (state self.old) (state self.new) result };
+
+    /// Says that the instruction that begins here may trap.
+    fn add_trap(&mut self, code: TrapCode) -> Result<(), SinkError>
+        ensures { Step (trap code) (state self.old) (state self.new) result };
+
+    /// Says that the four bytes that come next are to refer to `place`.
+    fn use_target(&mut self, place: DeferredTarget) -> Result<(), SinkError>
+        ensures { Step (target place) (state self.old) (state self.new) result };
+
+    /// Whether the value of `offset` is known.
+    fn knows_offset(&self, offset: KnownOffset) -> bool
+        ensures { result ≡ is_some ((state self.now).offsets offset) };
+
+    /// The value of an offset that is known.
+    fn known_offset(&self, offset: KnownOffset) -> i32
+        requires { IsSome ((state self.now).offsets offset) }
+        ensures { (state self.now).offsets offset ≡ Some result };
+}
+
+#[cfg(test)]
+mod tests;

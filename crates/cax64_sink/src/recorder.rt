@@ -1,0 +1,142 @@
+//! A sink that keeps bytes and notices.
+
+ghost use Rattle.std.specs.Prelude.{◌≡◌, ◌≤◌, ◌+◌, ℕ, [], length, OnOk, IfErr, IsOk};
+ghost use Rattle.std.specs.Int.{to_le_bytes, w32};
+ghost use Rattle.cax64_sink.specs.Room.{HasRoom, FallsBy, count};
+
+use crate::{CodeSink, DeferredTarget, KnownOffset, Notice, SinkError, TrapCode};
+use std::alloc::Allocator;
+
+/// Keeps bytes and notices, and knows the offsets that were set.
+#[derive(Drop)]
+pub struct Recorder<A: Allocator> {
+    code: Vec<u8, A>,
+    told: Vec<Notice, A>,
+    known: [Option<i32>; 256],
+}
+
+impl<A: Allocator + Copy> Recorder<A> {
+    ghost use Rattle.cax64_sink.specs.Recorder.{recorder_state};
+
+    /// An empty recorder that knows no offset. Takes no memory.
+    pub fn new(alloc: A) -> Self
+        ensures bytes { (recorder_state result).bytes ≡ [] }
+        ensures notices { (recorder_state result).notices ≡ [] }
+        ensures offsets { (key : ℕ) → (recorder_state result).offsets key ≡ None }
+        ensures byte_room { (recorder_state result).byte_room ≡ count 0 }
+        ensures notice_room { (recorder_state result).notice_room ≡ count 0 }
+    {
+        Recorder {
+            code: Vec::new(alloc),
+            told: Vec::new(alloc),
+            known: [None; 256],
+        }
+    }
+}
+
+impl<A: Allocator> Recorder<A> {
+    ghost use Rattle.cax64_sink.specs.Recorder.{recorder_state, with_offset, with_patch};
+    ghost use Rattle.cax64_sink.specs.Vec.{vec_state};
+
+    /// Makes `offset` known, or replaces its value. Takes no memory.
+    pub fn set_offset(&mut self, offset: KnownOffset, value: i32)
+        ensures { recorder_state self.new ≡ with_offset offset value (recorder_state self.old) }
+    {
+        self.known[offset as usize] = Some(value);
+    }
+
+    /// All bytes that were put.
+    pub fn bytes(&self) -> &[u8]
+        ensures { result.now ≡ (recorder_state self.now).bytes }
+    {
+        self.code.as_slice()
+    }
+
+    /// The notices in the order in which they were told.
+    pub fn notices(&self) -> &[Notice]
+        ensures { result.now ≡ (recorder_state self.now).notices }
+    {
+        self.told.as_slice()
+    }
+
+    /// Makes room for so many more bytes and notices.
+    ///
+    /// The rooms may be larger after a refusal than before.
+    pub fn reserve(&mut self, bytes: usize, notices: usize) -> Result<(), SinkError>
+        ensures bytes { (recorder_state self.new).bytes ≡ (recorder_state self.old).bytes }
+        ensures notices { (recorder_state self.new).notices ≡ (recorder_state self.old).notices }
+        ensures offsets { (recorder_state self.new).offsets ≡ (recorder_state self.old).offsets }
+
+        ensures room_for_bytes { OnOk result (HasRoom (recorder_state self.new).byte_room bytes) }
+        ensures room_for_notices { OnOk result (HasRoom (recorder_state self.new).notice_room notices) }
+        ensures byte_room_stays { FallsBy (recorder_state self.old).byte_room (recorder_state self.new).byte_room 0 }
+        ensures notice_room_stays { FallsBy (recorder_state self.old).notice_room (recorder_state self.new).notice_room 0 }
+
+        ensures succeeds { HasRoom (recorder_state self.old).byte_room bytes → HasRoom (recorder_state self.old).notice_room notices → IsOk result }
+        ensures no_memory { IfErr result (λ e. e ≡ SinkError.NoMemory) }
+    {
+        self.code.reserve(bytes).map_err(|_| SinkError::NoMemory)?;
+        self.told.reserve(notices).map_err(|_| SinkError::NoMemory)
+    }
+
+    /// Writes four bytes over those from `at` on, the lowest first. Takes no memory.
+    pub fn patch4(&mut self, at: usize, value: u32)
+        requires { at + 4 ≤ length (recorder_state self.old).bytes }
+        ensures { recorder_state self.new ≡ with_patch at (to_le_bytes w32 value) (recorder_state self.old) }
+    {
+        self.code[at..at + 4].copy_from_slice(&value.to_le_bytes());
+    }
+
+    /// Gives the bytes, and lets go of the notices. Takes no memory.
+    pub fn into_bytes(self) -> Vec<u8, A>
+        ensures bytes { result.items ≡ (recorder_state self).bytes }
+        ensures room { (vec_state result).byte_room ≡ (recorder_state self).byte_room }
+    {
+        let Recorder { code, .. } = self;
+        code
+    }
+}
+
+impl<A: Allocator> CodeSink for Recorder<A> {
+    ghost use Rattle.cax64_sink.specs.Recorder.{recorder_state};
+
+    ghost state = { recorder_state };
+
+    fn put1(&mut self, value: u8) -> Result<(), SinkError> {
+        self.code.put1(value)
+    }
+
+    fn put2(&mut self, value: u16) -> Result<(), SinkError> {
+        self.code.put2(value)
+    }
+
+    fn put4(&mut self, value: u32) -> Result<(), SinkError> {
+        self.code.put4(value)
+    }
+
+    fn put8(&mut self, value: u64) -> Result<(), SinkError> {
+        self.code.put8(value)
+    }
+
+    fn add_trap(&mut self, code: TrapCode) -> Result<(), SinkError> {
+        let at = self.code.len();
+        self.told
+            .push(Notice::Trap(at, code))
+            .map_err(|_| SinkError::NoMemory)
+    }
+
+    fn use_target(&mut self, place: DeferredTarget) -> Result<(), SinkError> {
+        let at = self.code.len();
+        self.told
+            .push(Notice::Target(at, place))
+            .map_err(|_| SinkError::NoMemory)
+    }
+
+    fn knows_offset(&self, offset: KnownOffset) -> bool {
+        self.known[offset as usize].is_some()
+    }
+
+    fn known_offset(&self, offset: KnownOffset) -> i32 {
+        self.known[offset as usize].unwrap()
+    }
+}

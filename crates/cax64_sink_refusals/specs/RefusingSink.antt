@@ -1,0 +1,9 @@
+-- What a contract sees of a `RefusingSink`.
+use Rattle.cax64_sink.specs.Room.{count}
+use Rattle.cax64_sink.specs.Sink.{State}
+use Rattle.cax64_sink.specs.Recorder.{recorder_state}
+use Rattle.cax64_sink_refusals.specs.declared.RefusingSink.{RefusingSink}
+
+-- the recorder's state, with no room that is promised
+abbrev pub refusing_state : {A : Type 0} → RefusingSink A → State
+refusing_state s = record (recorder_state s.recorder) { byte_room = count 0; notice_room = count 0 }
