@@ -1,4 +1,4 @@
-//! EVEX prefixes, and their form for general registers. (Intel SDM, volume 2, 2.7.1; Intel APX specification, 3.1.3.)
+//! EVEX prefixes, and their form for general registers. (Intel SDM, volume 2, 2.7.1; Intel APX specification, 3.1.2.3.1.)
 
 ghost use Rattle.std.specs.Prelude.{◌≡◌, ◌+◌, ◌-◌, ◌*◌, ◌/◌, ◌%◌, ◌<◌, ◌++◌, IfOk, IfSome, length};
 ghost use Rattle.std.specs.Int.{from_bool};
