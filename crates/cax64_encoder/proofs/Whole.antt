@@ -7,6 +7,7 @@ use Rattle.std.proofs.lemmas.List.{length-append}
 use Rattle.cax64_sink.specs.Sink.{Action, all_bytes, all_notices}
 use Rattle.cax64_sink.specs.declared.Notice.{Notice}
 use Rattle.cax64_sink.specs.declared.TrapCode.{TrapCode}
+use Rattle.cax64_sink.proofs.Runs.{all_notices_append}
 use Rattle.cax64_sink.proofs.Ends.{ends_append}
 use Rattle.cax64_sink.specs.Ends.{EndsInBytes}
 use Rattle.cax64_address.specs.Address.{displaced_place, target_notices, trap_of}
@@ -27,17 +28,26 @@ use Rattle.cax64_machine_code.specs.declared.reading.Reading.{Reading}
 use Rattle.cax64_machine_code.specs.declared.reading.RegView.TheVariants.{Low}
 use Rattle.cax64_machine_code.specs.declared.line.Line.{Line}
 use Rattle.cax64_machine_code.specs.declared.line.RegField.{RegField}
+use Rattle.cax64_machine_code.specs.declared.line.RegField.TheVariants.{Digit, Register8, Register}
 use Rattle.cax64_machine_code.specs.declared.line.PlaceField.{PlaceField}
 use Rattle.cax64_machine_code.specs.declared.line.PlaceField.TheVariants.{Memory, RegisterOrMemory, Register8OrMemory}
 use Rattle.cax64_machine_code.specs.declared.line.TailField.{TailField}
 use Rattle.cax64_machine_code.specs.declared.line.TailField.TheVariants.{NoTail, Modrm}
 use Rattle.cax64_machine_code.proofs.Matched.{reads_as, reads_as_tail, reads_as_row}
 use Rattle.cax64_machine_code.proofs.Written.{IsPrefix, IsImm, DigitIs, bare_found, tail_found}
-use Rattle.cax64_encoder.specs.Code.{trap_actions, opcode_actions, optional_imm_actions}
+use Rattle.cax64_prefix.specs.Puts.{puts}
+use Rattle.cax64_prefix.specs.Rex.{rex_bytes}
+use Rattle.cax64_prefix.specs.Vex.{vex_bytes}
+use Rattle.cax64_prefix.proofs.PutRuns.{all_notices-puts}
+use Rattle.cax64_encoder.proofs.PrefixParts.{set_quiet}
+use Rattle.cax64_encoder.specs.declared.code.PrefixCode.{PrefixCode}
+use Rattle.cax64_encoder.specs.declared.code.PrefixCode.TheVariants.{Legacy, Vex}
+use Rattle.cax64_encoder.specs.Code.{set_actions, prefix_actions, trap_actions, opcode_actions, optional_imm_actions}
 use Rattle.cax64_encoder.specs.Encodes.{reg_number, TailPartOf, PrefixFor, operand_parts, memory_in, trap_in, trap_notice, notices_of, ShortestFor, EncodesAs}
-use Rattle.cax64_encoder.specs.Fits.{first_byte, is_line, fits, tail_fits, reg_fits, place_fits, is_no_place, is_absent, vvvv_fits, imm_fits, opcode_size, prefix_size, tail_size}
-use Rattle.cax64_encoder.specs.Operands.{number_value, named_place, place_x, place_b, imm_value, imm_size}
+use Rattle.cax64_encoder.specs.Fits.{first_byte, is_line, is_digit, fits, tail_fits, reg_fits, place_fits, is_no_place, is_absent, vvvv_fits, imm_fits, opcode_size, prefix_size, tail_size}
+use Rattle.cax64_encoder.specs.Operands.{number_value, is_absent_or_real, place_is_real, are_real, named_place, place_x, place_b, imm_value, imm_size}
 use Rattle.cax64_encoder.specs.declared.operands.Number.{Number}
+use Rattle.cax64_encoder.specs.declared.operands.Number.TheVariants.{Settled, Unsettled}
 use Rattle.cax64_encoder.specs.declared.operands.ImmOperand.{ImmOperand}
 use Rattle.cax64_encoder.specs.declared.operands.ImmOperand.TheVariants.{Imm8, Imm16, Imm32, Simm8, Simm32}
 use Rattle.cax64_encoder.specs.declared.operands.Operands.{Operands}
@@ -45,6 +55,9 @@ use Rattle.cax64_encoder.specs.declared.operands.PlaceOperand as place
 use Rattle.cax64_encoder.specs.declared.operands.PlaceOperand.{PlaceOperand}
 use Rattle.cax64_encoder.proofs.Lines.{LineFacts, line_facts}
 use Rattle.cax64_encoder.proofs.Encodes.{imm_part, imm_same, imm_length, imm_quiet, opcode_part, opcode_quiet, opcode_begins, opcode_length, opcode_ends, trap_bytes, trap_told, reg_viewed, register_named, register_allowed, memory_named, digit_is, five_parts, five_lengths, five_notices}
+
+below : (a b : ℕ) → nat_lt a b ≡ true → a < b
+below a b h = grind (arith, nat_tests)
 
 at_most : (a b : ℕ) → nat_le a b ≡ true → a ≤ b
 at_most a b h = grind (arith, nat_tests)
@@ -296,3 +309,36 @@ encodes enc row o disp pre tail hl hf prefix quiet t =
     let q = and_parts (vvvv_fits (line_of row).prefix o.vvvv) (imm_fits (line_of row).imm o.imm) p.1 in
     let h : Parted enc row o pre = record { facts = line_facts (line_of row) hl; imm = q.1; prefix = prefix; quiet = quiet } in
     by_tail enc row o disp pre tail (line_of row).tail refl h p.0 t
+
+-- what operands that fit and are real give to the parts
+
+pub place_real : {M : Type 0} (settled : M → Bool) (enc : M → ℕ) (o : Operands M) → are_real settled enc o ≡ true → place_is_real settled enc o.place ≡ true
+place_real settled enc o h =
+    let p = and_parts (is_absent_or_real o.reg) _ h in
+    (and_parts (is_absent_or_real o.vvvv) (place_is_real settled enc o.place) p.1).1
+
+pub vvvv_fit : {M : Type 0} (line : Line) (o : Operands M) → fits line o ≡ true → vvvv_fits line.prefix o.vvvv ≡ true
+vvvv_fit line o h = (and_parts (vvvv_fits line.prefix o.vvvv) (imm_fits line.imm o.imm) (and_parts (tail_fits line.tail o.reg o.place) _ h).1).0
+
+reg_is_below : (tail : TailField) (number : Option Number) → is_digit tail ≡ true → is_absent_or_real number ≡ true → reg_number tail number < 16
+reg_is_below NoTail number hd hr = omega arith
+reg_is_below (Modrm (Digit d) field) number hd hr = let k : d < 8 = below d 8 hd in omega arith
+reg_is_below (Modrm Register8 field) None hd hr = omega arith
+reg_is_below (Modrm Register8 field) (Some (Settled n)) hd hr = below n 16 hr
+reg_is_below (Modrm Register8 field) (Some Unsettled) hd hr = cc
+reg_is_below (Modrm Register field) None hd hr = omega arith
+reg_is_below (Modrm Register field) (Some (Settled n)) hd hr = below n 16 hr
+reg_is_below (Modrm Register field) (Some Unsettled) hd hr = cc
+
+pub reg_below : {M : Type 0} (settled : M → Bool) (enc : M → ℕ) (line : Line) (o : Operands M) → is_line line ≡ true → are_real settled enc o ≡ true → reg_number line.tail o.reg < 16
+reg_below settled enc line o hl h = reg_is_below line.tail o.reg (line_facts line hl).digit (and_parts (is_absent_or_real o.reg) _ h).0
+
+pub prefix_quiet : (code : PrefixCode) (k : ℕ) → all_notices (prefix_actions code) k ≡ []
+prefix_quiet (Legacy set rex) k = all_notices_append (set_actions set) (puts (rex_bytes rex)) k ∙ rw (set_quiet set k) (all_notices-puts (rex_bytes rex) _)
+prefix_quiet (Vex vex) k = all_notices-puts (vex_bytes vex) k
+
+-- the same of a line that is the row's
+pub line_encodes : {M : Type 0} (enc : M → ℕ) (row : Row) (line : Line) (o : Operands M) (disp : ℤ) (pre tail : List Action) → line_of row ≡ line → is_line line ≡ true → fits line o ≡ true → PrefixFor enc line (reg_number line.tail o.reg) o.vvvv o.place (all_bytes pre) → ((k : ℕ) → all_notices pre k ≡ []) → TailPartOf enc disp (imm_size o.imm) (reg_number line.tail o.reg) o.place tail → EncodesAs (operand_parts enc row disp o) (memory_in o.place) (instruction_actions line (trap_in o.place) pre tail o)
+line_encodes enc row line o disp pre tail e =
+    let P : Line → Type 0 = λ l. is_line l ≡ true → fits l o ≡ true → PrefixFor enc l (reg_number l.tail o.reg) o.vvvv o.place (all_bytes pre) → ((k : ℕ) → all_notices pre k ≡ []) → TailPartOf enc disp (imm_size o.imm) (reg_number l.tail o.reg) o.place tail → EncodesAs (operand_parts enc row disp o) (memory_in o.place) (instruction_actions l (trap_in o.place) pre tail o) in
+    subst P e (encodes enc row o disp pre tail)
