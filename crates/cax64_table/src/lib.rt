@@ -1,0 +1,6 @@
+//! The table of rows as the program holds it: what each row asks for, and which row some bytes match.
+#![tactic(auto)]
+
+mod packed;
+
+pub use packed::line;
