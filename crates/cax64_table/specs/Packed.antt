@@ -1,4 +1,4 @@
-use Rattle.std.specs.Prelude.{ℕ, ◌/◌, ◌%◌, ◌^◌, ◌==◌, Bool, if◌then◌else◌, Option, Some, None}
+use Rattle.std.specs.Prelude.{ℕ, ◌/◌, ◌%◌, ◌^◌, ◌==◌, Bool, if◌then◌else◌, Option, Some, None, slice_index}
 use Rattle.cax64_machine_code.specs.declared.line.LegacySet.{LegacySet}
 use Rattle.cax64_machine_code.specs.declared.line.Opcode.{Opcode}
 use Rattle.cax64_machine_code.specs.declared.line.Line.{Line}
@@ -17,6 +17,7 @@ use Rattle.cax64_machine_code.specs.declared.line.ImmField.TheVariants.{NoImm, I
 use Rattle.cax64_machine_code.specs.declared.row.Row.{Row}
 use Rattle.cax64_machine_code.specs.contracts.row.Row.{the_type}
 use denote.Enum.Declared.{tag_of}
+use Rattle.cax64_table.specs.declared.packed.TheConstants.{TABLE}
 
 -- The line that a packed number holds.
 
@@ -69,3 +70,7 @@ unpacked packed = record {
 -- the place of a row in the table, which is its place in the enum
 unfoldable pub number_of : Row → ℕ
 number_of row = tag_of the_type row
+
+-- the entry of a row
+abbrev pub entry_of : Row → ℕ
+entry_of row = slice_index TABLE (number_of row)

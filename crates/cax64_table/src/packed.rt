@@ -1,10 +1,16 @@
 //! The table, one packed number for each row. Nothing outside this module knows how a row is packed.
 
-ghost use Rattle.std.specs.Prelude.{◌≡◌, ◌≤◌, ◌/◌, ◌%◌, ◌^◌, ◌<◌};
+ghost use Rattle.std.specs.Prelude.{◌≡◌, ◌≤◌, ◌/◌, ◌%◌, ◌^◌, ◌<◌, nat_lt, true, false, length, All, Contains};
+ghost use Rattle.std.specs.Option.{ForSome};
+ghost use Rattle.std.specs.List.Sorted.{IsNonDecreasingBy, IsPartitionPoint};
 ghost use Rattle.cax64_machine_code.specs.Rows.{line_of};
-ghost use Rattle.cax64_table.specs.Packed.{prefix_field, w_field, opcode_field, place_field, tail_field, imm_field, unpacked, flag_at, number_of};
+ghost use Rattle.cax64_table.specs.Packed.{prefix_field, w_field, opcode_field, place_field, tail_field, imm_field, unpacked, flag_at, number_of, entry_of};
+ghost use Rattle.cax64_table.specs.Key.{key_of, row_key, HasKey};
+ghost use Rattle.cax64_machine_code.specs.declared.row.Row.{Row};
 
-use cax64_machine_code::line::{ImmField, LegacySet, Line, Opcode, PlaceField, PrefixField, RegField, TailField, VvvvField};
+use cax64_machine_code::line::{
+    ImmField, LegacySet, Line, Opcode, PlaceField, PrefixField, RegField, TailField, VvvvField,
+};
 use cax64_machine_code::row::Row;
 
 /// From the lowest bit: the number of bytes of the immediate in three bits, its sign; two bits of W, 2 for either
@@ -171,6 +177,168 @@ const TABLE: [u64; 158] = [
     0x23e0_a900,
 ];
 
+/// The rows by their keys, which rise.
+const BY_KEY: [Row; 158] = [
+    Row::lock_addb_mr,
+    Row::lock_addw_mr,
+    Row::lock_addl_mr,
+    Row::lock_addq_mr,
+    Row::lock_orb_mr,
+    Row::lock_orw_mr,
+    Row::lock_orl_mr,
+    Row::lock_orq_mr,
+    Row::lock_adcb_mr,
+    Row::lock_adcw_mr,
+    Row::lock_adcl_mr,
+    Row::lock_adcq_mr,
+    Row::lock_sbbb_mr,
+    Row::lock_sbbw_mr,
+    Row::lock_sbbl_mr,
+    Row::lock_sbbq_mr,
+    Row::lock_andb_mr,
+    Row::lock_andw_mr,
+    Row::lock_andl_mr,
+    Row::lock_andq_mr,
+    Row::andb_i,
+    Row::lock_subb_mr,
+    Row::lock_subw_mr,
+    Row::lock_subl_mr,
+    Row::lock_subq_mr,
+    Row::lock_xorb_mr,
+    Row::lock_xorw_mr,
+    Row::lock_xorl_mr,
+    Row::lock_xorq_mr,
+    Row::vcvtpd2ps_a,
+    Row::jo_d8,
+    Row::jno_d8,
+    Row::jb_d8,
+    Row::jae_d8,
+    Row::je_d8,
+    Row::jne_d8,
+    Row::jbe_d8,
+    Row::ja_d8,
+    Row::js_d8,
+    Row::jns_d8,
+    Row::jp_d8,
+    Row::jnp_d8,
+    Row::jl_d8,
+    Row::jge_d8,
+    Row::jle_d8,
+    Row::jg_d8,
+    Row::lock_addb_mi,
+    Row::lock_orb_mi,
+    Row::lock_adcb_mi,
+    Row::lock_sbbb_mi,
+    Row::lock_andb_mi,
+    Row::lock_subb_mi,
+    Row::lock_xorb_mi,
+    Row::lock_addw_mi,
+    Row::lock_addl_mi,
+    Row::lock_addq_mi_sxl,
+    Row::lock_orw_mi,
+    Row::lock_orl_mi,
+    Row::lock_orq_mi_sxl,
+    Row::lock_adcw_mi,
+    Row::lock_adcl_mi,
+    Row::lock_adcq_mi_sxl,
+    Row::lock_sbbw_mi,
+    Row::lock_sbbl_mi,
+    Row::lock_sbbq_mi_sxl,
+    Row::lock_andw_mi,
+    Row::lock_andl_mi,
+    Row::lock_andq_mi_sxl,
+    Row::lock_subw_mi,
+    Row::lock_subl_mi,
+    Row::lock_subq_mi_sxl,
+    Row::lock_xorw_mi,
+    Row::lock_xorl_mi,
+    Row::lock_xorq_mi_sxl,
+    Row::lock_addl_mi_sxb,
+    Row::lock_addq_mi_sxb,
+    Row::lock_orl_mi_sxb,
+    Row::lock_orq_mi_sxb,
+    Row::lock_adcl_mi_sxb,
+    Row::lock_adcq_mi_sxb,
+    Row::lock_sbbl_mi_sxb,
+    Row::lock_sbbq_mi_sxb,
+    Row::lock_andl_mi_sxb,
+    Row::lock_andq_mi_sxb,
+    Row::lock_subl_mi_sxb,
+    Row::lock_subq_mi_sxb,
+    Row::lock_xorl_mi_sxb,
+    Row::lock_xorq_mi_sxb,
+    Row::xchgb_rm,
+    Row::xchgw_rm,
+    Row::xchgl_rm,
+    Row::xchgq_rm,
+    Row::nop_1b,
+    Row::nop_2b,
+    Row::vcmpps_b,
+    Row::vcmppd_b,
+    Row::vcmpss_b,
+    Row::vcmpsd_b,
+    Row::rolb_m1,
+    Row::rorb_m1,
+    Row::shlb_m1,
+    Row::shrb_m1,
+    Row::sarb_m1,
+    Row::rolw_m1,
+    Row::roll_m1,
+    Row::rolq_m1,
+    Row::rorw_m1,
+    Row::rorl_m1,
+    Row::rorq_m1,
+    Row::shlw_m1,
+    Row::shll_m1,
+    Row::shlq_m1,
+    Row::shrw_m1,
+    Row::shrl_m1,
+    Row::shrq_m1,
+    Row::sarw_m1,
+    Row::sarl_m1,
+    Row::sarq_m1,
+    Row::vcvttpd2dq_a,
+    Row::callq_d,
+    Row::jmp_d32,
+    Row::jmp_d8,
+    Row::mulxl_rvm,
+    Row::mulxq_rvm,
+    Row::callq_m,
+    Row::jmpq_m,
+    Row::nopl_rm,
+    Row::nopw_rm,
+    Row::andps_a,
+    Row::jo_d32,
+    Row::jno_d32,
+    Row::jb_d32,
+    Row::jae_d32,
+    Row::je_d32,
+    Row::jne_d32,
+    Row::jbe_d32,
+    Row::ja_d32,
+    Row::js_d32,
+    Row::jns_d32,
+    Row::jp_d32,
+    Row::jnp_d32,
+    Row::jl_d32,
+    Row::jge_d32,
+    Row::jle_d32,
+    Row::jg_d32,
+    Row::lock_cmpxchgb_mr,
+    Row::lock_cmpxchgw_mr,
+    Row::lock_cmpxchgl_mr,
+    Row::lock_cmpxchgq_mr,
+    Row::lock_xaddb_mr,
+    Row::lock_xaddw_mr,
+    Row::lock_xaddl_mr,
+    Row::lock_xaddq_mr,
+    Row::cmpps_a,
+    Row::cmppd_a,
+    Row::cmpss_a,
+    Row::cmpsd_a,
+    Row::lock_cmpxchg16b_m,
+];
+
 /// So many bits, from this one up.
 fn bits(packed: u64, low: u32, width: u32) -> u8
     requires low { low < 64 }
@@ -191,8 +359,17 @@ fn prefix(packed: u64) -> PrefixField
     ensures { result ≡ prefix_field packed }
 {
     if flag(packed, 6) {
-        let vvvv = if flag(packed, 12) { VvvvField::VvvvRegister } else { VvvvField::Stored1111 };
-        return PrefixField::VexField(bits(packed, 7, 2), bits(packed, 9, 2), bits(packed, 11, 1), vvvv);
+        let vvvv = if flag(packed, 12) {
+            VvvvField::VvvvRegister
+        } else {
+            VvvvField::Stored1111
+        };
+        return PrefixField::VexField(
+            bits(packed, 7, 2),
+            bits(packed, 9, 2),
+            bits(packed, 11, 1),
+            vvvv,
+        );
     }
     let set = LegacySet {
         lock: flag(packed, 7),
@@ -215,7 +392,10 @@ fn w(packed: u64) -> Option<u8>
 fn opcode(packed: u64) -> Opcode
     ensures { result ≡ opcode_field packed }
 {
-    Opcode { escape: flag(packed, 29), byte: bits(packed, 21, 8) }
+    Opcode {
+        escape: flag(packed, 29),
+        byte: bits(packed, 21, 8),
+    }
 }
 
 fn place(packed: u64) -> PlaceField
@@ -246,7 +426,11 @@ fn imm(packed: u64) -> ImmField
     if size == 0 {
         return ImmField::NoImm;
     }
-    if flag(packed, 3) { ImmField::Simm(size) } else { ImmField::Imm(size) }
+    if flag(packed, 3) {
+        ImmField::Simm(size)
+    } else {
+        ImmField::Imm(size)
+    }
 }
 
 fn unpack(packed: u64) -> Line
@@ -262,14 +446,68 @@ fn unpack(packed: u64) -> Line
 }
 
 fn number(row: Row) -> usize
-    ensures { result ≡ number_of row }
+    ensures is { result ≡ number_of row }
+    ensures below { result < 158 }
 {
     row as usize
+}
+
+fn entry(row: Row) -> u64
+    ensures { result ≡ entry_of row }
+{
+    TABLE[number(row)]
+}
+
+/// The opcode and the digit of a row as one number.
+fn key(row: Row) -> u64
+    ensures { result ≡ row_key row }
+{
+    entry(row) >> 17
+}
+
+/// How many rows have a key below this one.
+fn first_at_least(rows: &[Row], wanted: u64) -> usize
+    requires { IsNonDecreasingBy row_key rows.now }
+    ensures is { IsPartitionPoint (λ row. nat_lt (row_key row) wanted ≡ true) (λ row. nat_lt (row_key row) wanted ≡ false) rows.now result }
+    ensures within { result ≤ length rows.now }
+{
+    rows.partition_point(|row| key(*row) < wanted)
+}
+
+/// The rows of this key, which stand side by side.
+fn with_key(rows: &[Row], wanted: u64) -> &[Row]
+    requires sorted { IsNonDecreasingBy row_key rows.now }
+    requires small { wanted < 2 ^ 13 }
+    ensures only { All (λ row. row_key row ≡ wanted) result.now }
+    ensures all { (row : Row) → Contains rows.now row → row_key row ≡ wanted → Contains result.now row }
+{
+    let start = first_at_least(rows, wanted);
+    let end = first_at_least(rows, wanted + 1);
+    &rows[start..end]
+}
+
+/// The key of an opcode and a digit, or of an opcode without a digit.
+fn wanted_key(opcode: Opcode, digit: Option<u8>) -> u64
+    requires { ForSome digit (λ d. d < 8) }
+    ensures is { result ≡ key_of opcode digit }
+    ensures small { result < 2 ^ 13 }
+{
+    let escape = if opcode.escape { 4096 } else { 0 };
+    escape + u64::from(opcode.byte) * 16 + u64::from(digit.unwrap_or(8))
+}
+
+/// The rows of an opcode and a digit, or of an opcode without a digit.
+pub fn rows_of(opcode: Opcode, digit: Option<u8>) -> &'static [Row]
+    requires { ForSome digit (λ d. d < 8) }
+    ensures only { All (HasKey opcode digit) result.now }
+    ensures all { (row : Row) → HasKey opcode digit row → Contains result.now row }
+{
+    with_key(&BY_KEY, wanted_key(opcode, digit))
 }
 
 /// What the table says of a row.
 pub fn line(row: Row) -> Line
     ensures { result ≡ line_of row }
 {
-    unpack(TABLE[number(row)])
+    unpack(entry(row))
 }
