@@ -2,5 +2,6 @@
 #![tactic(auto)]
 
 mod packed;
+pub mod prefix;
 
-pub use packed::line;
+pub use packed::{line, rows_of};
