@@ -69,7 +69,7 @@ pub trait Instruction {
     }
 
     // What the row and the operands say is what is meant.
-    ghost is_meant: { (i : Self) (offsets : ℕ → Option ℤ) → operand_parts Self.Base.enc (row_of i) (displacement_in offsets (operands_of i).place) (operands_of i) ≡ meant i offsets };
+    ghost is_meant: { (i : Self) (offsets : ℕ → Option ℤ) → encodable i offsets ≡ true → operand_parts Self.Base.enc (row_of i) (displacement_in offsets (operands_of i).place) (operands_of i) ≡ meant i offsets };
 
     ghost is_encodable_as: { (i : Self) (offsets : ℕ → Option ℤ) → are_encodable Self.Base.settled Self.Base.enc offsets (operands_of i) ≡ encodable i offsets };
 

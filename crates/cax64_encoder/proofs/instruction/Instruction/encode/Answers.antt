@@ -23,7 +23,7 @@ returns g c =
     let fits : FitsSigned w32 c.displacement-displacement.result = search rules in
     let code = c.code_of-code.ensures c.row.result (sym c.line.ensures) in
     let known = rw (to_z-of_z w32 c.displacement-displacement.result fits, c.displacement-displacement.ensures, c.operands-operands.ensures.value, c.row.ensures) at code in
-    let meant : EncodesAs (g.Self.Instruction.meant c.args.self.now offsets) (g.Self.Instruction.memory c.args.self.now) (code_actions c.code_of-code.result) = rw (g.met.Self.Instruction.is_meant c.args.self.now offsets, g.met.Self.Instruction.is_memory c.args.self.now) at known in
+    let meant : EncodesAs (g.Self.Instruction.meant c.args.self.now offsets) (g.Self.Instruction.memory c.args.self.now) (code_actions c.code_of-code.result) = rw (g.met.Self.Instruction.is_meant c.args.self.now offsets c.requires, g.met.Self.Instruction.is_memory c.args.self.now) at known in
     record {
       adds = run_adds c.put.result meant c.put.ensures;
       leaves = run_leaves c.put.result meant c.put.ensures;
