@@ -3,13 +3,13 @@ use Rattle.std.specs.Prelude.{◌&&◌, if◌then◌else◌, OnOk, OnErr, IfErr,
 use Rattle.std.proofs.lemmas.Bool.{and_parts}
 use Rattle.cax64_machine_code.specs.Reading.{Parts}
 use Rattle.cax64_machine_code.specs.declared.reading.Reading.{Reading}
-use Rattle.cax64_sink.specs.Room.{Room, HasRoom}
+use Rattle.cax64_sink.specs.Room.{Room, HasRoom, FallsBy}
 use Rattle.cax64_sink.specs.Sink.{State, Action, Ran, all_bytes, all_notices, size, notes}
 use Rattle.cax64_sink.specs.declared.SinkError.{SinkError}
 use Rattle.cax64_sink.specs.declared.Notice.{Notice}
 use Rattle.cax64_sink.proofs.Runs.{ran_bytes, ran_notices, ran_error}
 use Rattle.cax64_sink.proofs.Refusals.{ran_refusal}
-use Rattle.cax64_sink.proofs.Rooms.{less_room, ran_succeeds, size_is_length, notes_is_length}
+use Rattle.cax64_sink.proofs.Rooms.{less_room, ran_succeeds, ran_byte_room, ran_notice_room, size_is_length, notes_is_length}
 use Rattle.cax64_sink.proofs.Ends.{refused_bytes, refused_notices}
 use Rattle.cax64_address.specs.declared.amode.Amode.{Amode}
 use Rattle.cax64_address.specs.declared.amode.Amode.TheVariants.{ImmReg, ImmRegRegShift, RipRelative}
@@ -78,6 +78,17 @@ run_room {memory = memory} {acts} {s} h run bytes told =
     let small : size acts ≤ 13 = omega (arith, size_is_length acts, h.reads.length, h.reads.most) in
     let few : notes acts ≤ 1 = omega (arith, notes_is_length acts 0, ap length (h.notices 0), one_notice memory 0 h.reads.reading) in
     ran_succeeds run (less_room s.byte_room 13 (size acts) small bytes) (less_room s.notice_room 1 (notes acts) few told)
+
+-- an instruction lowers the rooms by thirteen bytes and a notice at most
+pub run_bytes_fall : {M : Type 0} {parts : Parts} {memory : Option (Amode M)} {acts : List Action} {s t : State} {r : Result (Unit {0}) SinkError} → EncodesAs parts memory acts → Ran acts s t r → FallsBy s.byte_room t.byte_room 13
+run_bytes_fall {memory = memory} {acts} {s} h run k room =
+    let small : k + size acts ≤ k + 13 = omega (arith, size_is_length acts, h.reads.length, h.reads.most) in
+    ran_byte_room run k (less_room s.byte_room (k + 13) (k + size acts) small room)
+
+pub run_notices_fall : {M : Type 0} {parts : Parts} {memory : Option (Amode M)} {acts : List Action} {s t : State} {r : Result (Unit {0}) SinkError} → EncodesAs parts memory acts → Ran acts s t r → FallsBy s.notice_room t.notice_room 1
+run_notices_fall {memory = memory} {acts} {s} h run k room =
+    let few : k + notes acts ≤ k + 1 = omega (arith, notes_is_length acts 0, ap length (h.notices 0), one_notice memory 0 h.reads.reading) in
+    ran_notice_room run k (less_room s.notice_room (k + 1) (k + notes acts) few room)
 
 place_of_encodable : {M : Type 0} (settled : M → Bool) (enc : M → ℕ) (offsets : ℕ → Option ℤ) (operand : PlaceOperand M) → place_is_encodable settled enc offsets operand ≡ true → place_is_real settled enc operand ≡ true
 place_of_encodable settled enc offsets place.TheVariants.NoPlace h = refl

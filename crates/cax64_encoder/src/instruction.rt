@@ -11,7 +11,7 @@ ghost use Rattle.cax64_machine_code.specs.Reading.{Parts};
 ghost use Rattle.cax64_machine_code.specs.Rows.{line_of};
 ghost use Rattle.cax64_machine_code.specs.declared.row.Row.{Row};
 ghost use Rattle.cax64_sink.specs.Keeps.{Keeps};
-ghost use Rattle.cax64_sink.specs.Room.{HasRoom};
+ghost use Rattle.cax64_sink.specs.Room.{HasRoom, FallsBy};
 
 use crate::encoder::code_of;
 use crate::operands::Operands;
@@ -61,6 +61,8 @@ pub trait Instruction {
         ensures error { IfErr result (λ e. (S.state sink.old).answers e ≡ true) }
         ensures keeps { Keeps (S.state sink.old) (S.state sink.new) }
         ensures room { HasRoom (S.state sink.old).byte_room 13 → HasRoom (S.state sink.old).notice_room 1 → IsOk result }
+        ensures byte_room { FallsBy (S.state sink.old).byte_room (S.state sink.new).byte_room 13 }
+        ensures notice_room { FallsBy (S.state sink.old).notice_room (S.state sink.new).notice_room 1 }
     {
         let operands = self.operands();
         let displacement = operands.displacement(sink);

@@ -5,7 +5,7 @@ use Rattle.cax64_encoder.specs.Code.{code_actions}
 use Rattle.cax64_encoder.specs.Encodes.{operand_parts, memory_in, EncodesAs}
 use Rattle.cax64_encoder.specs.Operands.{are_encodable, are_real, displacement_in}
 use Rattle.cax64_encoder.proofs.Table.{row_is_line}
-use Rattle.cax64_encoder.proofs.Instructions.{run_adds, run_leaves, run_error, run_room, encodable_real}
+use Rattle.cax64_encoder.proofs.Instructions.{run_adds, run_leaves, run_error, run_room, run_bytes_fall, run_notices_fall, encodable_real}
 use Rattle.cax64_encoder.proofs.instruction.Instruction.encode.Goals as goal
 
 pub code_of-code-requires-clause-line : goal.code_of-code-requires-clause-line
@@ -30,4 +30,6 @@ returns g c =
       error = run_error c.put.result c.put.ensures;
       keeps = ran_keeps c.put.ensures;
       room = run_room meant c.put.ensures;
+      byte_room = run_bytes_fall meant c.put.ensures;
+      notice_room = run_notices_fall meant c.put.ensures;
     }
