@@ -48,7 +48,7 @@ impl Imm8 {
     pub fn encode<S: CodeSink>(&self, sink: &mut S) -> Result<(), SinkError>
         ensures { Step (put (self.now ∷ [])) (S.state sink.old) (S.state sink.new) result }
     {
-        sink.put1(self.0)
+        sink.put1(self.value())
     }
 }
 
@@ -56,6 +56,6 @@ impl From<u8> for Imm8 {
     ghost from_gives = { λ value imm. imm ≡ value };
 
     fn from(value: u8) -> Imm8 {
-        Imm8(value)
+        Imm8::new(value)
     }
 }
