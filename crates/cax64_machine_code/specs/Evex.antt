@@ -42,7 +42,7 @@ evex_at (byte ∷ second ∷ third ∷ fourth ∷ bytes) =
 evex_at _ = None
 
 -- The fields of an EVEX prefix of map 4: bits 3 and 4 of reg, base and index, five bits of vvvv. (Intel APX
--- specification, 3.1.3.)
+-- specification, 3.1.2.3.1.)
 pub record Apx : Type 0 where
   pub r3 : ℕ
   pub r4 : ℕ
