@@ -23,4 +23,6 @@ impl Registers for Numbers {
 #[cfg(test)]
 mod lists;
 #[cfg(test)]
+mod readme;
+#[cfg(test)]
 mod single;

@@ -1,0 +1,37 @@
+//! The README's example.
+
+use crate::Numbers;
+use cranelift_assembler_x64::inst::{andb_i, lock_addl_mr};
+use cranelift_assembler_x64::{
+    Amode, AmodeOffset, AmodeOffsetPlusKnownOffset, Fixed, Gpr, Imm8, Inst, Instruction, Notice,
+    Recorder, TrapCode, encode_all,
+};
+use std::num::NonZeroU8;
+use std::process::Abort;
+use std::test::Fail;
+
+#[test]
+fn an_atomic_addition_and_a_mask(rt: HostRuntime) -> Result<(), Fail> {
+    let code = TrapCode(NonZeroU8::new(5).ok_or("no code")?);
+    let counter = Amode::ImmReg {
+        base: 12,
+        simm32: AmodeOffsetPlusKnownOffset {
+            simm32: AmodeOffset::new(-128),
+            offset: None,
+        },
+        trap: Some(code),
+    };
+    let insts: [Inst<Numbers>; 2] = [
+        lock_addl_mr::new(counter, Gpr::new(9)).into(),
+        andb_i::new(Fixed(0), Imm8::new(0xAA)).into(),
+    ];
+    let mut sink = Recorder::new(rt.alloc());
+    assert!(rt; insts.iter().all(|inst| inst.is_encodable(&sink)));
+    assert_eq!(rt; encode_all(&insts, &mut sink), Ok(()));
+    assert_eq!(rt;
+        sink.bytes(),
+        [0xF0, 0x45, 0x01, 0x4C, 0x24, 0x80, 0x24, 0xAA].as_slice()
+    );
+    assert_eq!(rt; sink.notices(), [Notice::Trap(0, code)].as_slice());
+    Ok(())
+}
