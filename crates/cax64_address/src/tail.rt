@@ -8,7 +8,7 @@ ghost use Rattle.cax64_machine_code.specs.Fields.{IsBytes};
 ghost use Rattle.cax64_machine_code.specs.Tail.{IsTail};
 ghost use Rattle.cax64_sink.specs.Keeps.{Keeps};
 ghost use Rattle.cax64_sink.specs.Room.{HasRoom};
-ghost use Rattle.cax64_sink.specs.Sink.{Ran};
+ghost use Rattle.cax64_sink.specs.Sink.{Ran, all_bytes};
 
 use crate::amode::{Amode, Scale};
 use crate::disp::{Disp, encode_modrm};
@@ -73,7 +73,8 @@ fn base_tail(reg: u8, base: u8, displacement: i32, evex_scaling: Option<i8>) -> 
     requires reg { reg < 8 }
     requires base { base < 16 }
     requires factor { IfSome evex_scaling (λ n. pos 1 ≤ℤ n) }
-    ensures { TailOf 0 (base / 8) (factor_of evex_scaling) reg (Place.Mem (Some base) None displacement) (λ at. []) (tail_actions result) }
+    ensures tail { TailOf 0 (base / 8) (factor_of evex_scaling) reg (Place.Mem (Some base) None displacement) (λ at. []) (tail_actions result) }
+    ensures bytes { IsBytes (all_bytes (tail_actions result)) }
 {
     let low = base & 7;
     let mut disp = Disp::new(displacement, evex_scaling);
@@ -108,7 +109,8 @@ fn index_tail(
     requires index { index < 16 }
     requires non_rsp { index ≢ 4 }
     requires factor { IfSome evex_scaling (λ n. pos 1 ≤ℤ n) }
-    ensures { TailOf (index / 8) (base / 8) (factor_of evex_scaling) reg (Place.Mem (Some base) (Some (index, 2 ^ scale_number scale)) displacement) (λ at. []) (tail_actions result) }
+    ensures tail { TailOf (index / 8) (base / 8) (factor_of evex_scaling) reg (Place.Mem (Some base) (Some (index, 2 ^ scale_number scale)) displacement) (λ at. []) (tail_actions result) }
+    ensures bytes { IsBytes (all_bytes (tail_actions result)) }
 {
     let low = base & 7;
     let mut disp = Disp::new(displacement, evex_scaling);
@@ -125,7 +127,8 @@ fn index_tail(
 /// The tail of a place relative to the end, before this many bytes of immediate.
 fn relative_tail(reg: u8, target: DeferredTarget, bytes_at_end: u8) -> TailCode
     requires { reg < 8 }
-    ensures { (factor : ℕ) → TailOf 0 0 factor reg (Place.Rip (pos 0 -ℤ pos bytes_at_end)) (λ at. Notice.Target (at + 1) target ∷ []) (tail_actions result) }
+    ensures tail { (factor : ℕ) → TailOf 0 0 factor reg (Place.Rip (pos 0 -ℤ pos bytes_at_end)) (λ at. Notice.Target (at + 1) target ∷ []) (tail_actions result) }
+    ensures bytes { IsBytes (all_bytes (tail_actions result)) }
 {
     let field = (-i32::from(bytes_at_end)).cast_unsigned();
     TailCode {
@@ -146,7 +149,8 @@ pub fn tail_of<R: AsReg>(
 ) -> TailCode
     requires address { IsTrue (registers_are_real R.settled R.enc mem_e.now) }
     requires factor { IfSome evex_scaling (λ n. pos 1 ≤ℤ n) }
-    ensures { TailOf (index_bit R.enc mem_e.now) (base_bit R.enc mem_e.now) (factor_of evex_scaling) (enc_g % 8) (displaced_place R.enc displacement bytes_at_end mem_e.now) (target_notices mem_e.now) (tail_actions result) }
+    ensures tail { TailOf (index_bit R.enc mem_e.now) (base_bit R.enc mem_e.now) (factor_of evex_scaling) (enc_g % 8) (displaced_place R.enc displacement bytes_at_end mem_e.now) (target_notices mem_e.now) (tail_actions result) }
+    ensures bytes { IsBytes (all_bytes (tail_actions result)) }
 {
     let reg = enc_g % 8;
     match *mem_e {

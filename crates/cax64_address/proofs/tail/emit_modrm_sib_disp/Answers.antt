@@ -11,7 +11,7 @@ pub returns : goal.returns
 returns g c =
     let fits : FitsSigned w32 c.displacement-displacement.result = search rules in
     let known = to_z-of_z w32 c.displacement-displacement.result fits ∙ c.displacement-displacement.ensures in
-    let tail : TailOf (index_bit g.R.AsReg.enc c.args.mem_e.now) (base_bit g.R.AsReg.enc c.args.mem_e.now) (factor_of c.args.evex_scaling) (c.args.enc_g % 8) (place_of g.R.AsReg.enc (g.S.CodeSink.state c.args.sink.now).offsets c.args.bytes_at_end c.args.mem_e.now) (target_notices c.args.mem_e.now) (tail_actions c.tail_of-code.result) = rw known at c.tail_of-code.ensures in
+    let tail : TailOf (index_bit g.R.AsReg.enc c.args.mem_e.now) (base_bit g.R.AsReg.enc c.args.mem_e.now) (factor_of c.args.evex_scaling) (c.args.enc_g % 8) (place_of g.R.AsReg.enc (g.S.CodeSink.state c.args.sink.now).offsets c.args.bytes_at_end c.args.mem_e.now) (target_notices c.args.mem_e.now) (tail_actions c.tail_of-code.result) = rw known at c.tail_of-code.ensures.tail in
     record {
       adds = run_adds c.put.result tail c.put.ensures;
       leaves = run_leaves c.put.result tail c.put.ensures;
