@@ -2,9 +2,7 @@
 #![tactic(auto)]
 
 pub mod amode;
-
 pub mod disp;
 pub mod offset;
 pub mod operand;
-
 pub mod tail;

@@ -3,7 +3,8 @@
 ghost use Rattle.std.specs.Prelude.{◌≡◌, ◌≢◌, ◌+◌, ◌/◌, ◌%◌, ◌^◌, ◌<◌, ◌≤◌, ◌-ℤ◌, ◌∷◌, [], ℕ, List, Some, None, IsTrue, IfSome, IfErr, IsOk, OnOk, OnErr, pos, ◌≤ℤ◌, true, length};
 ghost use Rattle.cax64_address.specs.Address.{is_addressable, registers_are_real, scale_number, place_of, displaced_place, base_bit, index_bit, target_notices};
 ghost use Rattle.cax64_address.specs.Displacement.{factor_of};
-ghost use Rattle.cax64_address.specs.Emitted.{AddsTail, LeavesTail, TailOf, tail_actions, field_actions, sib_actions};
+ghost use Rattle.cax64_address.specs.Effective.{effective_address, ReadsAddress};
+ghost use Rattle.cax64_address.specs.Emitted.{AddsTail, AddsBytes, LeavesTail, TailOf, tail_actions, field_actions, sib_actions};
 ghost use Rattle.cax64_machine_code.specs.Fields.{IsBytes};
 ghost use Rattle.cax64_machine_code.specs.Tail.{IsTail};
 ghost use Rattle.cax64_sink.specs.Keeps.{Keeps};
@@ -156,7 +157,10 @@ pub fn tail_of<R: AsReg>(
     match *mem_e {
         Amode::ImmReg { base, .. } => base_tail(reg, base.enc(), displacement, evex_scaling),
         Amode::ImmRegRegShift {
-            base, index, scale, ..
+            base,
+            index,
+            scale,
+            ..
         } => index_tail(
             reg,
             base.enc(),
@@ -185,17 +189,17 @@ pub fn emit_modrm_sib_disp<R: AsReg, S: CodeSink>(
     requires address { IsTrue (is_addressable R.settled R.enc (S.state sink.old).offsets mem_e.now) }
     requires factor { IfSome evex_scaling (λ n. pos 1 ≤ℤ n) }
     ensures adds { OnOk result (AddsTail (index_bit R.enc mem_e.now) (base_bit R.enc mem_e.now) (factor_of evex_scaling) (enc_g % 8) (place_of R.enc (S.state sink.old).offsets bytes_at_end mem_e.now) (target_notices mem_e.now) (S.state sink.old) (S.state sink.new)) }
+    ensures bytes { OnOk result (AddsBytes (S.state sink.old) (S.state sink.new)) }
+    ensures address { OnOk result (ReadsAddress (index_bit R.enc mem_e.now) (base_bit R.enc mem_e.now) (factor_of evex_scaling) (effective_address R.enc (S.state sink.old).offsets bytes_at_end mem_e.now) (S.state sink.old) (S.state sink.new)) }
     ensures leaves { OnErr result (LeavesTail (index_bit R.enc mem_e.now) (base_bit R.enc mem_e.now) (factor_of evex_scaling) (enc_g % 8) (place_of R.enc (S.state sink.old).offsets bytes_at_end mem_e.now) (target_notices mem_e.now) (S.state sink.old) (S.state sink.new)) }
     ensures error { IfErr result (λ e. (S.state sink.old).answers e ≡ true) }
     ensures keeps { Keeps (S.state sink.old) (S.state sink.new) }
     // Any tail of bytes that reads as the operand shows how much room is enough: what is put is the shortest.
-    ensures room {
-      (t : List ℕ) → IsBytes t
-      → IsTail (index_bit R.enc mem_e.now) (base_bit R.enc mem_e.now) (factor_of evex_scaling) (enc_g % 8) (place_of R.enc (S.state sink.old).offsets bytes_at_end mem_e.now) t
-      → HasRoom (S.state sink.old).byte_room (length t)
-      → HasRoom (S.state sink.old).notice_room (length (target_notices mem_e.now 0))
-      → IsOk result
-    }
+    ensures room { (t : List ℕ) → IsBytes t
+        → IsTail (index_bit R.enc mem_e.now) (base_bit R.enc mem_e.now) (factor_of evex_scaling) (enc_g % 8) (place_of R.enc (S.state sink.old).offsets bytes_at_end mem_e.now) t
+        → HasRoom (S.state sink.old).byte_room (length t)
+        → HasRoom (S.state sink.old).notice_room (length (target_notices mem_e.now 0))
+        → IsOk result }
     ensures enough { HasRoom (S.state sink.old).byte_room 6 → HasRoom (S.state sink.old).notice_room 1 → IsOk result }
 {
     let displacement = mem_e.displacement(sink);

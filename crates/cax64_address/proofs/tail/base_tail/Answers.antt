@@ -33,8 +33,9 @@ returns-clause-tail c =
     let not_four : c.args.base % 8 ≢ 4 = omega (arith, and_mask c.args.base 3) in
     let byte : c.encode_modrm-2.result ≡ mode_of c.if-low-eq5.disp * 64 + c.args.reg * 8 + c.args.base % 8 = omega (arith, and_mask c.args.base 3) in
     let chosen : Chosen (factor_of c.args.evex_scaling) c.args.base c.args.displacement c.new-disp.result c.if-low-eq5.disp = elim c.if-low-eq5.branch [
-        then-low-eq5 w ↦ rw (w.disp-is, w.force_immediate.ensures) (chosen_five _ _ _ _ class back (omega (arith, and_mask c.args.base 3)))
-      | else-low-eq5 w ↦ rw w.disp-is (chosen_other _ _ _ _ class back (omega (arith, and_mask c.args.base 3))) ] in
+      | then-low-eq5 w ↦ rw (w.disp-is, w.force_immediate.ensures) (chosen_five _ _ _ _ class back (omega (arith, and_mask c.args.base 3)))
+      | else-low-eq5 w ↦ rw w.disp-is (chosen_other _ _ _ _ class back (omega (arith, and_mask c.args.base 3)))
+    ] in
     emits_base _ _ _ _ _ _ _ chosen c.requires.reg byte not_four
 
 pub returns-clause-bytes : goal.returns-clause-bytes
@@ -44,7 +45,8 @@ returns-clause-bytes c =
     let not_four : c.args.base % 8 ≢ 4 = omega (arith, and_mask c.args.base 3) in
     let byte : c.encode_modrm-2.result ≡ mode_of c.if-low-eq5.disp * 64 + c.args.reg * 8 + c.args.base % 8 = omega (arith, and_mask c.args.base 3) in
     let chosen : Chosen (factor_of c.args.evex_scaling) c.args.base c.args.displacement c.new-disp.result c.if-low-eq5.disp = elim c.if-low-eq5.branch [
-        then-low-eq5 w ↦ rw (w.disp-is, w.force_immediate.ensures) (chosen_five _ _ _ _ class back (omega (arith, and_mask c.args.base 3)))
-      | else-low-eq5 w ↦ rw w.disp-is (chosen_other _ _ _ _ class back (omega (arith, and_mask c.args.base 3))) ] in
+      | then-low-eq5 w ↦ rw (w.disp-is, w.force_immediate.ensures) (chosen_five _ _ _ _ class back (omega (arith, and_mask c.args.base 3)))
+      | else-low-eq5 w ↦ rw w.disp-is (chosen_other _ _ _ _ class back (omega (arith, and_mask c.args.base 3)))
+    ] in
     let small : c.args.base % 8 < 8 = omega arith in
     base_bytes _ _ _ _ _ _ _ _ chosen c.requires.reg small byte
