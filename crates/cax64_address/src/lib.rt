@@ -3,6 +3,7 @@
 
 pub mod amode;
 pub mod disp;
+pub mod laws;
 pub mod offset;
 pub mod operand;
 pub mod tail;
