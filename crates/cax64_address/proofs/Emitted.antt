@@ -1,5 +1,5 @@
-use Rattle.std.proofs.Common.{◌≡◌, ◌≢◌, ℕ, ◌+◌, ◌*◌, ◌^◌, ◌<◌, ◌≤◌, arith, refl, ◌∙◌, ap, sym, subst, List, [], ◌∷◌, ◌++◌, ℤ, pos, Some, Bool, true, false, length, append-nil, Result, Ok, Err}
-use Rattle.std.specs.Prelude.{if◌then◌else◌, OnOk, OnErr, IfErr, IsOk, Option, ◌+ℤ◌, ◌-ℤ◌, slice_index}
+use Rattle.std.proofs.Common.{◌≡◌, ◌≢◌, ℕ, ◌+◌, ◌*◌, ◌^◌, ◌<◌, ◌≤◌, arith, refl, ◌∙◌, ap, sym, subst, List, [], ◌∷◌, ◌++◌, ℤ, pos, Some, Bool, true, false, length, length-append, append-nil, Result, Ok, Err}
+use Rattle.std.specs.Prelude.{◌↔◌, ◌-◌, if◌then◌else◌, OnOk, OnErr, IfErr, IsOk, Option, ◌+ℤ◌, ◌-ℤ◌, slice_index}
 use Rattle.std.proofs.lemmas.Int.{ints}
 use Rattle.std.proofs.lemmas.List.{append_cancel_left}
 use Rattle.cax64_machine_code.specs.Fields.{IsBytes}
@@ -12,7 +12,9 @@ use Rattle.cax64_sink.specs.declared.SinkError.{SinkError}
 use Rattle.cax64_sink.specs.declared.Notice.{Notice}
 use Rattle.cax64_sink.proofs.Runs.{ran_bytes, ran_notices, ran_error}
 use Rattle.cax64_sink.proofs.Refusals.{ran_refusal}
-use Rattle.cax64_sink.proofs.Rooms.{less_room, ran_succeeds, size_is_length, notes_is_length}
+use Rattle.cax64_sink.specs.FixedSink.{fixed_sink_state}
+use Rattle.cax64_sink.specs.declared.fixed_sink.FixedSink.{FixedSink}
+use Rattle.cax64_sink.proofs.Rooms.{bytes_fit, less_room, ran_succeeds, size_is_length, notes_is_length}
 use Rattle.cax64_sink.proofs.Ends.{refused_bytes, refused_notices}
 use Rattle.cax64_address.specs.Address.{target_notices, place_of, scale_number}
 use Rattle.cax64_address.specs.declared.amode.Amode.{Amode}
@@ -20,7 +22,7 @@ use Rattle.cax64_address.specs.declared.amode.Amode.TheVariants.{ImmReg, ImmRegR
 use Rattle.cax64_address.specs.declared.amode.Scale.{Scale}
 use Rattle.cax64_address.specs.declared.amode.Scale.TheVariants.{One, Two, Four, Eight}
 use Rattle.cax64_address.specs.Effective.{effective_address, scale_factor, ReadsAddress}
-use Rattle.cax64_address.specs.Emitted.{TailOf, AddsTail, AddsBytes, LeavesTail}
+use Rattle.cax64_address.specs.Emitted.{TailOf, AddsTail, AddsBytes, FitsTail, LeavesTail}
 
 told_same : (records : Bool) (old a b : List Notice) → a ≡ b → (if records then old ++ a else old) ≡ (if records then old ++ b else old)
 told_same records old a b e = rw e refl
@@ -124,3 +126,14 @@ run_address {x = x} {b} {factor} {reg} {acts = acts} enc offsets at_end amode (O
       subst (λ (p : Place). address_of p regs end ≡ Some (effective_address enc offsets at_end amode regs end)) same (place_address enc offsets at_end amode regs end);
 }
 run_address enc offsets at_end amode (Err e) h run = tt
+
+-- over a fixed sink a call with these clauses succeeds exactly where some tail fits
+pub fixed_fits : {N x b factor reg : ℕ} {place : Place} (told : ℕ → List Notice) (s t : FixedSink N) (r : Result (Unit {0}) SinkError) → OnOk r (AddsTail x b factor reg place told (fixed_sink_state s) (fixed_sink_state t)) → OnOk r (AddsBytes (fixed_sink_state s) (fixed_sink_state t)) → ((u : List ℕ) → IsBytes u → IsTail x b factor reg place u → length u ≤ N - length (fixed_sink_state s).bytes → IsOk r) → IsOk r ↔ FitsTail x b factor reg place (N - length (fixed_sink_state s).bytes)
+fixed_fits {N = N} told s t (Ok tt) adds are room = (
+  λ _.
+      let sum : length (fixed_sink_state t).bytes ≡ length (fixed_sink_state s).bytes + length adds.added = ap length adds.bytes ∙ length-append (fixed_sink_state s).bytes adds.added in
+      let within : length (fixed_sink_state t).bytes ≤ N = bytes_fit t in
+      record { whole = adds.added; are_bytes = are.are_bytes adds.added adds.bytes; tail = adds.tail; fits = omega arith },
+  λ h. refl,
+)
+fixed_fits {N = N} told s t (Err e) adds are room = (λ (bad : IsOk {T = Unit {0}} (Err e)). cc, λ h. room h.whole h.are_bytes h.tail h.fits)
