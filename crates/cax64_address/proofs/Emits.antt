@@ -1,23 +1,19 @@
-use Rattle.std.proofs.Common.{◌≡◌, ◌≢◌, ℕ, zero, suc, ◌+◌, ◌*◌, ◌/◌, ◌%◌, ◌^◌, ◌<◌, ◌≤◌, arith, refl, ◌∙◌, ap, sym, List, [], ◌∷◌, ◌++◌, ℤ, pos, Some, Bool, true, false, length, Option}
+use Rattle.std.proofs.Common.{◌≡◌, ◌≢◌, ℕ, ◌+◌, ◌*◌, ◌/◌, ◌%◌, ◌^◌, ◌<◌, ◌≤◌, arith, refl, ◌∙◌, ap, sym, List, [], ◌∷◌, ◌++◌, ℤ, pos, Some, Bool, true, false, length, Option}
 use Rattle.std.specs.Prelude as std
 use Rattle.std.specs.Prelude.{◌==◌, ◌&&◌, if◌then◌else◌, ◌-ℤ◌, ◌*ℤ◌}
 use Rattle.std.specs.Int.{cast_unsigned, cast_signed, w8, w32, to_le_bytes}
 use Rattle.std.specs.Int.RustNames.{FitsSigned}
 use Rattle.std.proofs.lemmas.Bool.Decides.{nat_tests}
 use Rattle.std.proofs.lemmas.Int.{ints}
-use Rattle.std.proofs.lemmas.List.{length-append}
 use Rattle.std.proofs.lemmas.Option.{some_pair_parts}
-use Rattle.cax64_machine_code.specs.Tail.{disp_at, disp8_at, disp32_at, read_tail, IsTail}
-use Rattle.cax64_machine_code.specs.Fields.{IsBytes, s8, s32, number_at}
-use Rattle.cax64_machine_code.specs.Shortest.{Shortest}
-use Rattle.cax64_machine_code.specs.declared.reading.Place.{Place}
+use Rattle.cax64_machine_code.specs.Tail.{disp_at, disp8_at, disp32_at}
+use Rattle.cax64_machine_code.specs.Fields.{IsBytes, s8, number_at}
 use Rattle.cax64_machine_code.specs.declared.reading.Place.TheVariants.{Mem, Rip}
 use Rattle.cax64_machine_code.proofs.Tails.{base_back, sib_back, relative_back}
 use Rattle.cax64_machine_code.proofs.Bytes.{four_back, s32_back}
 use Rattle.cax64_machine_code.proofs.Forms.{MemForm, mem_form, rip_length, disp32_length, first_byte}
-use Rattle.cax64_sink.specs.Sink.{Action, put, target, bytes_of, all_bytes, all_notices}
+use Rattle.cax64_sink.specs.Sink.{put, target, all_bytes, all_notices}
 use Rattle.cax64_sink.specs.Ends.{EndsInBytes}
-use Rattle.cax64_sink.specs.declared.Notice.{Notice}
 use Rattle.cax64_sink.specs.declared.Notice.TheVariants.{Target}
 use Rattle.cax64_sink.specs.declared.DeferredTarget.{DeferredTarget}
 use Rattle.cax64_address.specs.Displacement.{GivesBack, IsClassOf, mode_of, disp_actions, forced}

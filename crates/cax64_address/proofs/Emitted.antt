@@ -1,12 +1,12 @@
-use Rattle.std.proofs.Common.{◌≡◌, ◌≢◌, ℕ, ◌+◌, ◌*◌, ◌^◌, ◌<◌, ◌≤◌, arith, refl, ◌∙◌, ap, sym, subst, List, [], ◌∷◌, ◌++◌, ℤ, pos, Some, Bool, true, false, length, length-append, append-nil, Result, Ok, Err}
+use Rattle.std.proofs.Common.{◌≡◌, ◌≢◌, ℕ, ◌+◌, ◌^◌, ◌<◌, ◌≤◌, arith, refl, ◌∙◌, ap, sym, subst, List, [], ◌∷◌, ◌++◌, ℤ, pos, Some, Bool, true, length, length-append, append-nil, Result, Ok, Err}
 use Rattle.std.specs.Prelude.{◌↔◌, ◌-◌, if◌then◌else◌, OnOk, OnErr, IfErr, IsOk, Option, ◌+ℤ◌, ◌-ℤ◌, slice_index}
 use Rattle.std.proofs.lemmas.Int.{ints}
 use Rattle.std.proofs.lemmas.List.{append_cancel_left}
 use Rattle.cax64_machine_code.specs.Fields.{IsBytes}
-use Rattle.cax64_machine_code.specs.Address.{address_of, modulo_64_bits}
+use Rattle.cax64_machine_code.specs.Address.{address_of}
 use Rattle.cax64_machine_code.specs.Tail.{IsTail, Tail, read_tail}
 use Rattle.cax64_machine_code.specs.declared.reading.Place.{Place}
-use Rattle.cax64_sink.specs.Room.{Room, HasRoom}
+use Rattle.cax64_sink.specs.Room.{HasRoom}
 use Rattle.cax64_sink.specs.Sink.{State, Action, Ran, all_bytes, all_notices, size, notes}
 use Rattle.cax64_sink.specs.declared.SinkError.{SinkError}
 use Rattle.cax64_sink.specs.declared.Notice.{Notice}

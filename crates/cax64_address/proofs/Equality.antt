@@ -1,4 +1,4 @@
-use Rattle.std.proofs.Common.{◌≡◌, ◌↔◌, ◌&&◌, Bool, true, false, nat_eq, refl, rules, ap, ℤ, Option, Some, None}
+use Rattle.std.proofs.Common.{◌≡◌, ◌↔◌, ◌&&◌, Bool, true, false, nat_eq, refl, rules, ap, Option, Some, None}
 use Rattle.std.proofs.Common.{int_eq}
 use Rattle.std.specs.Option.{option_eq}
 use Rattle.cax64_sink.proofs.Equality.{same_trap_code}

@@ -7,3 +7,5 @@ pub mod laws;
 pub mod offset;
 pub mod operand;
 pub mod tail;
+#[cfg(test)]
+mod tests;

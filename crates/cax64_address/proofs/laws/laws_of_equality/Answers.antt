@@ -1,6 +1,4 @@
-use Rattle.std.proofs.Common.{rules, ◌≡◌, ◌↔◌, true, false, Bool, ◌&&◌, refl, arith}
-use Rattle.cax64_address.specs.Same.{SameAmode, SameGprMem}
-use Rattle.cax64_address.specs.declared.amode.Amode.{Amode}
+use Rattle.std.proofs.Common.{rules}
 use Rattle.cax64_address.specs.declared.amode.Amode.TheVariants.{ImmReg, ImmRegRegShift, RipRelative}
 use Rattle.cax64_address.specs.declared.operand.GprMem.TheVariants.{Gpr, Mem}
 use Rattle.cax64_address.proofs.Equality.{tells_three, tells_five, tells_itself, tells_target, tells_scale, tells_late, tells_offset, tells_trap}

@@ -1,7 +1,7 @@
-use Rattle.std.proofs.Common.{◌%◌, ◌≡◌, ◌∙◌, FitsSigned, w32, rules, ap}
+use Rattle.std.proofs.Common.{◌%◌, ◌∙◌, FitsSigned, w32, rules}
 use Rattle.std.proofs.lemmas.Int.{to_z-of_z}
 use Rattle.cax64_sink.proofs.Ends.{ran_keeps}
-use Rattle.cax64_address.specs.Address.{place_of, displaced_place, displacement_of, index_bit, base_bit, target_notices}
+use Rattle.cax64_address.specs.Address.{place_of, index_bit, base_bit, target_notices}
 use Rattle.cax64_address.specs.Displacement.{factor_of}
 use Rattle.cax64_address.specs.Emitted.{TailOf, tail_actions}
 use Rattle.cax64_address.proofs.Emitted.{run_adds, run_bytes, run_address, run_leaves, run_error, run_room, run_enough, one_notice}
