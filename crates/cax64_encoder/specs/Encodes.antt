@@ -95,6 +95,11 @@ memory_in place.TheVariants.NoPlace = None
 memory_in (place.TheVariants.Register number) = None
 memory_in (place.TheVariants.Memory amode) = Some amode
 
+abbrev pub trap_in : {M : Type 0} → PlaceOperand M → Option TrapCode
+trap_in place.TheVariants.NoPlace = None
+trap_in (place.TheVariants.Register number) = None
+trap_in (place.TheVariants.Memory amode) = trap_of amode
+
 abbrev pub trap_notice : Option TrapCode → ℕ → List Notice
 trap_notice None at = []
 trap_notice (Some code) at = Trap at code ∷ []

@@ -3,11 +3,12 @@
 ghost use Rattle.std.specs.Prelude.{◌≡◌, ◌==◌, ◌<◌, ◌/◌, ◌&&◌, ◌||◌, ◌↔◌, false, IsTrue, IsSome, IfSome, Option, option_map, unwrap_or, pos};
 ghost use Rattle.std.specs.Int.{from_bool};
 ghost use Rattle.cax64_encoder.specs.Code.{prefix_actions, tail_actions, code_actions};
-ghost use Rattle.cax64_encoder.specs.Encodes.{reg_number, rex_stands, TailPartOf, PrefixFor};
+ghost use Rattle.cax64_encoder.specs.Encodes.{reg_number, rex_stands, trap_in, memory_in, operand_parts, TailPartOf, PrefixFor, EncodesAs};
 ghost use Rattle.cax64_encoder.specs.Fits.{has_8bit, has_tail, is_w, is_w0, is_no_place, vvvv_fits, is_line, fits};
 ghost use Rattle.cax64_encoder.specs.Operands.{are_real, number_value, place_is_real, is_absent_or_real, place_x, place_b, imm_size};
 ghost use Rattle.cax64_machine_code.specs.Line.{w_matches};
 ghost use Rattle.cax64_machine_code.specs.Prefix.{rex_bits};
+ghost use Rattle.cax64_machine_code.specs.Rows.{line_of};
 ghost use Rattle.cax64_sink.specs.Sink.{all_bytes};
 
 use crate::code::{Code, PrefixCode, TailPart};
@@ -18,7 +19,9 @@ use cax64_address::tail::tail_of;
 use cax64_machine_code::line::{Line, PlaceField, PrefixField, RegField, TailField};
 use cax64_prefix::rex::RexPrefix;
 use cax64_prefix::vex::VexPrefix;
+use cax64_machine_code::row::Row;
 use cax64_register::AsReg;
+use cax64_sink::TrapCode;
 
 /// Whether a row has an 8-bit register field.
 fn has_8bit(tail: TailField) -> bool
@@ -176,5 +179,35 @@ fn imm_size(imm: Option<ImmOperand>) -> u8
         Some(ImmOperand::Imm16(_)) => 2,
         Some(ImmOperand::Imm32(_)) => 4,
         Some(ImmOperand::Simm32(_)) => 4,
+    }
+}
+
+/// The trap of the memory operand.
+fn trap_of<M: AsReg>(place: &PlaceOperand<M>) -> Option<TrapCode>
+    ensures { result ≡ trap_in place.now }
+{
+    match place {
+        PlaceOperand::Memory(amode) => amode.trap_code(),
+        _ => None,
+    }
+}
+
+/// The code of the instruction of a row with these operands, whose memory operand has this displacement.
+pub fn code_of<M: AsReg>(line: Line, operands: &Operands<M>, displacement: i32) -> Code
+    requires line { IsTrue (is_line line) }
+    requires fits { IsTrue (fits line operands.now) }
+    requires real { IsTrue (are_real M.settled M.enc operands.now) }
+    ensures {
+      (row : Row) → line_of row ≡ line
+      → EncodesAs (operand_parts M.enc row displacement operands.now) (memory_in operands.now.place) (code_actions result)
+    }
+{
+    let reg = reg_number(line.tail, operands.reg);
+    Code {
+        trap: trap_of(&operands.place),
+        prefix: prefix_of(line, reg, operands.vvvv, &operands.place),
+        opcode: line.opcode,
+        tail: tail_part(reg, &operands.place, displacement, imm_size(operands.imm)),
+        imm: operands.imm,
     }
 }
