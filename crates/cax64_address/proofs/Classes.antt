@@ -1,11 +1,10 @@
-use Rattle.std.proofs.Common.{◌≡◌, ◌≢◌, ℕ, zero, suc, ◌+◌, ◌*◌, ◌/◌, ◌%◌, ◌^◌, ◌<◌, ◌≤◌, arith, refl, ◌∙◌, ap, sym, List, [], ◌∷◌, ◌++◌, ℤ, pos, Some, ◌*ℤ◌, ◌+ℤ◌, ◌-ℤ◌, ◌≤ℤ◌, ◌<ℤ◌}
-use Rattle.std.specs.Int.{cast_unsigned, cast_signed, w8, w32, to_le_bytes}
+use Rattle.std.proofs.Common.{◌≡◌, ◌≢◌, ℕ, zero, suc, ◌*◌, ◌^◌, ◌<◌, ◌≤◌, arith, refl, ◌∙◌, ap, sym, ℤ, pos, Some, ◌*ℤ◌, ◌+ℤ◌, ◌-ℤ◌, ◌≤ℤ◌, ◌<ℤ◌}
+use Rattle.std.specs.Int.{cast_unsigned, cast_signed, w8, w32}
 use Rattle.std.specs.Int.RustNames.{FitsSigned, int_rem, int_div, unsigned_abs}
-use Rattle.std.proofs.lemmas.Int.{ints, to_z-of_z, quot_rem_is, quot_fits, quot_is, rem_is, rem_below, quot-rem, unsigned_abs-mul}
+use Rattle.std.proofs.lemmas.Int.{ints, to_z-of_z, quot_rem_is, quot_fits, rem_below, quot-rem, unsigned_abs-mul}
 use Rattle.std.proofs.Math.Nat.{mul-le-mul_left}
 use Rattle.std.proofs.Math.IntN.{*ℤ_comm, *ℤ-zero, suc_ℤ-*ℤ}
 use Rattle.cax64_machine_code.specs.Tail.{disp_at}
-use Rattle.cax64_machine_code.specs.Fields.{s8, s32, number_at}
 use Rattle.cax64_machine_code.proofs.Bytes.{s8_back, s32_back, one_back, four_back}
 use Rattle.cax64_address.specs.Displacement.{GivesBack, IsClassOf}
 use Rattle.cax64_address.specs.declared.disp.Disp.{Disp}

@@ -1,23 +1,19 @@
-use Rattle.std.proofs.Common.{◌≡◌, ◌≢◌, ℕ, zero, suc, ◌+◌, ◌*◌, ◌/◌, ◌%◌, ◌^◌, ◌<◌, ◌≤◌, arith, refl, ◌∙◌, ap, sym, List, [], ◌∷◌, ◌++◌, ℤ, pos, Some, Bool, true, false, length, Option}
+use Rattle.std.proofs.Common.{◌≡◌, ◌≢◌, ℕ, ◌+◌, ◌*◌, ◌/◌, ◌%◌, ◌^◌, ◌<◌, ◌≤◌, arith, refl, ◌∙◌, ap, sym, List, [], ◌∷◌, ◌++◌, ℤ, pos, Some, Bool, true, false, length, Option}
 use Rattle.std.specs.Prelude as std
 use Rattle.std.specs.Prelude.{◌==◌, ◌&&◌, if◌then◌else◌, ◌-ℤ◌, ◌*ℤ◌}
 use Rattle.std.specs.Int.{cast_unsigned, cast_signed, w8, w32, to_le_bytes}
 use Rattle.std.specs.Int.RustNames.{FitsSigned}
 use Rattle.std.proofs.lemmas.Bool.Decides.{nat_tests}
 use Rattle.std.proofs.lemmas.Int.{ints}
-use Rattle.std.proofs.lemmas.List.{length-append}
 use Rattle.std.proofs.lemmas.Option.{some_pair_parts}
-use Rattle.cax64_machine_code.specs.Tail.{disp_at, disp8_at, disp32_at, read_tail, IsTail}
-use Rattle.cax64_machine_code.specs.Fields.{IsBytes, s8, s32, number_at}
-use Rattle.cax64_machine_code.specs.Shortest.{Shortest}
-use Rattle.cax64_machine_code.specs.declared.reading.Place.{Place}
+use Rattle.cax64_machine_code.specs.Tail.{disp_at, disp8_at, disp32_at}
+use Rattle.cax64_machine_code.specs.Fields.{IsBytes, s8, number_at}
 use Rattle.cax64_machine_code.specs.declared.reading.Place.TheVariants.{Mem, Rip}
 use Rattle.cax64_machine_code.proofs.Tails.{base_back, sib_back, relative_back}
 use Rattle.cax64_machine_code.proofs.Bytes.{four_back, s32_back}
 use Rattle.cax64_machine_code.proofs.Forms.{MemForm, mem_form, rip_length, disp32_length, first_byte}
-use Rattle.cax64_sink.specs.Sink.{Action, put, target, bytes_of, all_bytes, all_notices}
+use Rattle.cax64_sink.specs.Sink.{put, target, all_bytes, all_notices}
 use Rattle.cax64_sink.specs.Ends.{EndsInBytes}
-use Rattle.cax64_sink.specs.declared.Notice.{Notice}
 use Rattle.cax64_sink.specs.declared.Notice.TheVariants.{Target}
 use Rattle.cax64_sink.specs.declared.DeferredTarget.{DeferredTarget}
 use Rattle.cax64_address.specs.Displacement.{GivesBack, IsClassOf, mode_of, disp_actions, forced}
@@ -148,9 +144,11 @@ emits_base n reg base m v d e h hf em h4 = record {
         rw em (base_back 0 (base / 8) n (mode_of e) reg (base % 8) (all_bytes (disp_actions e)) rest v hf hl (mode_below e) h4 (chosen_mode n base v d e h) (h.back.reads rest)
         ∙ ap (λ (k : ℕ). Some (record { reg = reg; place = Mem (Some k) std.None v; rest = rest })) (whole base));
   };
-  shortest = record { least = λ u hb hu.
+  shortest = record {
+    least = λ u hb hu.
         let form = mem_form 0 (base / 8) n base std.None v u _ hb refl refl hu in
-        omega (arith, field_least 0 (base / 8) n base std.None v d e u h form, form.length_is, form.before_least) };
+        omega (arith, field_least 0 (base / 8) n base std.None v d e u h form, form.length_is, form.before_least);
+  };
   notices = λ at. quiet e (at + 1);
   ends = ends_with e m;
   most = omega (arith, four_at_most e);
@@ -166,9 +164,11 @@ emits_stack n reg base m v d e h hf em h4 = record {
         rw em (sib_back 0 (base / 8) n (mode_of e) reg 0 4 4 (all_bytes (disp_actions e)) rest v hf hl (mode_below e) hl (λ f. omega arith) (h.back.reads rest)
         ∙ ap (λ (k : ℕ). Some (record { reg = reg; place = Mem (Some k) std.None v; rest = rest })) same);
   };
-  shortest = record { least = λ u hb hu.
+  shortest = record {
+    least = λ u hb hu.
         let form = mem_form 0 (base / 8) n base std.None v u _ hb refl refl hu in
-        omega (arith, field_least 0 (base / 8) n base std.None v d e u h form, form.length_is, form.base_four h4) };
+        omega (arith, field_least 0 (base / 8) n base std.None v d e u h form, form.length_is, form.base_four h4);
+  };
   notices = λ at. quiet e (at + 1 + 1);
   ends = ends_behind e m 36;
   most = omega (arith, four_at_most e);
@@ -187,9 +187,11 @@ emits_index n reg base index scale m sib v d e h hf h4 em es = record {
         rw (em, es) (sib_back (index / 8) (base / 8) n (mode_of e) reg scale (index % 8) (base % 8) (all_bytes (disp_actions e)) rest v hf hl (mode_below e) hi (chosen_mode n base v d e h) (h.back.reads rest)
         ∙ rw (not_four index h4, whole base, whole index) refl);
   };
-  shortest = record { least = λ u hb hu.
+  shortest = record {
+    least = λ u hb hu.
         let form = mem_form (index / 8) (base / 8) n base (Some (index, 2 ^ scale)) v u _ hb refl refl hu in
-        omega (arith, field_least (index / 8) (base / 8) n base (Some (index, 2 ^ scale)) v d e u h form, form.length_is, form.indexed refl) };
+        omega (arith, field_least (index / 8) (base / 8) n base (Some (index, 2 ^ scale)) v d e u h form, form.length_is, form.indexed refl);
+  };
   notices = λ at. quiet e (at + 1 + 1);
   ends = ends_behind e m sib;
   most = omega (arith, four_at_most e);

@@ -1,4 +1,4 @@
-use Rattle.std.specs.Prelude.{◌≡◌, ℕ, ◌/◌, ◌^◌, ◌&&◌, List, [], ◌∷◌, ◌+◌, ℤ, pos, ◌-ℤ◌, Option, Some, None, Bool, true}
+use Rattle.std.specs.Prelude.{ℕ, ◌/◌, ◌^◌, ◌&&◌, List, [], ◌∷◌, ◌+◌, ℤ, pos, ◌-ℤ◌, Option, Some, None, Bool, true}
 use Rattle.cax64_machine_code.specs.declared.reading.Place.{Place}
 use Rattle.cax64_machine_code.specs.declared.reading.Place.TheVariants.{Mem, Rip}
 use Rattle.cax64_register.specs.Real.{is_real, is_real_non_rsp}

@@ -1,6 +1,7 @@
-use Rattle.std.specs.Prelude.{◌≡◌, ◌≤◌, ℕ, ◌+◌, List, [], ◌∷◌, ◌++◌, Option, Some, None, length, if◌then◌else◌}
+use Rattle.std.specs.Prelude.{◌≡◌, ◌≤◌, ℕ, List, [], ◌∷◌, ◌++◌, Option, Some, None, length, if◌then◌else◌}
 use Rattle.std.specs.Int.{to_le_bytes, w32}
 use Rattle.cax64_machine_code.specs.declared.reading.Place.{Place}
+use Rattle.cax64_machine_code.specs.Fields.{IsBytes}
 use Rattle.cax64_machine_code.specs.Tail.{IsTail}
 use Rattle.cax64_machine_code.specs.Sequence.{IsProperFront}
 use Rattle.cax64_machine_code.specs.Shortest.{Shortest}
@@ -39,6 +40,17 @@ pub record AddsTail (x b factor reg : ℕ) (place : Place) (told : ℕ → List 
   pub tail : IsTail x b factor reg place added
   pub shortest : Shortest x b factor reg place added
   pub notices : new.notices ≡ (if old.records then old.notices ++ told (length old.bytes) else old.notices)
+
+-- what a sink has got are bytes
+pub record AddsBytes (old new : State) : Type 0 where
+  pub are_bytes : (added : List ℕ) → new.bytes ≡ old.bytes ++ added → IsBytes added
+
+-- some tail of this reg field and place has no more bytes than these
+pub record FitsTail (x b factor reg : ℕ) (place : Place) (left : ℕ) : Type 0 where
+  pub whole : List ℕ
+  pub are_bytes : IsBytes whole
+  pub tail : IsTail x b factor reg place whole
+  pub fits : length whole ≤ left
 
 -- a sink has got a proper front of such a tail, and a front of its notices
 pub record LeavesTail (x b factor reg : ℕ) (place : Place) (told : ℕ → List Notice) (old new : State) : Type 0 where

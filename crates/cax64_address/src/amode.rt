@@ -63,7 +63,9 @@ pub enum Amode<R: AsReg> {
         trap: Option<TrapCode>,
     },
     /// A place that is settled later, relative to the end of the instruction.
-    RipRelative { target: DeferredTarget },
+    RipRelative {
+        target: DeferredTarget,
+    },
 }
 
 impl<R: AsReg> Amode<R> {

@@ -2,9 +2,10 @@
 #![tactic(auto)]
 
 pub mod amode;
-
 pub mod disp;
+pub mod laws;
 pub mod offset;
 pub mod operand;
-
 pub mod tail;
+#[cfg(test)]
+mod tests;

@@ -54,7 +54,7 @@ impl From<i32> for AmodeOffset {
     ghost from_gives = { λ value offset. offset ≡ value };
 
     fn from(value: i32) -> AmodeOffset {
-        AmodeOffset(value)
+        AmodeOffset::new(value)
     }
 }
 

@@ -3,12 +3,13 @@
 ghost use Rattle.std.specs.Prelude.{◌≡◌, ◌≢◌, ◌+◌, ◌/◌, ◌%◌, ◌^◌, ◌<◌, ◌≤◌, ◌-ℤ◌, ◌∷◌, [], ℕ, List, Some, None, IsTrue, IfSome, IfErr, IsOk, OnOk, OnErr, pos, ◌≤ℤ◌, true, length};
 ghost use Rattle.cax64_address.specs.Address.{is_addressable, registers_are_real, scale_number, place_of, displaced_place, base_bit, index_bit, target_notices};
 ghost use Rattle.cax64_address.specs.Displacement.{factor_of};
-ghost use Rattle.cax64_address.specs.Emitted.{AddsTail, LeavesTail, TailOf, tail_actions, field_actions, sib_actions};
+ghost use Rattle.cax64_address.specs.Effective.{effective_address, ReadsAddress};
+ghost use Rattle.cax64_address.specs.Emitted.{AddsTail, AddsBytes, LeavesTail, TailOf, tail_actions, field_actions, sib_actions};
 ghost use Rattle.cax64_machine_code.specs.Fields.{IsBytes};
 ghost use Rattle.cax64_machine_code.specs.Tail.{IsTail};
 ghost use Rattle.cax64_sink.specs.Keeps.{Keeps};
 ghost use Rattle.cax64_sink.specs.Room.{HasRoom};
-ghost use Rattle.cax64_sink.specs.Sink.{Ran};
+ghost use Rattle.cax64_sink.specs.Sink.{Ran, all_bytes};
 
 use crate::amode::{Amode, Scale};
 use crate::disp::{Disp, encode_modrm};
@@ -73,7 +74,8 @@ fn base_tail(reg: u8, base: u8, displacement: i32, evex_scaling: Option<i8>) -> 
     requires reg { reg < 8 }
     requires base { base < 16 }
     requires factor { IfSome evex_scaling (λ n. pos 1 ≤ℤ n) }
-    ensures { TailOf 0 (base / 8) (factor_of evex_scaling) reg (Place.Mem (Some base) None displacement) (λ at. []) (tail_actions result) }
+    ensures tail { TailOf 0 (base / 8) (factor_of evex_scaling) reg (Place.Mem (Some base) None displacement) (λ at. []) (tail_actions result) }
+    ensures bytes { IsBytes (all_bytes (tail_actions result)) }
 {
     let low = base & 7;
     let mut disp = Disp::new(displacement, evex_scaling);
@@ -108,7 +110,8 @@ fn index_tail(
     requires index { index < 16 }
     requires non_rsp { index ≢ 4 }
     requires factor { IfSome evex_scaling (λ n. pos 1 ≤ℤ n) }
-    ensures { TailOf (index / 8) (base / 8) (factor_of evex_scaling) reg (Place.Mem (Some base) (Some (index, 2 ^ scale_number scale)) displacement) (λ at. []) (tail_actions result) }
+    ensures tail { TailOf (index / 8) (base / 8) (factor_of evex_scaling) reg (Place.Mem (Some base) (Some (index, 2 ^ scale_number scale)) displacement) (λ at. []) (tail_actions result) }
+    ensures bytes { IsBytes (all_bytes (tail_actions result)) }
 {
     let low = base & 7;
     let mut disp = Disp::new(displacement, evex_scaling);
@@ -125,7 +128,8 @@ fn index_tail(
 /// The tail of a place relative to the end, before this many bytes of immediate.
 fn relative_tail(reg: u8, target: DeferredTarget, bytes_at_end: u8) -> TailCode
     requires { reg < 8 }
-    ensures { (factor : ℕ) → TailOf 0 0 factor reg (Place.Rip (pos 0 -ℤ pos bytes_at_end)) (λ at. Notice.Target (at + 1) target ∷ []) (tail_actions result) }
+    ensures tail { (factor : ℕ) → TailOf 0 0 factor reg (Place.Rip (pos 0 -ℤ pos bytes_at_end)) (λ at. Notice.Target (at + 1) target ∷ []) (tail_actions result) }
+    ensures bytes { IsBytes (all_bytes (tail_actions result)) }
 {
     let field = (-i32::from(bytes_at_end)).cast_unsigned();
     TailCode {
@@ -146,13 +150,17 @@ pub fn tail_of<R: AsReg>(
 ) -> TailCode
     requires address { IsTrue (registers_are_real R.settled R.enc mem_e.now) }
     requires factor { IfSome evex_scaling (λ n. pos 1 ≤ℤ n) }
-    ensures { TailOf (index_bit R.enc mem_e.now) (base_bit R.enc mem_e.now) (factor_of evex_scaling) (enc_g % 8) (displaced_place R.enc displacement bytes_at_end mem_e.now) (target_notices mem_e.now) (tail_actions result) }
+    ensures tail { TailOf (index_bit R.enc mem_e.now) (base_bit R.enc mem_e.now) (factor_of evex_scaling) (enc_g % 8) (displaced_place R.enc displacement bytes_at_end mem_e.now) (target_notices mem_e.now) (tail_actions result) }
+    ensures bytes { IsBytes (all_bytes (tail_actions result)) }
 {
     let reg = enc_g % 8;
     match *mem_e {
         Amode::ImmReg { base, .. } => base_tail(reg, base.enc(), displacement, evex_scaling),
         Amode::ImmRegRegShift {
-            base, index, scale, ..
+            base,
+            index,
+            scale,
+            ..
         } => index_tail(
             reg,
             base.enc(),
@@ -181,17 +189,17 @@ pub fn emit_modrm_sib_disp<R: AsReg, S: CodeSink>(
     requires address { IsTrue (is_addressable R.settled R.enc (S.state sink.old).offsets mem_e.now) }
     requires factor { IfSome evex_scaling (λ n. pos 1 ≤ℤ n) }
     ensures adds { OnOk result (AddsTail (index_bit R.enc mem_e.now) (base_bit R.enc mem_e.now) (factor_of evex_scaling) (enc_g % 8) (place_of R.enc (S.state sink.old).offsets bytes_at_end mem_e.now) (target_notices mem_e.now) (S.state sink.old) (S.state sink.new)) }
+    ensures bytes { OnOk result (AddsBytes (S.state sink.old) (S.state sink.new)) }
+    ensures address { OnOk result (ReadsAddress (index_bit R.enc mem_e.now) (base_bit R.enc mem_e.now) (factor_of evex_scaling) (effective_address R.enc (S.state sink.old).offsets bytes_at_end mem_e.now) (S.state sink.old) (S.state sink.new)) }
     ensures leaves { OnErr result (LeavesTail (index_bit R.enc mem_e.now) (base_bit R.enc mem_e.now) (factor_of evex_scaling) (enc_g % 8) (place_of R.enc (S.state sink.old).offsets bytes_at_end mem_e.now) (target_notices mem_e.now) (S.state sink.old) (S.state sink.new)) }
     ensures error { IfErr result (λ e. (S.state sink.old).answers e ≡ true) }
     ensures keeps { Keeps (S.state sink.old) (S.state sink.new) }
     // Any tail of bytes that reads as the operand shows how much room is enough: what is put is the shortest.
-    ensures room {
-      (t : List ℕ) → IsBytes t
-      → IsTail (index_bit R.enc mem_e.now) (base_bit R.enc mem_e.now) (factor_of evex_scaling) (enc_g % 8) (place_of R.enc (S.state sink.old).offsets bytes_at_end mem_e.now) t
-      → HasRoom (S.state sink.old).byte_room (length t)
-      → HasRoom (S.state sink.old).notice_room (length (target_notices mem_e.now 0))
-      → IsOk result
-    }
+    ensures room { (t : List ℕ) → IsBytes t
+        → IsTail (index_bit R.enc mem_e.now) (base_bit R.enc mem_e.now) (factor_of evex_scaling) (enc_g % 8) (place_of R.enc (S.state sink.old).offsets bytes_at_end mem_e.now) t
+        → HasRoom (S.state sink.old).byte_room (length t)
+        → HasRoom (S.state sink.old).notice_room (length (target_notices mem_e.now 0))
+        → IsOk result }
     ensures enough { HasRoom (S.state sink.old).byte_room 6 → HasRoom (S.state sink.old).notice_room 1 → IsOk result }
 {
     let displacement = mem_e.displacement(sink);

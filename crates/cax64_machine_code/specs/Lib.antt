@@ -1,5 +1,6 @@
 pub mod Fields
 pub mod Tail
+pub mod Address
 pub mod Prefix
 pub mod Evex
 pub mod Line

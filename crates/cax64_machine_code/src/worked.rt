@@ -1,9 +1,11 @@
 //! Worked rows of the definitions, computed.
 
-ghost use Rattle.std.specs.Prelude.{◌≡◌, [], ◌∷◌, Some, None, pos, negsuc};
-ghost use Rattle.cax64_machine_code.specs.Tail.{read_tail};
+ghost use Rattle.std.specs.Prelude.{◌≡◌, ◌≢◌, ◌-◌, ◌^◌, [], ◌∷◌, ℕ, List, length, Some, None, pos, negsuc};
+ghost use Rattle.cax64_machine_code.specs.Address.{address_of};
+ghost use Rattle.cax64_machine_code.specs.Tail.{Tail, read_tail};
 ghost use Rattle.cax64_machine_code.specs.Reading.{read};
 
+use crate::laws::{no_reading_begins_another, no_tail_begins_another};
 use crate::reading::{Place, Reading, RegView};
 use crate::row::Row;
 
@@ -34,3 +36,44 @@ pub fn instructions()
     ensures repeated { read (0xF0 ∷ 0xF0 ∷ 0x01 ∷ 0x08 ∷ []) ≡ None }
     ensures memory_alone { read (0xF0 ∷ 0x01 ∷ 0xC8 ∷ []) ≡ None }
 {}
+
+/// Addresses: a base, an index and a displacement; one that wraps below 0 and one above 2 to the 64; a place relative to
+/// the end, on either side; a register, which has none.
+pub fn addresses()
+    ensures indexed { address_of (Place.Mem (Some 1) (Some (2, 4)) (pos 7)) (0 ∷ 100 ∷ 10 ∷ []) 0 ≡ Some 147 }
+    ensures wraps_below { address_of (Place.Mem (Some 0) None (negsuc 0)) (0 ∷ []) 0 ≡ Some (2 ^ 64 - 1) }
+    ensures wraps_above { address_of (Place.Mem (Some 0) (Some (1, 8)) (pos 24)) ((2 ^ 64 - 8) ∷ (2 ^ 61 - 1) ∷ []) 0 ≡ Some 8 }
+    ensures no_base { address_of (Place.Mem None None (negsuc 15)) [] 0 ≡ Some (2 ^ 64 - 16) }
+    ensures relative { address_of (Place.Rip (negsuc 3)) [] 100 ≡ Some 96 }
+    ensures relative_wraps { address_of (Place.Rip (negsuc 3)) [] 1 ≡ Some (2 ^ 64 - 3) }
+    ensures register { address_of (Place.Reg (RegView.Low 3)) [] 0 ≡ None }
+{}
+
+/// What begins with a tail and is longer doesn't read as a tail with nothing left.
+pub fn longer_than_a_tail()
+    ensures { (more : List ℕ) (second : Tail)
+        → more ≢ []
+        → read_tail 0 0 1 (0x04 ∷ 0x24 ∷ more) ≡ Some second
+        → second.rest ≢ [] }
+{
+    no_tail_begins_another();
+}
+
+/// What begins with an instruction and is longer doesn't read as one of its own length.
+pub fn longer_than_an_instruction(second: Reading)
+    ensures { (more : List ℕ)
+        → more ≢ []
+        → read (0x24 ∷ 0xAA ∷ more) ≡ Some second
+        → second.length ≢ length (0x24 ∷ 0xAA ∷ more) }
+{
+    let first = Reading {
+        row: Row::andb_i,
+        length: 2,
+        tail: 0,
+        reg: None,
+        vvvv: None,
+        place: None,
+        imm: Some(0xAA),
+    };
+    no_reading_begins_another(first, second);
+}

@@ -1,6 +1,6 @@
-use Rattle.std.proofs.Common.{rules, ◌≡◌, ◌≢◌, ◌∙◌, sym, ap, ◌≤ℤ◌, ◌*ℤ◌, arith, pos, ℤ, FitsSigned, to_z, of_z, w8, w32, refl}
+use Rattle.std.proofs.Common.{rules, ◌≡◌, ◌≢◌, ◌∙◌, sym, ◌≤ℤ◌, ◌*ℤ◌, arith, pos, FitsSigned, w8, w32, refl}
 use Rattle.std.proofs.lemmas.Int.{ints, to_z-of_z}
-use Rattle.cax64_address.specs.Displacement.{GivesBack, IsClassOf, factor_of}
+use Rattle.cax64_address.specs.Displacement.{IsClassOf, factor_of}
 use Rattle.cax64_address.specs.declared.disp.Disp.TheVariants.{None, Imm8, Imm32}
 use Rattle.cax64_address.proofs.Classes.{class_back, divided, not_divided, not_fitting, alone}
 use Rattle.cax64_address.proofs.disp.Disp.new.Goals as goal
