@@ -1,8 +1,8 @@
 //! The table of rows as the program holds it: what each row asks for, and which row some bytes match.
 #![tactic(auto)]
 
-pub mod lookup;
 pub mod cursor;
+pub mod lookup;
 mod packed;
 pub mod prefix;
 
