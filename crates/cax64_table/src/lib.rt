@@ -2,6 +2,7 @@
 #![tactic(auto)]
 
 pub mod cursor;
+pub mod laws;
 pub mod lookup;
 mod packed;
 pub mod prefix;
