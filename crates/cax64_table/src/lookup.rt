@@ -80,8 +80,8 @@ fn row_of(prefix: &Prefix, opcode: Opcode, rest: &[u8]) -> Option<Row>
     if let Some(row) = row_with(prefix, opcode, None, rest) {
         return Some(row);
     }
-    let modrm = rest.first()?;
-    row_with(prefix, opcode, Some(*modrm / 8 % 8), rest)
+    let (modrm, _) = next(rest)?;
+    row_with(prefix, opcode, Some(modrm / 8 % 8), rest)
 }
 
 /// The row that a prefix and the bytes behind it match, and what follows its opcode.
