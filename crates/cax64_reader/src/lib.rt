@@ -1,0 +1,4 @@
+//! Reads one instruction from the front of some bytes.
+#![tactic(auto)]
+
+mod number;
