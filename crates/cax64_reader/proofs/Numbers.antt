@@ -1,4 +1,8 @@
-use Rattle.std.proofs.Common.{◌≡◌, ◌≢◌, ℕ, zero, suc, ◌+◌, ◌-◌, ◌*◌, ◌^◌, ◌<◌, ◌≤◌, arith, List, [], ◌∷◌, refl, ap, Option, Some, None, Fits, w8, slice_index}
+use Rattle.std.proofs.Common.{◌≡◌, ◌≢◌, ℕ, zero, suc, ◌+◌, ◌-◌, ◌*◌, ◌^◌, ◌<◌, ◌≤◌, arith, List, [], ◌∷◌, refl, ap, sym, ◌∙◌, Option, Some, None, Fits, w8, slice_index, ℤ, pos, ◌*ℤ◌}
+use Rattle.std.proofs.lemmas.Int.{ints, to_z-of_z}
+use Rattle.std.specs.Int.{cast_signed, cast_unsigned, w32}
+use Rattle.std.specs.Int.RustNames.{FitsSigned}
+use Rattle.cax64_machine_code.specs.Fields.{s8, s32}
 use Rattle.std.specs.Prelude.{option_map, option_and_then}
 use Rattle.cax64_machine_code.specs.Fields.{number_at}
 use Rattle.cax64_table.specs.Cursor.{next_byte}
@@ -41,3 +45,34 @@ power_step (suc (suc zero)) h n = (refl, omega arith)
 power_step (suc (suc (suc zero))) h n = (refl, omega arith)
 power_step (suc (suc (suc (suc zero)))) h n = (refl, omega arith)
 power_step (suc (suc (suc (suc (suc size))))) h n = absurd (omega arith)
+
+pub nothing_left : (bytes : List ℕ) → None ≡ next_byte bytes → bytes ≡ []
+nothing_left [] h = refl
+nothing_left (byte ∷ bytes) h = cc
+
+one_byte : (byte : ℕ) → byte + 256 * 0 ≡ byte
+one_byte byte = omega arith
+
+pub number_one : (bytes : List ℕ) → number_at 1 bytes ≡ next_byte bytes
+unfolding number_at
+number_one [] = refl
+number_one (byte ∷ bytes) = rw (one_byte byte) refl
+
+-- a byte as a signed displacement
+byte_signed : (n : ℕ) → n < 256 → cast_signed w8 n ≡ s8 n
+byte_signed n h = grind (arith, ints)
+
+byte_fits : (n : ℕ) → n < 256 → FitsSigned w8 (s8 n)
+byte_fits n h = grind (arith, ints)
+
+byte_fits_wide : (n : ℕ) → n < 256 → FitsSigned w32 (s8 n)
+byte_fits_wide n h = grind (arith, ints)
+
+times_one : (z : ℤ) → z *ℤ pos 1 ≡ z
+times_one z = grind (arith, ints)
+
+pub widened : (n : ℕ) (z w : ℤ) → n < 256 → z ≡ cast_signed w8 n → w ≡ cast_signed w8 (cast_unsigned w8 z) → cast_signed w32 (cast_unsigned w32 w) ≡ s8 n *ℤ pos 1
+widened n z w h e f =
+    let first : z ≡ s8 n = e ∙ byte_signed n h in
+    let second : w ≡ s8 n = f ∙ ap (λ y. cast_signed w8 (cast_unsigned w8 y)) first ∙ to_z-of_z w8 (s8 n) (byte_fits n h) in
+    ap (λ y. cast_signed w32 (cast_unsigned w32 y)) second ∙ to_z-of_z w32 (s8 n) (byte_fits_wide n h) ∙ sym (times_one (s8 n))
