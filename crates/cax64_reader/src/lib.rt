@@ -2,4 +2,5 @@
 #![tactic(auto)]
 
 mod number;
+mod prefix;
 mod tail;
