@@ -2,5 +2,6 @@
 #![tactic(auto)]
 
 mod number;
+mod operands;
 mod prefix;
 mod tail;
