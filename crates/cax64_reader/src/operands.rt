@@ -9,7 +9,9 @@ ghost use Rattle.cax64_reader.specs.Operands.{found_of, HasSize};
 
 use crate::number::number;
 use crate::tail::read_tail;
-use cax64_machine_code::line::{ImmField, Line, PlaceField, PrefixField, RegField, TailField, VvvvField};
+use cax64_machine_code::line::{
+    ImmField, Line, PlaceField, PrefixField, RegField, TailField, VvvvField,
+};
 use cax64_machine_code::reading::{Place, RegView};
 use cax64_machine_code::row::Row;
 use cax64_table::prefix::Prefix;
@@ -89,7 +91,11 @@ fn signed(size: u8, n: u32) -> i64
 {
     let value = i64::from(n);
     let half = 1 << (8 * size - 1);
-    if value < half { value } else { value - 2 * half }
+    if value < half {
+        value
+    } else {
+        value - 2 * half
+    }
 }
 
 /// The immediate at the front, if the row has one, and what follows it.
@@ -107,5 +113,62 @@ fn imm<'a>(field: &ImmField, bytes: &'a [u8]) -> Option<(Option<i64>, &'a [u8])>
             let (n, rest) = number(*size, bytes)?;
             Some((Some(signed(*size, n)), rest))
         }
+    }
+}
+
+fn bare_operands<'a>(row: Row, line: &Line, prefix: &Prefix, bytes: &'a [u8]) -> Option<Found<'a>>
+    requires { HasSize line.now.imm }
+    ensures { option_map found_of result ≡ bare_operands row line.now (prefix_of prefix.now) bytes.now }
+{
+    let (imm, rest) = imm(&line.imm, bytes)?;
+    Some(Found {
+        row,
+        reg: None,
+        vvvv: vvvv(&line.prefix, prefix),
+        place: None,
+        imm,
+        tail: 0,
+        rest,
+    })
+}
+
+fn tail_operands<'a>(
+    row: Row,
+    line: &Line,
+    reg: &RegField,
+    field: &PlaceField,
+    prefix: &Prefix,
+    bytes: &'a [u8],
+) -> Option<Found<'a>>
+    requires { HasSize line.now.imm }
+    ensures { option_map found_of result ≡ tail_operands row line.now reg.now field.now (prefix_of prefix.now) bytes.now }
+{
+    let tail = read_tail(prefix.x(), prefix.b(), bytes)?;
+    let place = place(field, prefix, tail.place)?;
+    let (imm, rest) = imm(&line.imm, tail.rest)?;
+    Some(Found {
+        row,
+        reg: register(reg, prefix, tail.reg),
+        vvvv: vvvv(&line.prefix, prefix),
+        place: Some(place),
+        imm,
+        tail: (bytes.len() - tail.rest.len()) as u8,
+        rest,
+    })
+}
+
+/// The operands behind the opcode of a row.
+pub(crate) fn operands<'a>(
+    row: Row,
+    line: &Line,
+    prefix: &Prefix,
+    bytes: &'a [u8],
+) -> Option<Found<'a>>
+    requires { HasSize line.now.imm }
+    ensures { option_map found_of result ≡ operands_of line.now.tail row line.now (prefix_of prefix.now) bytes.now }
+{
+    match &line.tail {
+        TailField::NoTail => bare_operands(row, line, prefix, bytes),
+        TailField::Modrm(reg, field) => tail_operands(row, line, reg, field, prefix, bytes),
     }
 }

@@ -1,10 +1,10 @@
 //! The tail of an instruction: ModR/M, SIB and displacement. (Intel SDM, volume 2, 2.1.3 and 2.1.5.)
 
-ghost use Rattle.std.specs.Prelude.{◌≡◌, ◌<◌, ◌∷◌, ℕ, option_map};
+ghost use Rattle.std.specs.Prelude.{◌≡◌, ◌<◌, ◌∷◌, ℕ, option_map, IfSome};
 ghost use Rattle.std.specs.Int.{from_bool};
 ghost use Rattle.cax64_machine_code.specs.Tail.{disp8_at, disp32_at, disp_at, scaled_index, sib_at, read_tail};
 ghost use Rattle.cax64_table.specs.Cursor.{behind};
-ghost use Rattle.cax64_reader.specs.Tail.{tail_of};
+ghost use Rattle.cax64_reader.specs.Tail.{tail_of, Within};
 
 use crate::number::number;
 use cax64_machine_code::reading::{Place, RegView};
@@ -132,7 +132,9 @@ fn behind_modrm(x: bool, b: bool, modrm: u8, bytes: &[u8]) -> Option<Tail<'_>>
 
 /// The tail at the front, under these bits of the prefix.
 pub(crate) fn read_tail(x: bool, b: bool, bytes: &[u8]) -> Option<Tail<'_>>
-    ensures { option_map tail_of result ≡ read_tail (from_bool x) (from_bool b) 1 bytes.now }
+    ensures is { option_map tail_of result ≡ read_tail (from_bool x) (from_bool b) 1 bytes.now }
+    ensures reg { IfSome result (λ t. t.reg < 8) }
+    ensures length { IfSome result (λ t. Within bytes.now t.rest.now 6) }
 {
     let (modrm, rest) = next(bytes)?;
     behind_modrm(x, b, modrm, rest)
