@@ -4,4 +4,7 @@
 mod number;
 mod operands;
 mod prefix;
+mod reader;
 mod tail;
+
+pub use reader::read_inst;
