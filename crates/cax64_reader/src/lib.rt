@@ -7,4 +7,8 @@ mod prefix;
 mod reader;
 mod tail;
 
+#[cfg(test)]
+mod tests;
+
+pub use cax64_machine_code::reading::{Place, Reading, RegView};
 pub use reader::read_inst;

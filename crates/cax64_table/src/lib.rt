@@ -7,4 +7,7 @@ pub mod lookup;
 mod packed;
 pub mod prefix;
 
-pub use packed::{line, rows_of};
+#[cfg(test)]
+mod tests;
+
+pub use packed::line;

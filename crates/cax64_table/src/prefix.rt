@@ -62,7 +62,7 @@ fn w_fits(w: Option<u8>, found: bool) -> bool
 }
 
 impl Prefix {
-    pub fn w(&self) -> bool
+    fn w(&self) -> bool
         ensures { from_bool result ≡ w_of (prefix_of self.now) }
     {
         match self {
@@ -133,7 +133,7 @@ impl Prefix {
     }
 
     /// A row asks for this prefix.
-    pub fn fits(&self, line: &Line) -> bool
+    pub(crate) fn fits(&self, line: &Line) -> bool
         ensures { result ≡ prefix_matches line.now (prefix_of self.now) }
     {
         self.fits_field(&line.prefix) && w_fits(line.w, self.w())
