@@ -1,13 +1,9 @@
-use Rattle.std.proofs.Common.{◌≡◌, ◌≢◌, ℕ, zero, suc, ◌+◌, ◌-◌, ◌*◌, ◌<◌, ◌≤◌, ◌/◌, ◌%◌, arith, List, [], ◌∷◌, length, Bool, true, false, refl, ap, sym, ◌∙◌, Option, Some, None, ℤ, pos}
-use Rattle.std.specs.Prelude.{◌==◌, ◌&&◌, ◌||◌, not, nat_le, if◌then◌else◌, option_map, option_and_then}
-use Rattle.std.proofs.lemmas.Bool.{and_parts}
-use Rattle.std.proofs.lemmas.Bool.Decides.{nat_tests}
-use Rattle.cax64_machine_code.specs.Fields.{number_at, signed_of, mod_of, reg_of, rm_of, base_of}
-use Rattle.cax64_machine_code.specs.Tail.{Tail, disp8_at, disp32_at, disp_at, displaced, scaled_index, sib_at, read_tail}
+use Rattle.std.proofs.Common.{◌≡◌, ℕ, zero, suc, ◌+◌, ◌<◌, ◌≤◌, arith, List, [], ◌∷◌, length, Bool, true, false, refl, ap, sym, Option, Some, None, ℤ, pos}
+use Rattle.std.specs.Prelude.{◌==◌, ◌&&◌, if◌then◌else◌, option_map, option_and_then}
+use Rattle.cax64_machine_code.specs.Fields.{number_at, mod_of, reg_of, rm_of, base_of}
+use Rattle.cax64_machine_code.specs.Tail.{Tail, disp8_at, disp32_at, disp_at, displaced, sib_at, read_tail}
 use Rattle.cax64_reader.specs.Tail.{Within}
 use Rattle.cax64_machine_code.specs.declared.reading.Place.{Place}
-use Rattle.cax64_machine_code.specs.declared.line.ImmField.{ImmField}
-use Rattle.cax64_machine_code.specs.declared.line.ImmField.TheVariants.{NoImm, Imm, Simm}
 
 pub some_same : {A : Type 0} (a b : A) → ◌≡◌ {A = Option A} (Some a) (Some b) → a ≡ b
 some_same a b e = cc

@@ -1,27 +1,24 @@
-use Rattle.std.proofs.Common.{◌≡◌, ◌≢◌, ℕ, zero, suc, ◌+◌, ◌-◌, ◌*◌, ◌<◌, ◌≤◌, ◌/◌, ◌%◌, arith, List, [], ◌∷◌, length, Bool, true, false, refl, ap, sym, ◌∙◌, Option, Some, None, ℤ}
-use Rattle.std.specs.Prelude.{◌==◌, ◌&&◌, ◌||◌, not, nat_le, if◌then◌else◌, is_some, option_map, option_and_then}
-use Rattle.std.specs.Int.{from_bool}
+use Rattle.std.proofs.Common.{◌≡◌, ℕ, suc, ◌+◌, ◌≤◌, ◌/◌, ◌%◌, arith, List, [], ◌∷◌, length, Bool, true, false, refl, ap, Option, Some, None, ℤ}
+use Rattle.std.specs.Prelude.{◌==◌, ◌&&◌, ◌||◌, not, nat_le, if◌then◌else◌, is_some}
 use Rattle.std.proofs.lemmas.Bool.{and_parts}
 use Rattle.std.proofs.lemmas.Bool.Decides.{nat_tests}
 use Rattle.cax64_machine_code.specs.Fields.{number_at}
 use Rattle.cax64_machine_code.specs.Line.{after, same_legacy, field_matches, prefix_matches, opcode_bytes, opcode_at}
-use Rattle.cax64_machine_code.specs.Prefix.{no_legacy, is_no_legacy, begins_vex, after_vex, after_legacy, prefix_at, legacy_at, Rex, rex_of, rex_at, Vex, vex_two_byte, vex_three_byte, is_vex_map, vex_at, Prefix, legacy_prefix, vex_prefix, x_of, b_of, w_of}
-use Rattle.cax64_machine_code.specs.Reading.{Found, imm_at, bare_operands, tail_operands, operands_of, operands_at, place_at, row_at, find, matched_at}
+use Rattle.cax64_machine_code.specs.Prefix.{no_legacy, is_no_legacy, begins_vex, after_vex, after_legacy, prefix_at, legacy_at, Rex, rex_at, Vex, is_vex_map, vex_at, Prefix, legacy_prefix, vex_prefix, x_of, b_of}
+use Rattle.cax64_machine_code.specs.Reading.{Found, imm_at, operands_of, operands_at, place_at, find}
 use Rattle.cax64_machine_code.specs.Rows.{line_of, all_rows}
-use Rattle.cax64_machine_code.specs.Tail.{Tail, read_tail}
+use Rattle.cax64_machine_code.specs.Tail.{read_tail}
 use Rattle.cax64_machine_code.specs.declared.line.LegacySet.{LegacySet}
 use Rattle.cax64_machine_code.specs.declared.line.Line.{Line}
 use Rattle.cax64_machine_code.specs.declared.line.ImmField.{ImmField}
 use Rattle.cax64_machine_code.specs.declared.line.PrefixField.{PrefixField}
-use Rattle.cax64_machine_code.specs.declared.line.RegField.{RegField}
-use Rattle.cax64_machine_code.specs.declared.line.PlaceField.{PlaceField}
 use Rattle.cax64_machine_code.specs.declared.line.TailField.{TailField}
 use Rattle.cax64_machine_code.specs.declared.line.PrefixField.TheVariants.{LegacyField, VexField}
 use Rattle.cax64_machine_code.specs.declared.line.TailField.TheVariants.{NoTail, Modrm}
 use Rattle.cax64_machine_code.specs.declared.line.ImmField.TheVariants.{NoImm, Imm, Simm}
 use Rattle.cax64_machine_code.specs.declared.row.Row.{Row}
 use Rattle.cax64_machine_code.specs.declared.row.Row.TheVariants.{lock_addb_mi}
-use Rattle.cax64_machine_code.proofs.Uniqueness.{Behind, behind, some_if, legacy_same}
+use Rattle.cax64_machine_code.proofs.Uniqueness.{behind, some_if, legacy_same}
 use Rattle.cax64_machine_code.proofs.Whole.{steps, row_matches}
 use Rattle.cax64_reader.specs.Operands.{HasSize}
 use Rattle.cax64_reader.specs.Tail.{Within}

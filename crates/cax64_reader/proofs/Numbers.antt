@@ -2,7 +2,7 @@ use Rattle.std.proofs.Common.{◌≡◌, ◌≢◌, ℕ, zero, suc, ◌+◌, ◌
 use Rattle.std.proofs.lemmas.Int.{ints, to_z-of_z}
 use Rattle.std.specs.Int.{cast_signed, cast_unsigned, w32}
 use Rattle.std.specs.Int.RustNames.{FitsSigned}
-use Rattle.cax64_machine_code.specs.Fields.{s8, s32}
+use Rattle.cax64_machine_code.specs.Fields.{s8}
 use Rattle.std.specs.Prelude.{option_map, option_and_then}
 use Rattle.cax64_machine_code.specs.Fields.{number_at}
 use Rattle.cax64_table.specs.Cursor.{next_byte}

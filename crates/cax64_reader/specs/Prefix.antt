@@ -1,4 +1,4 @@
-use Rattle.std.specs.Prelude.{ℕ, Bool, true, not, ◌&&◌, ◌||◌, ◌==◌, if◌then◌else◌, Option, Some, None}
+use Rattle.std.specs.Prelude.{ℕ, true, not, ◌&&◌, ◌||◌, ◌==◌, if◌then◌else◌, Option, Some, None}
 use Rattle.cax64_machine_code.specs.declared.line.LegacySet.{LegacySet}
 
 -- the set with one more prefix, where this byte is one that may still come

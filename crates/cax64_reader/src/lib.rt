@@ -6,7 +6,6 @@ mod operands;
 mod prefix;
 mod reader;
 mod tail;
-
 #[cfg(test)]
 mod tests;
 

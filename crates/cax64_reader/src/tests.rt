@@ -24,12 +24,24 @@ const UNREAD: [&[u8]; 13] = [
 
 /// A reading with no operands.
 fn bare(row: Row, length: u8) -> Reading {
-    Reading { row, length, tail: 0, reg: None, vvvv: None, place: None, imm: None }
+    Reading {
+        row,
+        length,
+        tail: 0,
+        reg: None,
+        vvvv: None,
+        place: None,
+        imm: None,
+    }
 }
 
 /// The memory that a register alone gives the address of.
 fn memory(base: u8) -> Option<Place> {
-    Some(Place::Mem { base: Some(base), index: None, disp: 0 })
+    Some(Place::Mem {
+        base: Some(base),
+        index: None,
+        disp: 0,
+    })
 }
 
 /// The bytes read so, and no shorter front of them reads.
@@ -52,23 +64,64 @@ fn no_instruction(rt: HostRuntime) {
 #[test]
 fn no_operation(rt: HostRuntime) {
     expect(&rt, &[0x90, 0xC3], bare(Row::nop_1b, 1));
-    let bytes = [0x66, 0x0F, 0x1F, 0x84, 0x00, 0x00, 0x00, 0x00, 0x00, 0x24, 0xAA];
-    let place = Some(Place::Mem { base: Some(0), index: Some((0, 1)), disp: 0 });
-    expect(&rt, &bytes, Reading { tail: 6, place, ..bare(Row::nopw_rm, 9) });
-    expect(&rt, &bytes[9..], Reading { imm: Some(170), ..bare(Row::andb_i, 2) });
+    let bytes = [
+        0x66, 0x0F, 0x1F, 0x84, 0x00, 0x00, 0x00, 0x00, 0x00, 0x24, 0xAA,
+    ];
+    let place = Some(Place::Mem {
+        base: Some(0),
+        index: Some((0, 1)),
+        disp: 0,
+    });
+    expect(
+        &rt,
+        &bytes,
+        Reading {
+            tail: 6,
+            place,
+            ..bare(Row::nopw_rm, 9)
+        },
+    );
+    expect(
+        &rt,
+        &bytes[9..],
+        Reading {
+            imm: Some(170),
+            ..bare(Row::andb_i, 2)
+        },
+    );
 }
 
 #[test]
 fn locked(rt: HostRuntime) {
     let reg = Some(RegView::High(2));
-    let add = Reading { tail: 1, reg, place: memory(0), ..bare(Row::lock_addb_mr, 3) };
+    let add = Reading {
+        tail: 1,
+        reg,
+        place: memory(0),
+        ..bare(Row::lock_addb_mr, 3)
+    };
     expect(&rt, &[0xF0, 0x00, 0x30], add);
     let reg = Some(RegView::Low(1));
-    let add = Reading { tail: 1, reg, place: memory(0), ..bare(Row::lock_addw_mr, 4) };
+    let add = Reading {
+        tail: 1,
+        reg,
+        place: memory(0),
+        ..bare(Row::lock_addw_mr, 4)
+    };
     expect(&rt, &[0x66, 0xF0, 0x01, 0x08], add);
-    let add = Reading { tail: 1, place: memory(0), imm: Some(5), ..bare(Row::lock_addl_mi, 7) };
+    let add = Reading {
+        tail: 1,
+        place: memory(0),
+        imm: Some(5),
+        ..bare(Row::lock_addl_mi, 7)
+    };
     expect(&rt, &[0xF0, 0x81, 0x00, 0x05, 0x00, 0x00, 0x00], add);
-    let add = Reading { tail: 1, place: memory(0), imm: Some(5), ..bare(Row::lock_addl_mi_sxb, 4) };
+    let add = Reading {
+        tail: 1,
+        place: memory(0),
+        imm: Some(5),
+        ..bare(Row::lock_addl_mi_sxb, 4)
+    };
     expect(&rt, &[0xF0, 0x83, 0x00, 0x05], add);
 }
 
@@ -83,13 +136,43 @@ fn vectors(rt: HostRuntime) {
         ..bare(Row::vcmpps_b, 6)
     };
     expect(&rt, &[0xC4, 0xE1, 0x78, 0xC2, 0xC1, 0x00], compare);
-    expect(&rt, &[0xC5, 0xF8, 0xC2, 0xC1, 0x00], Reading { length: 5, ..compare });
+    expect(
+        &rt,
+        &[0xC5, 0xF8, 0xC2, 0xC1, 0x00],
+        Reading {
+            length: 5,
+            ..compare
+        },
+    );
 }
 
 #[test]
 fn bytes_of_registers(rt: HostRuntime) {
-    expect(&rt, &[0x40, 0x24, 0xAA], Reading { imm: Some(170), ..bare(Row::andb_i, 3) });
+    expect(
+        &rt,
+        &[0x40, 0x24, 0xAA],
+        Reading {
+            imm: Some(170),
+            ..bare(Row::andb_i, 3)
+        },
+    );
     let place = Some(Place::Reg(RegView::Low(0)));
-    expect(&rt, &[0x40, 0xD0, 0xE0], Reading { tail: 1, place, ..bare(Row::shlb_m1, 3) });
-    expect(&rt, &[0xD0, 0xE0], Reading { tail: 1, place, ..bare(Row::shlb_m1, 2) });
+    expect(
+        &rt,
+        &[0x40, 0xD0, 0xE0],
+        Reading {
+            tail: 1,
+            place,
+            ..bare(Row::shlb_m1, 3)
+        },
+    );
+    expect(
+        &rt,
+        &[0xD0, 0xE0],
+        Reading {
+            tail: 1,
+            place,
+            ..bare(Row::shlb_m1, 2)
+        },
+    );
 }

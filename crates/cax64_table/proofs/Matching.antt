@@ -1,17 +1,16 @@
 use Rattle.std.proofs.Common.{◌≡◌, ℕ, List, [], ◌∷◌, Bool, true, false, refl, ap, sym, ◌∙◌, Option, Some, None, arith, ◌⊎◌, inl, inr}
-use Rattle.std.specs.Prelude.{◌==◌, ◌&&◌, ◌||◌, not, if◌then◌else◌, option_map, option_and_then}
+use Rattle.std.specs.Prelude.{◌==◌, ◌||◌, not, if◌then◌else◌, option_map}
 use Rattle.std.proofs.lemmas.Bool.{and_parts}
 use Rattle.std.proofs.lemmas.Bool.Decides.{nat_tests}
 use Rattle.cax64_machine_code.specs.Line.{prefix_matches, digit_matches, after, opcode_at, opcode_bytes}
 use Rattle.cax64_machine_code.specs.Prefix.{Prefix}
 use Rattle.cax64_machine_code.specs.Reading.{matched_at, or_later, row_at}
 use Rattle.cax64_machine_code.specs.Rows.{line_of, all_rows}
-use Rattle.cax64_machine_code.specs.declared.line.Line.{Line}
 use Rattle.cax64_machine_code.specs.declared.line.Opcode.{Opcode}
 use Rattle.cax64_machine_code.specs.declared.row.Row.{Row}
 use Rattle.cax64_machine_code.specs.declared.row.Row.TheVariants.{lock_addb_mi}
 use Rattle.cax64_machine_code.proofs.Matched.{row_found}
-use Rattle.cax64_machine_code.proofs.Uniqueness.{Behind, behind, some_if}
+use Rattle.cax64_machine_code.proofs.Uniqueness.{behind, some_if}
 use Rattle.cax64_table.specs.Cursor.{next_byte}
 use Rattle.cax64_machine_code.specs.Fields.{reg_of}
 use Rattle.cax64_machine_code.specs.declared.line.TailField.{TailField}

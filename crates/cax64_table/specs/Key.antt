@@ -1,4 +1,4 @@
-use Rattle.std.specs.Prelude.{◌≡◌, ℕ, ◌+◌, ◌*◌, ◌/◌, ◌^◌, ◌==◌, ◌&&◌, Bool, true, false, if◌then◌else◌, List, [], ◌∷◌, Option, Some, None, option_map, option_and_then, unwrap_or}
+use Rattle.std.specs.Prelude.{◌≡◌, ℕ, ◌+◌, ◌*◌, ◌/◌, ◌^◌, ◌==◌, ◌&&◌, Bool, true, false, if◌then◌else◌, List, Option, Some, None, option_map, option_and_then, unwrap_or}
 use Rattle.cax64_machine_code.specs.Line.{prefix_matches, digit_matches}
 use Rattle.cax64_machine_code.specs.Prefix.{Prefix}
 use Rattle.cax64_machine_code.specs.declared.line.Opcode.{Opcode}

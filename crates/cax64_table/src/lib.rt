@@ -6,7 +6,6 @@ pub mod laws;
 pub mod lookup;
 mod packed;
 pub mod prefix;
-
 #[cfg(test)]
 mod tests;
 

@@ -9,18 +9,40 @@ use cax64_machine_code::line::{
 };
 use cax64_machine_code::row::Row;
 
-const LOCK: LegacySet = LegacySet { lock: true, operand_size: false, repne: false, rep: false };
+const LOCK: LegacySet = LegacySet {
+    lock: true,
+    operand_size: false,
+    repne: false,
+    rep: false,
+};
 
-const REX_W: Rex = Rex { w: true, r: false, x: false, b: true };
+const REX_W: Rex = Rex {
+    w: true,
+    r: false,
+    x: false,
+    b: true,
+};
 
-const NO_FIELDS: Vex = Vex { w: false, r: true, x: false, b: false, vvvv: 5, l: 0, pp: 0, map: 1 };
+const NO_FIELDS: Vex = Vex {
+    w: false,
+    r: true,
+    x: false,
+    b: false,
+    vvvv: 5,
+    l: 0,
+    pp: 0,
+    map: 1,
+};
 
 #[test]
 fn lines(rt: HostRuntime) {
     let add = Line {
         prefix: PrefixField::LegacyField(LOCK, true),
         w: Some(1),
-        opcode: Opcode { escape: false, byte: 0x81 },
+        opcode: Opcode {
+            escape: false,
+            byte: 0x81,
+        },
         tail: TailField::Modrm(RegField::Digit(0), PlaceField::Memory),
         imm: ImmField::Simm(4),
     };
@@ -28,7 +50,10 @@ fn lines(rt: HostRuntime) {
     let compare = Line {
         prefix: PrefixField::VexField(0, 1, 0, VvvvField::VvvvRegister),
         w: Some(0),
-        opcode: Opcode { escape: false, byte: 0xC2 },
+        opcode: Opcode {
+            escape: false,
+            byte: 0xC2,
+        },
         tail: TailField::Modrm(RegField::Register, PlaceField::RegisterOrMemory),
         imm: ImmField::Imm(1),
     };

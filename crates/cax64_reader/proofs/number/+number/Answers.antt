@@ -1,4 +1,4 @@
-use Rattle.std.proofs.Common.{◌≡◌, ◌≤◌, ◌<◌, ◌^◌, ◌*◌, ◌-◌, ◌+◌, arith, refl}
+use Rattle.std.proofs.Common.{◌<◌, ◌^◌, ◌-◌, arith, refl}
 use Rattle.cax64_reader.proofs.Numbers.{byte_below, number_none, number_step, power_step}
 use Rattle.cax64_reader.proofs.number.+number.Goals as goal
 

@@ -1,4 +1,4 @@
-use Rattle.std.proofs.Common.{◌≡◌, ◌∙◌, sym, refl, Bool, true, false}
+use Rattle.std.proofs.Common.{◌≡◌, ◌∙◌, sym, refl, false}
 use Rattle.std.specs.Prelude.{◌&&◌}
 use Rattle.cax64_machine_code.specs.Prefix.{is_no_legacy, begins_vex}
 use Rattle.cax64_reader.proofs.Prefixes.{prefix_is_vex, prefix_is_legacy, first_fails, second_fails}

@@ -1,5 +1,3 @@
-use Rattle.std.proofs.Common.{◌∙◌, ap, List, ℕ, Option, Some}
-use Rattle.cax64_machine_code.specs.Prefix.{Rex}
 use Rattle.cax64_reader.proofs.Prefixes.{rex_stands, rex_is_none, rex_at_end}
 use Rattle.cax64_reader.proofs.prefix.rex.Goals as goal
 

@@ -1,7 +1,7 @@
 use Rattle.std.proofs.Common.{Option, None, Some, sym}
 use Rattle.std.specs.Prelude.{IfNone}
 use Rattle.cax64_table.specs.Read.{prefix_of}
-use Rattle.cax64_table.proofs.Matching.{unfit_of_digit, unfit_at_end}
+use Rattle.cax64_table.proofs.Matching.{unfit_of_digit}
 use Rattle.cax64_table.proofs.lookup.row_of.Goals as goal
 
 weaker : {A : Type 0} {P Q : Type 0} (r : Option A) → (P → Q) → IfNone r P → IfNone r Q
