@@ -1,6 +1,6 @@
-use Rattle.std.proofs.Common.{◌≡◌, ℕ, ◌<◌, refl, slice_index, ltb}
+use Rattle.std.proofs.Common.{◌≡◌, ◌<◌, refl, slice_index}
 use Rattle.std.proofs.lemmas.Bool.{ltb-true}
-use Rattle.std.specs.Prelude.{Bool, true, nat_lt}
+use Rattle.std.specs.Prelude.{true, nat_lt}
 use Rattle.cax64_machine_code.specs.declared.row.Row.{Row}
 use Rattle.cax64_machine_code.specs.declared.row.Row.TheVariants.{lock_addb_mi}
 use Rattle.cax64_machine_code.specs.Rows.{line_of}

@@ -1,4 +1,4 @@
-use Rattle.std.specs.Prelude.{◌≡◌, ℕ, ◌+◌, ◌*◌, ◌/◌, ◌^◌, ◌==◌, ◌&&◌, Bool, true, false, if◌then◌else◌, List, [], ◌∷◌, Option, Some, None, option_map, option_and_then, unwrap_or}
+use Rattle.std.specs.Prelude.{◌≡◌, ℕ, ◌+◌, ◌*◌, ◌/◌, ◌^◌, ◌==◌, ◌&&◌, Bool, true, false, if◌then◌else◌, List, Option, Some, None, option_map, option_and_then, unwrap_or}
 use Rattle.cax64_machine_code.specs.Line.{prefix_matches, digit_matches}
 use Rattle.cax64_machine_code.specs.Prefix.{Prefix}
 use Rattle.cax64_machine_code.specs.declared.line.Opcode.{Opcode}
@@ -45,7 +45,7 @@ abbrev pub front_opcode : List ℕ → Option (Opcode × List ℕ)
 front_opcode bytes =
     option_and_then
     (λ first. if first.0 == 0x0F then option_map (λ second. (escaped_opcode second.0, second.1)) (next_byte first.1)
-      else Some (plain_opcode first.0, first.1))
+    else Some (plain_opcode first.0, first.1))
     (next_byte bytes)
 
 -- a row asks for this prefix, and for a digit as it follows the opcode

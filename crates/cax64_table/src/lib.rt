@@ -1,9 +1,12 @@
 //! The table of rows as the program holds it: what each row asks for, and which row some bytes match.
 #![tactic(auto)]
 
-pub mod lookup;
 pub mod cursor;
+pub mod laws;
+pub mod lookup;
 mod packed;
 pub mod prefix;
+#[cfg(test)]
+mod tests;
 
-pub use packed::{line, rows_of};
+pub use packed::line;

@@ -1,6 +1,6 @@
 //! Which row some bytes match.
 
-ghost use Rattle.std.specs.Prelude.{◌≡◌, ◌<◌, option_map, MatchOption, true, false};
+ghost use Rattle.std.specs.Prelude.{◌≡◌, ◌<◌, option_map, IfSome, IfNone, true, false};
 ghost use Rattle.std.specs.Option.{ForSome};
 ghost use Rattle.cax64_machine_code.specs.Line.{digit_matches};
 ghost use Rattle.cax64_machine_code.specs.Reading.{row_at};
@@ -22,10 +22,22 @@ fn opcode_at(bytes: &[u8]) -> Option<(Opcode, &[u8])>
 {
     let (first, rest) = next(bytes)?;
     if first != 0x0F {
-        return Some((Opcode { escape: false, byte: first }, rest));
+        return Some((
+            Opcode {
+                escape: false,
+                byte: first,
+            },
+            rest,
+        ));
     }
     let (second, rest) = next(rest)?;
-    Some((Opcode { escape: true, byte: second }, rest))
+    Some((
+        Opcode {
+            escape: true,
+            byte: second,
+        },
+        rest,
+    ))
 }
 
 /// The next byte has the digit that a row asks for.
@@ -46,4 +58,37 @@ fn row_fits(prefix: &Prefix, rest: &[u8], row: Row) -> bool
 {
     let line = line(row);
     prefix.fits(&line) && digit_fits(&line.tail, rest)
+}
+
+/// The row of this opcode and digit that fits.
+fn row_with(prefix: &Prefix, opcode: Opcode, digit: Option<u8>, rest: &[u8]) -> Option<Row>
+    requires { ForSome digit (λ d. d < 8) }
+    ensures found { IfSome result (λ row. ((line_of row).opcode ≡ opcode) × (fits (prefix_of prefix.now) rest.now row ≡ true)) }
+    ensures absent { IfNone result ((row : Row) → HasKey opcode digit row → fits (prefix_of prefix.now) rest.now row ≡ false) }
+{
+    rows_of(opcode, digit)
+        .iter()
+        .copied()
+        .find(|row| row_fits(prefix, rest, *row))
+}
+
+/// The row of this opcode that fits.
+fn row_of(prefix: &Prefix, opcode: Opcode, rest: &[u8]) -> Option<Row>
+    ensures found { IfSome result (λ row. ((line_of row).opcode ≡ opcode) × (fits (prefix_of prefix.now) rest.now row ≡ true)) }
+    ensures absent { IfNone result ((row : Row) → (line_of row).opcode ≡ opcode → fits (prefix_of prefix.now) rest.now row ≡ false) }
+{
+    if let Some(row) = row_with(prefix, opcode, None, rest) {
+        return Some(row);
+    }
+    let (modrm, _) = next(rest)?;
+    row_with(prefix, opcode, Some(modrm / 8 % 8), rest)
+}
+
+/// The row that a prefix and the bytes behind it match, and what follows its opcode.
+pub fn row_at<'a>(prefix: &Prefix, bytes: &'a [u8]) -> Option<(Row, &'a [u8])>
+    ensures { behind result ≡ row_at all_rows (prefix_of prefix.now) bytes.now }
+{
+    let (opcode, rest) = opcode_at(bytes)?;
+    let row = row_of(prefix, opcode, rest)?;
+    Some((row, rest))
 }

@@ -497,7 +497,7 @@ fn wanted_key(opcode: Opcode, digit: Option<u8>) -> u64
 }
 
 /// The rows of an opcode and a digit, or of an opcode without a digit.
-pub fn rows_of(opcode: Opcode, digit: Option<u8>) -> &'static [Row]
+pub(crate) fn rows_of(opcode: Opcode, digit: Option<u8>) -> &'static [Row]
     requires { ForSome digit (λ d. d < 8) }
     ensures only { All (HasKey opcode digit) result.now }
     ensures all { (row : Row) → HasKey opcode digit row → Contains result.now row }

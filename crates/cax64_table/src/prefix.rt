@@ -1,28 +1,29 @@
 //! What stands before an opcode. (Intel SDM, volume 2, 2.1.1, 2.2.1.2 and 2.3.5.)
 
 ghost use Rattle.std.specs.Prelude.{◌≡◌};
+ghost use Rattle.std.specs.Int.{from_bool};
 ghost use Rattle.cax64_machine_code.specs.Line.{same_legacy, w_matches, vvvv_matches, field_matches, prefix_matches};
 ghost use Rattle.cax64_machine_code.specs.Prefix.{w_of, r_of, x_of, b_of, vvvv_of, has_rex};
 ghost use Rattle.cax64_table.specs.Read.{prefix_of};
 
 use cax64_machine_code::line::{LegacySet, Line, PrefixField, VvvvField};
 
-/// The bits of a REX byte, each 0 or 1.
+/// The bits of a REX byte.
 #[derive(Clone, Copy, Debug, PartialEq)]
 pub struct Rex {
-    pub w: u8,
-    pub r: u8,
-    pub x: u8,
-    pub b: u8,
+    pub w: bool,
+    pub r: bool,
+    pub x: bool,
+    pub b: bool,
 }
 
 /// The fields of a VEX prefix, none of them inverted.
 #[derive(Clone, Copy, Debug, PartialEq)]
 pub struct Vex {
-    pub w: u8,
-    pub r: u8,
-    pub x: u8,
-    pub b: u8,
+    pub w: bool,
+    pub r: bool,
+    pub x: bool,
+    pub b: bool,
     pub vvvv: u8,
     pub l: u8,
     pub pp: u8,
@@ -51,48 +52,48 @@ fn vvvv_fits(field: &VvvvField, vvvv: u8) -> bool
     }
 }
 
-fn w_fits(w: Option<u8>, found: u8) -> bool
-    ensures { result ≡ w_matches w found }
+fn w_fits(w: Option<u8>, found: bool) -> bool
+    ensures { result ≡ w_matches w (from_bool found) }
 {
     match w {
         None => true,
-        Some(only) => only == found,
+        Some(only) => only == u8::from(found),
     }
 }
 
 impl Prefix {
-    pub fn w(&self) -> u8
-        ensures { result ≡ w_of (prefix_of self.now) }
+    fn w(&self) -> bool
+        ensures { from_bool result ≡ w_of (prefix_of self.now) }
     {
         match self {
-            Prefix::LegacyPrefix(_, rex) => rex.map_or(0, |bits| bits.w),
+            Prefix::LegacyPrefix(_, rex) => rex.is_some_and(|bits| bits.w),
             Prefix::VexPrefix(vex) => vex.w,
         }
     }
 
-    pub fn r(&self) -> u8
-        ensures { result ≡ r_of (prefix_of self.now) }
+    pub fn r(&self) -> bool
+        ensures { from_bool result ≡ r_of (prefix_of self.now) }
     {
         match self {
-            Prefix::LegacyPrefix(_, rex) => rex.map_or(0, |bits| bits.r),
+            Prefix::LegacyPrefix(_, rex) => rex.is_some_and(|bits| bits.r),
             Prefix::VexPrefix(vex) => vex.r,
         }
     }
 
-    pub fn x(&self) -> u8
-        ensures { result ≡ x_of (prefix_of self.now) }
+    pub fn x(&self) -> bool
+        ensures { from_bool result ≡ x_of (prefix_of self.now) }
     {
         match self {
-            Prefix::LegacyPrefix(_, rex) => rex.map_or(0, |bits| bits.x),
+            Prefix::LegacyPrefix(_, rex) => rex.is_some_and(|bits| bits.x),
             Prefix::VexPrefix(vex) => vex.x,
         }
     }
 
-    pub fn b(&self) -> u8
-        ensures { result ≡ b_of (prefix_of self.now) }
+    pub fn b(&self) -> bool
+        ensures { from_bool result ≡ b_of (prefix_of self.now) }
     {
         match self {
-            Prefix::LegacyPrefix(_, rex) => rex.map_or(0, |bits| bits.b),
+            Prefix::LegacyPrefix(_, rex) => rex.is_some_and(|bits| bits.b),
             Prefix::VexPrefix(vex) => vex.b,
         }
     }
@@ -132,7 +133,7 @@ impl Prefix {
     }
 
     /// A row asks for this prefix.
-    pub fn fits(&self, line: &Line) -> bool
+    pub(crate) fn fits(&self, line: &Line) -> bool
         ensures { result ≡ prefix_matches line.now (prefix_of self.now) }
     {
         self.fits_field(&line.prefix) && w_fits(line.w, self.w())

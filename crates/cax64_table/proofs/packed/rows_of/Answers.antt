@@ -1,6 +1,4 @@
-use Rattle.std.proofs.Common.{◌≡◌, ◌∙◌, sym, ap, arith}
-use Rattle.cax64_table.specs.Key.{HasKey, key_of}
-use Rattle.cax64_machine_code.specs.Rows.{line_of}
+use Rattle.std.proofs.Common.{◌∙◌, sym, arith}
 use Rattle.cax64_table.proofs.Keys.{keys_sorted, row_stands, has_key, key_is_row}
 use Rattle.cax64_table.proofs.packed.rows_of.Goals as goal
 

@@ -1,0 +1,4 @@
+pub mod Numbers
+pub mod Prefixes
+pub mod Lengths
+pub mod Longest

@@ -1,0 +1,3 @@
+pub mod Tail
+pub mod Prefix
+pub mod Operands

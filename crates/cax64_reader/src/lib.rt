@@ -1,0 +1,13 @@
+//! Reads one instruction from the front of some bytes.
+#![tactic(auto)]
+
+mod number;
+mod operands;
+mod prefix;
+mod reader;
+mod tail;
+#[cfg(test)]
+mod tests;
+
+pub use cax64_machine_code::reading::{Place, Reading, RegView};
+pub use reader::read_inst;

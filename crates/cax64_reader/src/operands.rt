@@ -1,0 +1,174 @@
+//! The operands of an instruction, by the fields of its row.
+
+ghost use Rattle.std.specs.Prelude.{◌≡◌, ◌<◌, ◌≤◌, ◌^◌, option_map};
+ghost use Rattle.cax64_machine_code.specs.Fields.{signed_of};
+ghost use Rattle.cax64_machine_code.specs.Reading.{view_of, reg_view, reg_place, place_at, vvvv_at, imm_at, bare_operands, tail_operands, operands_of};
+ghost use Rattle.cax64_table.specs.Cursor.{behind};
+ghost use Rattle.cax64_table.specs.Read.{prefix_of};
+ghost use Rattle.cax64_reader.specs.Operands.{found_of, HasSize};
+
+use crate::number::number;
+use crate::tail::read_tail;
+use cax64_machine_code::line::{
+    ImmField, Line, PlaceField, PrefixField, RegField, TailField, VvvvField,
+};
+use cax64_machine_code::reading::{Place, RegView};
+use cax64_machine_code::row::Row;
+use cax64_table::prefix::Prefix;
+
+/// The operands that are found, the number of bytes of the tail, and what follows them.
+#[derive(Clone, Copy)]
+pub(crate) struct Found<'a> {
+    pub row: Row,
+    pub reg: Option<RegView>,
+    pub vvvv: Option<u8>,
+    pub place: Option<Place>,
+    pub imm: Option<i64>,
+    pub tail: u8,
+    pub rest: &'a [u8],
+}
+
+/// A register by its number, at 8 bits where `eight`.
+fn view(eight: bool, rex: bool, number: u8) -> RegView
+    ensures { result ≡ view_of eight rex number }
+{
+    if eight && !rex && 4 <= number && number <= 7 {
+        return RegView::High(number - 4);
+    }
+    RegView::Low(number)
+}
+
+fn register(field: &RegField, prefix: &Prefix, reg: u8) -> Option<RegView>
+    requires { reg < 8 }
+    ensures { result ≡ reg_view field.now (prefix_of prefix.now) reg }
+{
+    let number = reg + 8 * u8::from(prefix.r());
+    match field {
+        RegField::Digit(_) => None,
+        RegField::Register8 => Some(view(true, prefix.has_rex(), number)),
+        RegField::Register => Some(view(false, prefix.has_rex(), number)),
+    }
+}
+
+fn register_place(field: &PlaceField, prefix: &Prefix, view: RegView) -> Option<Place>
+    ensures { result ≡ reg_place field.now (prefix_of prefix.now) view }
+{
+    match (field, view) {
+        (PlaceField::Memory, _) => None,
+        (PlaceField::RegisterOrMemory, _) => Some(Place::Reg(view)),
+        (PlaceField::Register8OrMemory, RegView::Low(number)) => {
+            Some(Place::Reg(self::view(true, prefix.has_rex(), number)))
+        }
+        (PlaceField::Register8OrMemory, RegView::High(_)) => Some(Place::Reg(view)),
+    }
+}
+
+/// The place that the tail names, where the row allows it.
+fn place(field: &PlaceField, prefix: &Prefix, place: Place) -> Option<Place>
+    ensures { result ≡ place_at field.now (prefix_of prefix.now) place }
+{
+    match place {
+        Place::Reg(view) => register_place(field, prefix, view),
+        _ => Some(place),
+    }
+}
+
+fn vvvv(field: &PrefixField, prefix: &Prefix) -> Option<u8>
+    ensures { result ≡ vvvv_at field.now (prefix_of prefix.now) }
+{
+    match field {
+        PrefixField::VexField(_, _, _, VvvvField::VvvvRegister) => Some(prefix.vvvv()),
+        _ => None,
+    }
+}
+
+/// The number in so many bytes as a signed one.
+fn signed(size: u8, n: u32) -> i64
+    requires least { 1 ≤ size }
+    requires most { size ≤ 4 }
+    requires fits { n < 256 ^ size }
+    ensures { result ≡ signed_of size n }
+{
+    let value = i64::from(n);
+    let half = 1 << (8 * size - 1);
+    if value < half {
+        value
+    } else {
+        value - 2 * half
+    }
+}
+
+/// The immediate at the front, if the row has one, and what follows it.
+fn imm<'a>(field: &ImmField, bytes: &'a [u8]) -> Option<(Option<i64>, &'a [u8])>
+    requires { HasSize field.now }
+    ensures { behind result ≡ imm_at field.now bytes.now }
+{
+    match field {
+        ImmField::NoImm => Some((None, bytes)),
+        ImmField::Imm(size) => {
+            let (n, rest) = number(*size, bytes)?;
+            Some((Some(i64::from(n)), rest))
+        }
+        ImmField::Simm(size) => {
+            let (n, rest) = number(*size, bytes)?;
+            Some((Some(signed(*size, n)), rest))
+        }
+    }
+}
+
+fn bare_operands<'a>(row: Row, line: &Line, prefix: &Prefix, bytes: &'a [u8]) -> Option<Found<'a>>
+    requires { HasSize line.now.imm }
+    ensures { option_map found_of result ≡ bare_operands row line.now (prefix_of prefix.now) bytes.now }
+{
+    let (imm, rest) = imm(&line.imm, bytes)?;
+    Some(Found {
+        row,
+        reg: None,
+        vvvv: vvvv(&line.prefix, prefix),
+        place: None,
+        imm,
+        tail: 0,
+        rest,
+    })
+}
+
+fn tail_operands<'a>(
+    row: Row,
+    line: &Line,
+    reg: &RegField,
+    field: &PlaceField,
+    prefix: &Prefix,
+    bytes: &'a [u8],
+) -> Option<Found<'a>>
+    requires { HasSize line.now.imm }
+    ensures { option_map found_of result ≡ tail_operands row line.now reg.now field.now (prefix_of prefix.now) bytes.now }
+{
+    let tail = read_tail(prefix.x(), prefix.b(), bytes)?;
+    let place = place(field, prefix, tail.place)?;
+    let (imm, rest) = imm(&line.imm, tail.rest)?;
+    Some(Found {
+        row,
+        reg: register(reg, prefix, tail.reg),
+        vvvv: vvvv(&line.prefix, prefix),
+        place: Some(place),
+        imm,
+        tail: (bytes.len() - tail.rest.len()) as u8,
+        rest,
+    })
+}
+
+/// The operands behind the opcode of a row.
+pub(crate) fn operands<'a>(
+    row: Row,
+    line: &Line,
+    prefix: &Prefix,
+    bytes: &'a [u8],
+) -> Option<Found<'a>>
+    requires { HasSize line.now.imm }
+    ensures { option_map found_of result ≡ operands_of line.now.tail row line.now (prefix_of prefix.now) bytes.now }
+{
+    match &line.tail {
+        TailField::NoTail => bare_operands(row, line, prefix, bytes),
+        TailField::Modrm(reg, field) => tail_operands(row, line, reg, field, prefix, bytes),
+    }
+}
