@@ -53,3 +53,8 @@ pub mod vex {
 pub mod evex {
     pub use cax64_prefix::evex::EvexPrefix;
 }
+
+/// The reading of machine code.
+pub mod reader {
+    pub use cax64_reader::{Place, Reading, RegView, read_inst};
+}

@@ -2,9 +2,10 @@
 
 use crate::Numbers;
 use cranelift_assembler_x64::inst::{andb_i, lock_addl_mr};
+use cranelift_assembler_x64::reader::{RegView, read_inst};
 use cranelift_assembler_x64::{
     Amode, AmodeOffset, AmodeOffsetPlusKnownOffset, Fixed, Gpr, Imm8, Inst, Instruction, Notice,
-    Recorder, TrapCode, encode_all,
+    Recorder, Row, TrapCode, encode_all,
 };
 use std::num::NonZeroU8;
 use std::process::Abort;
@@ -33,5 +34,10 @@ fn an_atomic_addition_and_a_mask(rt: HostRuntime) -> Result<(), Fail> {
         [0xF0, 0x45, 0x01, 0x4C, 0x24, 0x80, 0x24, 0xAA].as_slice()
     );
     assert_eq!(rt; sink.notices(), [Notice::Trap(0, code)].as_slice());
+
+    let reading = read_inst(sink.bytes()).ok_or("no reading")?;
+    assert_eq!(rt; reading.row, Row::lock_addl_mr);
+    assert_eq!(rt; reading.length, 6);
+    assert_eq!(rt; reading.reg, Some(RegView::Low(9)));
     Ok(())
 }
