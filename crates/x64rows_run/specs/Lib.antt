@@ -1,0 +1,5 @@
+pub mod Words
+pub mod Address
+pub mod Fault
+pub mod Status
+pub mod Tail
