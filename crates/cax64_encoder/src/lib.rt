@@ -7,4 +7,5 @@
 
 
 pub mod code;
+pub mod encoder;
 pub mod operands;

@@ -12,6 +12,8 @@ use Rattle.cax64_machine_code.specs.declared.line.VvvvField.TheVariants.{VvvvReg
 use Rattle.cax64_machine_code.specs.declared.line.PrefixField.TheVariants.{LegacyField, VexField}
 use Rattle.cax64_machine_code.specs.declared.line.RegField.TheVariants.{Digit, Register8, Register}
 use Rattle.cax64_machine_code.specs.declared.line.TailField.TheVariants.{NoTail, Modrm}
+use Rattle.cax64_machine_code.specs.declared.line.ImmField.{ImmField}
+use Rattle.cax64_machine_code.specs.declared.line.ImmField.TheVariants.{NoImm, Imm, Simm}
 
 -- What matches a row of the table. (Intel SDM, volume 2, 3.1.1.1 and 3.1.1.2.)
 
@@ -64,3 +66,9 @@ digit_matches (Modrm reg place) (byte ∷ bytes) = reg_matches reg byte
 -- what follows the row's opcode, where it stands at the front, and its digit behind it
 abbrev pub opcode_at : Line → List ℕ → Option (List ℕ)
 opcode_at line bytes = option_and_then (λ rest. if digit_matches line.tail rest then Some rest else None) (after (opcode_bytes line.opcode) bytes)
+
+-- how many bytes an immediate has
+abbrev pub imm_bytes : ImmField → ℕ
+imm_bytes NoImm = 0
+imm_bytes (Imm size) = size
+imm_bytes (Simm size) = size

@@ -1,5 +1,6 @@
 pub mod Bits
 pub mod EvexBits
+pub mod PrefixLengths
 pub mod Prefixes
 pub mod PutRuns
 pub mod RexBits

@@ -1,5 +1,6 @@
 use Rattle.std.proofs.Common.{◌≡◌, ◌≢◌, ℕ, ◌/◌, arith, List, [], ◌∷◌, ◌++◌, Bool, true, false, Option, Some, None, refl, ap}
-use Rattle.std.specs.Prelude.{◌==◌, ◌&&◌, ◌||◌, if◌then◌else◌, ◌↔◌, IsTrue, IsSome, IfSome}
+use Rattle.std.proofs.lemmas.Bool.Decides.{nat_tests}
+use Rattle.std.specs.Prelude.{not, ◌==◌, ◌&&◌, ◌||◌, if◌then◌else◌, ◌↔◌, IsTrue, IsSome, IfSome}
 use Rattle.cax64_machine_code.specs.Prefix.{Vex, rex_bits, no_legacy, legacy_at, Rex, legacy_prefix, vex_prefix, prefix_at}
 use Rattle.cax64_machine_code.specs.declared.line.LegacySet.{LegacySet}
 use Rattle.cax64_prefix.specs.declared.vex.VexPrefix.{VexPrefix}
@@ -25,6 +26,21 @@ pub record IsPlain (c : ℕ) : Type 0 where
   pub rex : c / 16 ≢ 4
   pub vex_three : c ≢ 0xC4
   pub vex_two : c ≢ 0xC5
+
+-- a test of that
+abbrev pub is_plain : ℕ → Bool
+is_plain c = not ((c == 0xF0) || ((c == 0x66) || ((c == 0xF2) || ((c == 0xF3) || ((c / 16 == 4) || ((c == 0xC4) || (c == 0xC5)))))))
+
+not_one : (c byte : ℕ) → c ≡ byte → is_plain c ≡ true → is_plain byte ≡ true
+not_one c byte e h = rw e at h
+
+pub plain_is : (c : ℕ) → is_plain c ≡ true → IsPlain c
+plain_is c h = record {
+  legacy = record { lock = λ e. (let bad : false ≡ true = not_one c 0xF0 e h in cc); operand_size = λ e. (let bad : false ≡ true = not_one c 0x66 e h in cc); repne = λ e. (let bad : false ≡ true = not_one c 0xF2 e h in cc); rep = λ e. (let bad : false ≡ true = not_one c 0xF3 e h in cc) };
+  rex = λ e. grind (arith, nat_tests);
+  vex_three = λ e. (let bad : false ≡ true = not_one c 0xC4 e h in cc);
+  vex_two = λ e. (let bad : false ≡ true = not_one c 0xC5 e h in cc);
+}
 
 stops : (seen : LegacySet) (c : ℕ) (rest : List ℕ) → IsNoLegacyByte c → legacy_at seen (c ∷ rest) ≡ (seen, c ∷ rest)
 unfolding legacy_at

@@ -1,9 +1,10 @@
-use Rattle.std.proofs.Common.{◌≡◌, ◌≢◌, ℕ, ◌+◌, ◌*◌, ◌/◌, ◌%◌, ◌<◌, arith, refl, bit_or, true, false, List, [], ◌∷◌, Some, None}
-use Rattle.std.specs.Prelude.{◌==◌}
+use Rattle.std.proofs.Common.{Bool, Option, ◌≡◌, ◌≢◌, ℕ, ◌+◌, ◌*◌, ◌/◌, ◌%◌, ◌<◌, arith, refl, bit_or, true, false, List, [], ◌∷◌, Some, None}
+use Rattle.std.specs.Prelude.{IfSome, ◌==◌}
 use Rattle.std.proofs.lemmas.Bool.Decides.{nat_tests}
-use Rattle.cax64_machine_code.specs.Prefix.{Rex, rex_of, rex_at}
+use Rattle.std.specs.Int.{from_bool}
+use Rattle.cax64_machine_code.specs.Prefix.{rex_bits, Rex, rex_of, rex_at}
 use Rattle.cax64_prefix.specs.Rex.{rex_byte, begins_rex, RexReadsBack}
-use Rattle.cax64_prefix.proofs.Bits.{joined}
+use Rattle.cax64_prefix.proofs.Bits.{joined, bool_below}
 
 -- each bit is 0 or 1
 pub record AreBits (rex : Rex) : Type 0 where
@@ -62,3 +63,11 @@ some_reads_back rex h = record { reads = λ rest _. rex_at-some rex rest h }
 -- the bits of any byte are bits
 pub bits_of_byte : (byte : ℕ) → AreBits (rex_of byte)
 bits_of_byte byte = record { w = omega arith; r = omega arith; x = omega arith; b = omega arith }
+
+-- the bits of W and of three registers
+pub are_bits : (w : Bool) (reg index base : ℕ) → reg < 16 → index < 16 → base < 16 → AreBits (record { w = from_bool w; r = reg / 8; x = index / 8; b = base / 8 })
+are_bits w reg index base r x b = record { w = bool_below w; r = omega arith; x = omega arith; b = omega arith }
+
+pub some_are_bits : (rex : Option Rex) (bits : Rex) → rex_bits rex ≡ bits → AreBits bits → IfSome rex AreBits
+some_are_bits None bits is h = tt
+some_are_bits (Some rex) bits is h = rw is h

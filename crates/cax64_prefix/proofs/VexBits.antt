@@ -1,8 +1,10 @@
 use Rattle.std.proofs.Common.{◌≡◌, ℕ, ◌+◌, ◌-◌, ◌*◌, ◌/◌, ◌%◌, ◌<◌, ◌≤◌, arith, refl, Bool, true, false, List, [], ◌∷◌, ◌++◌, length, length-append, Option, Some, None, ap, ◌⊎◌, inl, inr}
-use Rattle.std.specs.Prelude.{◌==◌, ◌&&◌, if◌then◌else◌, IfSome, unwrap_or}
+use Rattle.std.specs.Prelude.{IsTrue, ◌↔◌, ◌==◌, ◌&&◌, if◌then◌else◌, IfSome, unwrap_or}
 use Rattle.std.proofs.lemmas.Bool.Decides.{nat_tests}
 use Rattle.cax64_machine_code.specs.Prefix.{Vex, vex_at, vex_two_byte, vex_three_byte, is_vex_map}
-use Rattle.cax64_prefix.specs.Vex.{vex_fields, VexReadsAs, IsShortestVex, fits_two_bytes}
+use Rattle.cax64_prefix.specs.declared.vex.VexPrefix.{VexPrefix}
+use Rattle.cax64_prefix.specs.declared.vex.VexPrefix.TheVariants.{TwoByte, ThreeByte}
+use Rattle.cax64_prefix.specs.Vex.{vex_bytes, vex_fields, VexReadsAs, IsShortestVex, fits_two_bytes}
 use Rattle.cax64_prefix.proofs.Bits.{bool_below}
 
 -- fields that a VEX prefix can hold
@@ -128,3 +130,10 @@ is_vex w reg vvvv operand l pp map hr hv hb hx hl hp low high =
     let b : unwrap_or operand.0 0 < 16 = register_below 16 operand.0 (omega arith) hb in
     let x : unwrap_or operand.1 0 < 16 = register_below 16 operand.1 (omega arith) hx in
     record { w = bool_below w; r = omega arith; x = omega arith; b = omega arith; vvvv = hv; l = hl; pp = hp; map_low = low; map_high = high }
+
+-- the length of a VEX prefix, of which it is known when it is 2
+pub vex_length : (prefix : VexPrefix) (fits : Bool) → ((length (vex_bytes prefix) ≡ 2) ↔ IsTrue fits) → length (vex_bytes prefix) ≡ (if fits then 2 else 3)
+vex_length (TwoByte last) true h = refl
+vex_length (TwoByte last) false h = let bad : false ≡ true = h.0 refl in cc
+vex_length (ThreeByte second last) true h = h.1 refl
+vex_length (ThreeByte second last) false h = refl

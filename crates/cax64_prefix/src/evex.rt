@@ -1,4 +1,4 @@
-//! EVEX prefixes, and their form for general registers. (Intel SDM, volume 2, 2.7.1; Intel APX specification, 3.1.3.)
+//! EVEX prefixes, and their form for general registers. (Intel SDM, volume 2, 2.7.1; Intel APX specification, 3.1.2.3.1.)
 
 ghost use Rattle.std.specs.Prelude.{◌≡◌, ◌+◌, ◌-◌, ◌*◌, ◌/◌, ◌%◌, ◌<◌, ◌++◌, IfOk, IfSome, length};
 ghost use Rattle.std.specs.Int.{from_bool};
@@ -31,7 +31,8 @@ impl Model for EvexPrefix {
 fn byte1(reg: u8, index: u8, base: u8, b4: u8, mmm: u8) -> u8
     requires b4 { b4 < 2 }
     requires mmm { mmm < 8 }
-    ensures { result ≡ (1 - reg / 8 % 2) * 128 + (1 - index / 8 % 2) * 64 + (1 - base / 8 % 2) * 32 + (1 - reg / 16 % 2) * 16 + b4 * 8 + mmm }
+    ensures { result ≡ (1 - reg / 8 % 2) * 128 + (1 - index / 8 % 2) * 64 + (1 - base / 8 % 2) * 32 +
+        (1 - reg / 16 % 2) * 16 + b4 * 8 + mmm }
 {
     let r4 = invert_top_bit(reg >> 1);
     register_byte(reg, index, base, r4 << 4 | b4 << 3 | mmm)

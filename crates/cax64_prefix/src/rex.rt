@@ -89,7 +89,8 @@ impl RexPrefix {
         requires rm { enc_rm < 16 }
         ensures bits { rex_bits result ≡ record { w = from_bool w_bit; r = enc_reg / 8; x = 0; b = enc_rm / 8 } }
         ensures stands { IsSome result ↔
-            IsTrue (w_bit || nat_le 8 enc_reg || nat_le 8 enc_rm || (uses_8bit && (is_special_if_8bit enc_reg || is_special_if_8bit enc_rm))) }
+            IsTrue (w_bit || nat_le 8 enc_reg || nat_le 8 enc_rm ||
+            (uses_8bit && (is_special_if_8bit enc_reg || is_special_if_8bit enc_rm))) }
     {
         let special = is_special_if_8bit(enc_reg) || is_special_if_8bit(enc_rm);
         RexPrefix::of_registers(enc_reg, 0, enc_rm, w_bit, uses_8bit && special)
@@ -102,7 +103,8 @@ impl RexPrefix {
         requires rm { enc_rm < 16 }
         ensures bits { rex_bits result ≡ record { w = from_bool w_bit; r = enc_reg / 8; x = 0; b = enc_rm / 8 } }
         ensures stands { IsSome result ↔
-            IsTrue (w_bit || nat_le 8 enc_reg || nat_le 8 enc_rm || (uses_8bit && is_special_if_8bit enc_reg)) }
+            IsTrue (w_bit || nat_le 8 enc_reg || nat_le 8 enc_rm ||
+            (uses_8bit && is_special_if_8bit enc_reg)) }
     {
         let must_emit = uses_8bit && is_special_if_8bit(enc_reg);
         RexPrefix::of_registers(enc_reg, 0, enc_rm, w_bit, must_emit)
@@ -114,7 +116,8 @@ impl RexPrefix {
         requires reg { enc_reg < 16 }
         ensures bits { rex_bits result ≡ record { w = from_bool w_bit; r = 0; x = 0; b = enc_reg / 8 } }
         ensures stands { IsSome result ↔
-            IsTrue (w_bit || nat_le 8 enc_reg || (uses_8bit && (is_special_if_8bit digit || is_special_if_8bit enc_reg))) }
+            IsTrue (w_bit || nat_le 8 enc_reg ||
+            (uses_8bit && (is_special_if_8bit digit || is_special_if_8bit enc_reg))) }
     {
         RexPrefix::two_op(digit, enc_reg, w_bit, uses_8bit)
     }
@@ -126,7 +129,8 @@ impl RexPrefix {
         requires base { enc_base < 16 }
         ensures bits { rex_bits result ≡ record { w = from_bool w_bit; r = enc_reg / 8; x = enc_index / 8; b = enc_base / 8 } }
         ensures stands { IsSome result ↔
-            IsTrue (w_bit || nat_le 8 enc_reg || nat_le 8 enc_index || nat_le 8 enc_base || (uses_8bit && is_special_if_8bit enc_reg)) }
+            IsTrue (w_bit || nat_le 8 enc_reg || nat_le 8 enc_index || nat_le 8 enc_base ||
+            (uses_8bit && is_special_if_8bit enc_reg)) }
     {
         let must_emit = uses_8bit && is_special_if_8bit(enc_reg);
         RexPrefix::of_registers(enc_reg, enc_index, enc_base, w_bit, must_emit)

@@ -46,7 +46,8 @@ impl VexPrefix {
         requires map_low { 1 ≤ mmmmm }
         requires map_high { mmmmm ≤ 3 }
         ensures reads { VexReadsAs (vex_fields reg vvvv operand l pp mmmmm w) (vex_bytes result) }
-        ensures two_bytes { (length (vex_bytes result) ≡ 2) ↔ IsTrue (fits_two_bytes (vex_fields reg vvvv operand l pp mmmmm w)) }
+        ensures two_bytes { (length (vex_bytes result) ≡ 2) ↔
+            IsTrue (fits_two_bytes (vex_fields reg vvvv operand l pp mmmmm w)) }
         ensures shortest { IsShortestVex (vex_fields reg vvvv operand l pp mmmmm w) (vex_bytes result) }
     {
         let base = operand.0.unwrap_or(0);
@@ -78,7 +79,8 @@ impl VexPrefix {
         requires map_low { 1 ≤ mmmmm }
         requires map_high { mmmmm ≤ 3 }
         ensures reads { VexReadsAs (vex_fields reg 0 operand l pp mmmmm w) (vex_bytes result) }
-        ensures two_bytes { (length (vex_bytes result) ≡ 2) ↔ IsTrue (fits_two_bytes (vex_fields reg 0 operand l pp mmmmm w)) }
+        ensures two_bytes { (length (vex_bytes result) ≡ 2) ↔
+            IsTrue (fits_two_bytes (vex_fields reg 0 operand l pp mmmmm w)) }
         ensures shortest { IsShortestVex (vex_fields reg 0 operand l pp mmmmm w) (vex_bytes result) }
     {
         VexPrefix::three_op(reg, 0, operand, l, pp, mmmmm, w)

@@ -1,0 +1,166 @@
+use Rattle.std.specs.Prelude.{ℕ, ◌+◌, ◌*◌, ◌/◌, Bool, true, false, not, ◌&&◌, ◌||◌, ◌==◌, nat_lt, nat_le, if◌then◌else◌, Option, Some, None}
+use Rattle.cax64_encoder.specs.Operands.{imm_in_range}
+use Rattle.cax64_encoder.specs.declared.operands.Number.{Number}
+use Rattle.cax64_encoder.specs.declared.operands.ImmOperand.{ImmOperand}
+use Rattle.cax64_encoder.specs.declared.operands.ImmOperand.TheVariants.{Imm8, Imm16, Imm32, Simm8, Simm32}
+use Rattle.cax64_encoder.specs.declared.operands.PlaceOperand as place
+use Rattle.cax64_encoder.specs.declared.operands.PlaceOperand.{PlaceOperand}
+use Rattle.cax64_encoder.specs.declared.operands.Operands.{Operands}
+use Rattle.cax64_machine_code.specs.Line.{imm_bytes}
+use Rattle.cax64_machine_code.specs.declared.line.Line.{Line}
+use Rattle.cax64_machine_code.specs.declared.line.LegacySet.{LegacySet}
+use Rattle.cax64_machine_code.specs.declared.line.Opcode.{Opcode}
+use Rattle.cax64_machine_code.specs.declared.line.VvvvField.{VvvvField}
+use Rattle.cax64_machine_code.specs.declared.line.VvvvField.TheVariants.{VvvvRegister, Stored1111}
+use Rattle.cax64_machine_code.specs.declared.line.PrefixField.{PrefixField}
+use Rattle.cax64_machine_code.specs.declared.line.PrefixField.TheVariants.{LegacyField, VexField}
+use Rattle.cax64_machine_code.specs.declared.line.RegField.{RegField}
+use Rattle.cax64_machine_code.specs.declared.line.RegField.TheVariants.{Digit, Register8, Register}
+use Rattle.cax64_machine_code.specs.declared.line.PlaceField.{PlaceField}
+use Rattle.cax64_machine_code.specs.declared.line.PlaceField.TheVariants.{Memory, RegisterOrMemory, Register8OrMemory}
+use Rattle.cax64_machine_code.specs.declared.line.TailField.{TailField}
+use Rattle.cax64_machine_code.specs.declared.line.TailField.TheVariants.{NoTail, Modrm}
+use Rattle.cax64_machine_code.specs.declared.line.ImmField.{ImmField}
+use Rattle.cax64_machine_code.specs.declared.line.ImmField.TheVariants.{NoImm, Imm, Simm}
+
+-- Whether operands have the shape that a row asks for.
+
+abbrev pub reg_fits : RegField → Option Number → Bool
+reg_fits (Digit d) None = true
+reg_fits (Digit d) (Some number) = false
+reg_fits Register8 None = false
+reg_fits Register8 (Some number) = true
+reg_fits Register None = false
+reg_fits Register (Some number) = true
+
+abbrev pub place_fits : {M : Type 0} → PlaceField → PlaceOperand M → Bool
+place_fits field place.TheVariants.NoPlace = false
+place_fits Memory (place.TheVariants.Register number) = false
+place_fits RegisterOrMemory (place.TheVariants.Register number) = true
+place_fits Register8OrMemory (place.TheVariants.Register number) = true
+place_fits field (place.TheVariants.Memory amode) = true
+
+abbrev pub is_no_place : {M : Type 0} → PlaceOperand M → Bool
+is_no_place place.TheVariants.NoPlace = true
+is_no_place (place.TheVariants.Register number) = false
+is_no_place (place.TheVariants.Memory amode) = false
+
+abbrev pub is_absent : Option Number → Bool
+is_absent None = true
+is_absent (Some number) = false
+
+abbrev pub tail_fits : {M : Type 0} → TailField → Option Number → PlaceOperand M → Bool
+tail_fits NoTail number operand = is_absent number && is_no_place operand
+tail_fits (Modrm reg field) number operand = reg_fits reg number && place_fits field operand
+
+abbrev pub vvvv_fits : PrefixField → Option Number → Bool
+vvvv_fits (LegacyField set rex) number = is_absent number
+vvvv_fits (VexField pp map l VvvvRegister) number = not (is_absent number)
+vvvv_fits (VexField pp map l Stored1111) number = is_absent number
+
+abbrev pub imm_has_size : ImmField → ImmOperand → Bool
+imm_has_size NoImm operand = false
+imm_has_size (Imm size) (Imm8 v) = size == 1
+imm_has_size (Imm size) (Imm16 v) = size == 2
+imm_has_size (Imm size) (Imm32 v) = size == 4
+imm_has_size (Imm size) (Simm8 v) = false
+imm_has_size (Imm size) (Simm32 v) = false
+imm_has_size (Simm size) (Imm8 v) = false
+imm_has_size (Simm size) (Imm16 v) = false
+imm_has_size (Simm size) (Imm32 v) = false
+imm_has_size (Simm size) (Simm8 v) = size == 1
+imm_has_size (Simm size) (Simm32 v) = size == 4
+
+abbrev pub is_no_imm : ImmField → Bool
+is_no_imm NoImm = true
+is_no_imm (Imm size) = false
+is_no_imm (Simm size) = false
+
+abbrev pub imm_fits : ImmField → Option ImmOperand → Bool
+imm_fits field None = is_no_imm field
+imm_fits field (Some operand) = imm_has_size field operand && imm_in_range operand
+
+-- the operands have the row's shape
+abbrev pub fits : {M : Type 0} → Line → Operands M → Bool
+fits line o = tail_fits line.tail o.reg o.place && (vvvv_fits line.prefix o.vvvv && imm_fits line.imm o.imm)
+
+-- Whether a line can be encoded: a test that is computed over the whole table.
+
+-- a byte that begins no prefix
+abbrev pub is_plain : ℕ → Bool
+is_plain c = not ((c == 0xF0) || ((c == 0x66) || ((c == 0xF2) || ((c == 0xF3) || ((c / 16 == 4) || ((c == 0xC4) || (c == 0xC5)))))))
+
+abbrev pub first_byte : Opcode → ℕ
+first_byte opcode = if opcode.escape then 0x0F else opcode.byte
+
+abbrev pub opcode_size : Opcode → ℕ
+opcode_size opcode = if opcode.escape then 2 else 1
+
+abbrev pub one_if : Bool → ℕ
+one_if true = 1
+one_if false = 0
+
+abbrev pub set_size : LegacySet → ℕ
+set_size set = one_if set.lock + (one_if set.operand_size + (one_if set.repne + one_if set.rep))
+
+-- how many bytes of prefixes there are at most
+abbrev pub prefix_size : PrefixField → ℕ
+prefix_size (LegacyField set rex) = set_size set + 1
+prefix_size (VexField pp map l vvvv) = 3
+
+abbrev pub tail_size : TailField → ℕ
+tail_size NoTail = 0
+tail_size (Modrm reg field) = 6
+
+abbrev pub is_w : Option ℕ → Bool
+is_w None = true
+is_w (Some w) = nat_lt w 2
+
+abbrev pub is_w0 : Option ℕ → Bool
+is_w0 None = true
+is_w0 (Some w) = w == 0
+
+abbrev pub has_tail : TailField → Bool
+has_tail NoTail = false
+has_tail (Modrm reg field) = true
+
+abbrev pub is_prefix_field : PrefixField → Opcode → TailField → Bool
+is_prefix_field (LegacyField set rex) opcode tail = not (set.repne && set.rep) && (rex || not (has_tail tail))
+is_prefix_field (VexField pp map l vvvv) opcode tail = nat_lt pp 4 && (nat_le 1 map && (nat_le map 3 && (nat_lt l 2 && (not opcode.escape && has_tail tail))))
+
+abbrev pub is_digit : TailField → Bool
+is_digit NoTail = true
+is_digit (Modrm (Digit d) field) = nat_lt d 8
+is_digit (Modrm Register8 field) = true
+is_digit (Modrm Register field) = true
+
+-- the reg field is an 8-bit register, the place may be one
+abbrev pub uses_8bit_reg : TailField → Bool
+uses_8bit_reg NoTail = false
+uses_8bit_reg (Modrm (Digit d) field) = false
+uses_8bit_reg (Modrm Register8 field) = true
+uses_8bit_reg (Modrm Register field) = false
+
+abbrev pub uses_8bit_place : TailField → Bool
+uses_8bit_place NoTail = false
+uses_8bit_place (Modrm reg Memory) = false
+uses_8bit_place (Modrm reg RegisterOrMemory) = false
+uses_8bit_place (Modrm reg Register8OrMemory) = true
+
+-- a row with an r8 or rm8 field
+abbrev pub has_8bit : TailField → Bool
+has_8bit tail = uses_8bit_reg tail || uses_8bit_place tail
+
+abbrev pub is_vex : PrefixField → Bool
+is_vex (LegacyField set rex) = false
+is_vex (VexField pp map l vvvv) = true
+
+abbrev pub is_line : Line → Bool
+is_line line =
+    is_plain (first_byte line.opcode)
+    && (is_prefix_field line.prefix line.opcode line.tail
+    && (is_w line.w
+    && ((has_tail line.tail || is_w0 line.w)
+    && (is_digit line.tail
+    && (not (is_vex line.prefix && has_8bit line.tail)
+    && nat_le (prefix_size line.prefix + (opcode_size line.opcode + (tail_size line.tail + imm_bytes line.imm))) 13)))))

@@ -1,0 +1,213 @@
+//! From a line of the table and operands to the code of an instruction.
+
+ghost use Rattle.std.specs.Prelude.{◌≡◌, ◌==◌, ◌<◌, ◌/◌, ◌&&◌, ◌||◌, ◌↔◌, false, IsTrue, IsSome, IfSome, Option, option_map, unwrap_or, pos};
+ghost use Rattle.std.specs.Int.{from_bool};
+ghost use Rattle.cax64_encoder.specs.Code.{prefix_actions, tail_actions, code_actions};
+ghost use Rattle.cax64_encoder.specs.Encodes.{reg_number, rex_stands, trap_in, memory_in, operand_parts, TailPartOf, PrefixFor, EncodesAs};
+ghost use Rattle.cax64_encoder.specs.Fits.{has_8bit, has_tail, is_w, is_w0, is_no_place, vvvv_fits, is_line, fits};
+ghost use Rattle.cax64_encoder.specs.Operands.{are_real, number_value, place_is_real, is_absent_or_real, place_x, place_b, imm_size};
+ghost use Rattle.cax64_machine_code.specs.Line.{w_matches};
+ghost use Rattle.cax64_machine_code.specs.Prefix.{rex_bits};
+ghost use Rattle.cax64_machine_code.specs.Rows.{line_of};
+ghost use Rattle.cax64_sink.specs.Sink.{all_bytes};
+
+use crate::code::{Code, PrefixCode, TailPart};
+use crate::operands::{ImmOperand, Number, Operands, PlaceOperand};
+use cax64_address::amode::Amode;
+use cax64_address::disp::encode_modrm;
+use cax64_address::tail::tail_of;
+use cax64_machine_code::line::{Line, PlaceField, PrefixField, RegField, TailField};
+use cax64_prefix::rex::RexPrefix;
+use cax64_prefix::vex::VexPrefix;
+use cax64_machine_code::row::Row;
+use cax64_register::AsReg;
+use cax64_sink::TrapCode;
+
+/// Whether a row has an 8-bit register field.
+fn has_8bit(tail: TailField) -> bool
+    ensures { result ≡ has_8bit tail }
+{
+    match tail {
+        TailField::NoTail => false,
+        TailField::Modrm(RegField::Register8, _) => true,
+        TailField::Modrm(_, PlaceField::Register8OrMemory) => true,
+        TailField::Modrm(_, _) => false,
+    }
+}
+
+/// The number in the reg field: the digit, or the register's.
+fn reg_number(tail: TailField, reg: Option<Number>) -> u8
+    ensures { result ≡ reg_number tail reg }
+{
+    match tail {
+        TailField::NoTail => 0,
+        TailField::Modrm(RegField::Digit(digit), _) => digit,
+        TailField::Modrm(_, _) => match reg {
+            Some(number) => number.value(),
+            None => 0,
+        },
+    }
+}
+
+/// The REX prefix of a number in reg and a place.
+fn rex_of<M: AsReg>(w: bool, uses_8bit: bool, reg: u8, place: &PlaceOperand<M>) -> RexPrefix
+    requires reg { reg < 16 }
+    requires place { IsTrue (place_is_real M.settled M.enc place.now) }
+    ensures bits { rex_bits result ≡ record { w = from_bool w; r = reg / 8; x = place_x M.enc place.now; b = place_b M.enc place.now } }
+    ensures stands { IsSome result ↔ IsTrue (rex_stands M.enc w uses_8bit reg place.now) }
+{
+    match *place {
+        PlaceOperand::NoPlace => RexPrefix::two_op(reg, 0, w, uses_8bit),
+        PlaceOperand::Register(number) => RexPrefix::two_op(reg, number.value(), w, uses_8bit),
+        PlaceOperand::Memory(Amode::ImmReg { base, .. }) => {
+            RexPrefix::mem_op(reg, base.enc(), w, uses_8bit)
+        }
+        PlaceOperand::Memory(Amode::ImmRegRegShift { base, index, .. }) => {
+            RexPrefix::three_op(reg, index.enc(), base.enc(), w, uses_8bit)
+        }
+        PlaceOperand::Memory(Amode::RipRelative { .. }) => {
+            RexPrefix::two_op(reg, 0, w, uses_8bit)
+        }
+    }
+}
+
+/// The register or base of a place, and its index, as VEX takes them.
+fn operand_registers<M: AsReg>(place: &PlaceOperand<M>) -> (Option<u8>, Option<u8>)
+    requires { IsTrue (place_is_real M.settled M.enc place.now) }
+    ensures b { unwrap_or result.0 0 / 8 ≡ place_b M.enc place.now }
+    ensures x { unwrap_or result.1 0 / 8 ≡ place_x M.enc place.now }
+    ensures base { IfSome result.0 (λ b. b < 16) }
+    ensures index { IfSome result.1 (λ x. x < 16) }
+{
+    match *place {
+        PlaceOperand::NoPlace => (None, None),
+        PlaceOperand::Register(number) => (Some(number.value()), None),
+        PlaceOperand::Memory(Amode::ImmReg { base, .. }) => (Some(base.enc()), None),
+        PlaceOperand::Memory(Amode::ImmRegRegShift { base, index, .. }) => {
+            (Some(base.enc()), Some(index.enc()))
+        }
+        PlaceOperand::Memory(Amode::RipRelative { .. }) => (None, None),
+    }
+}
+
+/// The number in vvvv, 0 where there is none.
+fn vvvv_number(vvvv: Option<Number>) -> u8
+    requires { IsTrue (is_absent_or_real vvvv) }
+    ensures number { result ≡ unwrap_or (option_map number_value vvvv) 0 }
+    ensures below { result < 16 }
+{
+    match vvvv {
+        Some(number) => number.value(),
+        None => 0,
+    }
+}
+
+/// The bit W of a row; 0 is written where either is read.
+fn w_bit(w: Option<u8>) -> bool
+    requires { IsTrue (is_w w) }
+    ensures matches { IsTrue (w_matches w (from_bool result)) }
+    ensures zero { IsTrue (is_w0 w) → result ≡ false }
+{
+    match w {
+        Some(w) => w == 1,
+        None => false,
+    }
+}
+
+/// What stands before the opcode of a row, with this number in reg.
+fn prefix_of<M: AsReg>(
+    line: Line,
+    reg: u8,
+    vvvv: Option<Number>,
+    place: &PlaceOperand<M>,
+) -> PrefixCode
+    requires line { IsTrue (is_line line) }
+    requires reg { reg < 16 }
+    requires vvvv { IsTrue (is_absent_or_real vvvv) }
+    requires place { IsTrue (place_is_real M.settled M.enc place.now) }
+    requires vvvv_fits { IsTrue (vvvv_fits line.prefix vvvv) }
+    requires bare { IsTrue (has_tail line.tail || (is_no_place place.now && (reg == 0))) }
+    ensures { PrefixFor M.enc line reg vvvv place.now (all_bytes (prefix_actions result)) }
+{
+    let w = w_bit(line.w);
+    match line.prefix {
+        PrefixField::LegacyField(set, _) => {
+            PrefixCode::Legacy(set, rex_of(w, has_8bit(line.tail), reg, place))
+        }
+        PrefixField::VexField(pp, map, l, _) => PrefixCode::Vex(VexPrefix::three_op(
+            reg,
+            vvvv_number(vvvv),
+            operand_registers(place),
+            l,
+            pp,
+            map,
+            w,
+        )),
+    }
+}
+
+/// The tail of a place, with this number in reg, before this many bytes of immediate.
+fn tail_part<M: AsReg>(
+    reg: u8,
+    place: &PlaceOperand<M>,
+    displacement: i32,
+    bytes_at_end: u8,
+) -> TailPart
+    requires reg { reg < 16 }
+    requires place { IsTrue (place_is_real M.settled M.enc place.now) }
+    ensures { TailPartOf M.enc displacement bytes_at_end reg place.now (tail_actions result) }
+{
+    match place {
+        PlaceOperand::NoPlace => TailPart::NoTail,
+        PlaceOperand::Register(number) => {
+            TailPart::Register(encode_modrm(3, reg % 8, number.value() % 8))
+        }
+        PlaceOperand::Memory(amode) => {
+            TailPart::Memory(tail_of(reg, amode, displacement, bytes_at_end, None))
+        }
+    }
+}
+
+/// The number of bytes of an immediate.
+fn imm_size(imm: Option<ImmOperand>) -> u8
+    ensures { result ≡ imm_size imm }
+{
+    match imm {
+        None => 0,
+        Some(ImmOperand::Imm8(_)) => 1,
+        Some(ImmOperand::Simm8(_)) => 1,
+        Some(ImmOperand::Imm16(_)) => 2,
+        Some(ImmOperand::Imm32(_)) => 4,
+        Some(ImmOperand::Simm32(_)) => 4,
+    }
+}
+
+/// The trap of the memory operand.
+fn trap_of<M: AsReg>(place: &PlaceOperand<M>) -> Option<TrapCode>
+    ensures { result ≡ trap_in place.now }
+{
+    match place {
+        PlaceOperand::Memory(amode) => amode.trap_code(),
+        _ => None,
+    }
+}
+
+/// The code of the instruction of a row with these operands, whose memory operand has this displacement.
+pub fn code_of<M: AsReg>(line: Line, operands: &Operands<M>, displacement: i32) -> Code
+    requires line { IsTrue (is_line line) }
+    requires fits { IsTrue (fits line operands.now) }
+    requires real { IsTrue (are_real M.settled M.enc operands.now) }
+    ensures {
+      (row : Row) → line_of row ≡ line
+      → EncodesAs (operand_parts M.enc row displacement operands.now) (memory_in operands.now.place) (code_actions result)
+    }
+{
+    let reg = reg_number(line.tail, operands.reg);
+    Code {
+        trap: trap_of(&operands.place),
+        prefix: prefix_of(line, reg, operands.vvvv, &operands.place),
+        opcode: line.opcode,
+        tail: tail_part(reg, &operands.place, displacement, imm_size(operands.imm)),
+        imm: operands.imm,
+    }
+}

@@ -1,0 +1,4 @@
+pub mod Packed
+pub mod Key
+pub mod Read
+pub mod Cursor

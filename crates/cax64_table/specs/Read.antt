@@ -1,0 +1,27 @@
+use Rattle.std.specs.Prelude.{option_map}
+use Rattle.cax64_machine_code.specs.Prefix as definitions
+use Rattle.cax64_table.specs.declared.prefix.Rex.{Rex}
+use Rattle.cax64_table.specs.declared.prefix.Vex.{Vex}
+use Rattle.cax64_table.specs.declared.prefix.Prefix.{Prefix}
+use Rattle.cax64_table.specs.declared.prefix.Prefix.TheVariants.{LegacyPrefix, VexPrefix}
+
+-- A prefix in the words of the definitions.
+
+abbrev pub rex_bits_of : Rex → definitions.Rex
+rex_bits_of rex = record { w = rex.w; r = rex.r; x = rex.x; b = rex.b }
+
+abbrev pub vex_fields_of : Vex → definitions.Vex
+vex_fields_of vex = record {
+  w = vex.w;
+  r = vex.r;
+  x = vex.x;
+  b = vex.b;
+  vvvv = vex.vvvv;
+  l = vex.l;
+  pp = vex.pp;
+  map = vex.map;
+}
+
+abbrev pub prefix_of : Prefix → definitions.Prefix
+prefix_of (LegacyPrefix set rex) = definitions.legacy_prefix set (option_map rex_bits_of rex)
+prefix_of (VexPrefix vex) = definitions.vex_prefix (vex_fields_of vex)

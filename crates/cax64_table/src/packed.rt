@@ -1,0 +1,513 @@
+//! The table, one packed number for each row. Nothing outside this module knows how a row is packed.
+
+ghost use Rattle.std.specs.Prelude.{◌≡◌, ◌≤◌, ◌/◌, ◌%◌, ◌^◌, ◌<◌, nat_lt, true, false, length, All, Contains};
+ghost use Rattle.std.specs.Option.{ForSome};
+ghost use Rattle.std.specs.List.Sorted.{IsNonDecreasingBy, IsPartitionPoint};
+ghost use Rattle.cax64_machine_code.specs.Rows.{line_of};
+ghost use Rattle.cax64_table.specs.Packed.{prefix_field, w_field, opcode_field, place_field, tail_field, imm_field, unpacked, flag_at, number_of, entry_of};
+ghost use Rattle.cax64_table.specs.Key.{key_of, row_key, HasKey};
+ghost use Rattle.cax64_machine_code.specs.declared.row.Row.{Row};
+
+use cax64_machine_code::line::{
+    ImmField, LegacySet, Line, Opcode, PlaceField, PrefixField, RegField, TailField, VvvvField,
+};
+use cax64_machine_code::row::Row;
+
+/// From the lowest bit: the number of bytes of the immediate in three bits, its sign; two bits of W, 2 for either
+/// value; VEX; then lock, 66, F2, F3 and REX, or pp and map of two bits each, L and vvvv; the place in two bits, what
+/// stands in the reg field in two, the digit in four, 8 for none; the opcode byte and the escape.
+const TABLE: [u64; 158] = [
+    0x1000_88a1,
+    0x1020_8982,
+    0x1020_8884,
+    0x1020_889c,
+    0x1060_8889,
+    0x1060_8899,
+    0x0011_08a0,
+    0x0031_8980,
+    0x0031_8880,
+    0x0031_8890,
+    0x1002_88a1,
+    0x1022_8982,
+    0x1022_8884,
+    0x1022_889c,
+    0x1062_8889,
+    0x1062_8899,
+    0x0111_08a0,
+    0x0131_8980,
+    0x0131_8880,
+    0x0131_8890,
+    0x1004_88a1,
+    0x1024_8982,
+    0x1024_8884,
+    0x1024_889c,
+    0x1064_8889,
+    0x1064_8899,
+    0x0211_08a0,
+    0x0231_8980,
+    0x0231_8880,
+    0x0231_8890,
+    0x1006_88a1,
+    0x1026_8982,
+    0x1026_8884,
+    0x1026_889c,
+    0x1066_8889,
+    0x1066_8899,
+    0x0311_08a0,
+    0x0331_8980,
+    0x0331_8880,
+    0x0331_8890,
+    0x1008_88a1,
+    0x1028_8982,
+    0x1028_8884,
+    0x1028_889c,
+    0x1068_8889,
+    0x1068_8899,
+    0x0411_08a0,
+    0x0431_8980,
+    0x0431_8880,
+    0x0431_8890,
+    0x100a_88a1,
+    0x102a_8982,
+    0x102a_8884,
+    0x102a_889c,
+    0x106a_8889,
+    0x106a_8899,
+    0x0511_08a0,
+    0x0531_8980,
+    0x0531_8880,
+    0x0531_8890,
+    0x100c_88a1,
+    0x102c_8982,
+    0x102c_8884,
+    0x102c_889c,
+    0x106c_8889,
+    0x106c_8899,
+    0x0611_08a0,
+    0x0631_8980,
+    0x0631_8880,
+    0x0631_8890,
+    0x3811_08a0,
+    0x3831_8980,
+    0x3831_8880,
+    0x3831_8890,
+    0x3611_08a0,
+    0x3631_8980,
+    0x3631_8880,
+    0x3631_8890,
+    0x38e2_8890,
+    0x10d1_0820,
+    0x10f1_8900,
+    0x10f1_8800,
+    0x10f1_8810,
+    0x1a00_c820,
+    0x1a20_a900,
+    0x1a20_a800,
+    0x1a20_a810,
+    0x1a02_c820,
+    0x1a22_a900,
+    0x1a22_a800,
+    0x1a22_a810,
+    0x1a08_c820,
+    0x1a28_a900,
+    0x1a28_a800,
+    0x1a28_a810,
+    0x1a0a_c820,
+    0x1a2a_a900,
+    0x1a2a_a800,
+    0x1a2a_a810,
+    0x1a0e_c820,
+    0x1a2e_a900,
+    0x1a2e_a800,
+    0x1a2e_a810,
+    0x1fe4_a820,
+    0x1fe8_a820,
+    0x2a91_a820,
+    0x3851_a821,
+    0x3851_a921,
+    0x3851_ac21,
+    0x3851_aa21,
+    0x0490_0821,
+    0x1d10_082c,
+    0x1d70_0829,
+    0x1d30_082c,
+    0x0e10_0829,
+    0x0e30_0829,
+    0x0e50_0829,
+    0x0e70_0829,
+    0x0e90_0829,
+    0x0eb0_0829,
+    0x0ed0_0829,
+    0x0ef0_0829,
+    0x0f10_0829,
+    0x0f30_0829,
+    0x0f50_0829,
+    0x0f70_0829,
+    0x0f90_0829,
+    0x0fb0_0829,
+    0x0fd0_0829,
+    0x0ff0_0829,
+    0x3010_082c,
+    0x3030_082c,
+    0x3050_082c,
+    0x3070_082c,
+    0x3090_082c,
+    0x30b0_082c,
+    0x30d0_082c,
+    0x30f0_082c,
+    0x3110_082c,
+    0x3130_082c,
+    0x3150_082c,
+    0x3170_082c,
+    0x3190_082c,
+    0x31b0_082c,
+    0x31d0_082c,
+    0x31f0_082c,
+    0x1851_b241,
+    0x1851_b2c1,
+    0x1851_b341,
+    0x1851_b3c1,
+    0x0b51_a2c0,
+    0x1cd1_a2c0,
+    0x1ed1_b5c0,
+    0x1ed1_b5d0,
+    0x1210_0020,
+    0x1210_0120,
+    0x23e0_a800,
+    0x23e0_a900,
+];
+
+/// The rows by their keys, which rise.
+const BY_KEY: [Row; 158] = [
+    Row::lock_addb_mr,
+    Row::lock_addw_mr,
+    Row::lock_addl_mr,
+    Row::lock_addq_mr,
+    Row::lock_orb_mr,
+    Row::lock_orw_mr,
+    Row::lock_orl_mr,
+    Row::lock_orq_mr,
+    Row::lock_adcb_mr,
+    Row::lock_adcw_mr,
+    Row::lock_adcl_mr,
+    Row::lock_adcq_mr,
+    Row::lock_sbbb_mr,
+    Row::lock_sbbw_mr,
+    Row::lock_sbbl_mr,
+    Row::lock_sbbq_mr,
+    Row::lock_andb_mr,
+    Row::lock_andw_mr,
+    Row::lock_andl_mr,
+    Row::lock_andq_mr,
+    Row::andb_i,
+    Row::lock_subb_mr,
+    Row::lock_subw_mr,
+    Row::lock_subl_mr,
+    Row::lock_subq_mr,
+    Row::lock_xorb_mr,
+    Row::lock_xorw_mr,
+    Row::lock_xorl_mr,
+    Row::lock_xorq_mr,
+    Row::vcvtpd2ps_a,
+    Row::jo_d8,
+    Row::jno_d8,
+    Row::jb_d8,
+    Row::jae_d8,
+    Row::je_d8,
+    Row::jne_d8,
+    Row::jbe_d8,
+    Row::ja_d8,
+    Row::js_d8,
+    Row::jns_d8,
+    Row::jp_d8,
+    Row::jnp_d8,
+    Row::jl_d8,
+    Row::jge_d8,
+    Row::jle_d8,
+    Row::jg_d8,
+    Row::lock_addb_mi,
+    Row::lock_orb_mi,
+    Row::lock_adcb_mi,
+    Row::lock_sbbb_mi,
+    Row::lock_andb_mi,
+    Row::lock_subb_mi,
+    Row::lock_xorb_mi,
+    Row::lock_addw_mi,
+    Row::lock_addl_mi,
+    Row::lock_addq_mi_sxl,
+    Row::lock_orw_mi,
+    Row::lock_orl_mi,
+    Row::lock_orq_mi_sxl,
+    Row::lock_adcw_mi,
+    Row::lock_adcl_mi,
+    Row::lock_adcq_mi_sxl,
+    Row::lock_sbbw_mi,
+    Row::lock_sbbl_mi,
+    Row::lock_sbbq_mi_sxl,
+    Row::lock_andw_mi,
+    Row::lock_andl_mi,
+    Row::lock_andq_mi_sxl,
+    Row::lock_subw_mi,
+    Row::lock_subl_mi,
+    Row::lock_subq_mi_sxl,
+    Row::lock_xorw_mi,
+    Row::lock_xorl_mi,
+    Row::lock_xorq_mi_sxl,
+    Row::lock_addl_mi_sxb,
+    Row::lock_addq_mi_sxb,
+    Row::lock_orl_mi_sxb,
+    Row::lock_orq_mi_sxb,
+    Row::lock_adcl_mi_sxb,
+    Row::lock_adcq_mi_sxb,
+    Row::lock_sbbl_mi_sxb,
+    Row::lock_sbbq_mi_sxb,
+    Row::lock_andl_mi_sxb,
+    Row::lock_andq_mi_sxb,
+    Row::lock_subl_mi_sxb,
+    Row::lock_subq_mi_sxb,
+    Row::lock_xorl_mi_sxb,
+    Row::lock_xorq_mi_sxb,
+    Row::xchgb_rm,
+    Row::xchgw_rm,
+    Row::xchgl_rm,
+    Row::xchgq_rm,
+    Row::nop_1b,
+    Row::nop_2b,
+    Row::vcmpps_b,
+    Row::vcmppd_b,
+    Row::vcmpss_b,
+    Row::vcmpsd_b,
+    Row::rolb_m1,
+    Row::rorb_m1,
+    Row::shlb_m1,
+    Row::shrb_m1,
+    Row::sarb_m1,
+    Row::rolw_m1,
+    Row::roll_m1,
+    Row::rolq_m1,
+    Row::rorw_m1,
+    Row::rorl_m1,
+    Row::rorq_m1,
+    Row::shlw_m1,
+    Row::shll_m1,
+    Row::shlq_m1,
+    Row::shrw_m1,
+    Row::shrl_m1,
+    Row::shrq_m1,
+    Row::sarw_m1,
+    Row::sarl_m1,
+    Row::sarq_m1,
+    Row::vcvttpd2dq_a,
+    Row::callq_d,
+    Row::jmp_d32,
+    Row::jmp_d8,
+    Row::mulxl_rvm,
+    Row::mulxq_rvm,
+    Row::callq_m,
+    Row::jmpq_m,
+    Row::nopl_rm,
+    Row::nopw_rm,
+    Row::andps_a,
+    Row::jo_d32,
+    Row::jno_d32,
+    Row::jb_d32,
+    Row::jae_d32,
+    Row::je_d32,
+    Row::jne_d32,
+    Row::jbe_d32,
+    Row::ja_d32,
+    Row::js_d32,
+    Row::jns_d32,
+    Row::jp_d32,
+    Row::jnp_d32,
+    Row::jl_d32,
+    Row::jge_d32,
+    Row::jle_d32,
+    Row::jg_d32,
+    Row::lock_cmpxchgb_mr,
+    Row::lock_cmpxchgw_mr,
+    Row::lock_cmpxchgl_mr,
+    Row::lock_cmpxchgq_mr,
+    Row::lock_xaddb_mr,
+    Row::lock_xaddw_mr,
+    Row::lock_xaddl_mr,
+    Row::lock_xaddq_mr,
+    Row::cmpps_a,
+    Row::cmppd_a,
+    Row::cmpss_a,
+    Row::cmpsd_a,
+    Row::lock_cmpxchg16b_m,
+];
+
+/// So many bits, from this one up.
+fn bits(packed: u64, low: u32, width: u32) -> u8
+    requires low { low < 64 }
+    requires width { width ≤ 8 }
+    ensures { result ≡ packed / 2 ^ low % 2 ^ width }
+{
+    ((packed >> low) % (1 << width)) as u8
+}
+
+fn flag(packed: u64, low: u32) -> bool
+    requires { low < 64 }
+    ensures { result ≡ flag_at packed low }
+{
+    bits(packed, low, 1) == 1
+}
+
+fn prefix(packed: u64) -> PrefixField
+    ensures { result ≡ prefix_field packed }
+{
+    if flag(packed, 6) {
+        let vvvv = if flag(packed, 12) {
+            VvvvField::VvvvRegister
+        } else {
+            VvvvField::Stored1111
+        };
+        return PrefixField::VexField(
+            bits(packed, 7, 2),
+            bits(packed, 9, 2),
+            bits(packed, 11, 1),
+            vvvv,
+        );
+    }
+    let set = LegacySet {
+        lock: flag(packed, 7),
+        operand_size: flag(packed, 8),
+        repne: flag(packed, 9),
+        rep: flag(packed, 10),
+    };
+    PrefixField::LegacyField(set, flag(packed, 11))
+}
+
+fn w(packed: u64) -> Option<u8>
+    ensures { result ≡ w_field packed }
+{
+    match bits(packed, 4, 2) {
+        2 => None,
+        only => Some(only),
+    }
+}
+
+fn opcode(packed: u64) -> Opcode
+    ensures { result ≡ opcode_field packed }
+{
+    Opcode {
+        escape: flag(packed, 29),
+        byte: bits(packed, 21, 8),
+    }
+}
+
+fn place(packed: u64) -> PlaceField
+    ensures { result ≡ place_field packed }
+{
+    match bits(packed, 13, 2) {
+        0 => PlaceField::Memory,
+        1 => PlaceField::RegisterOrMemory,
+        _ => PlaceField::Register8OrMemory,
+    }
+}
+
+fn tail(packed: u64) -> TailField
+    ensures { result ≡ tail_field packed }
+{
+    match bits(packed, 15, 2) {
+        0 => TailField::NoTail,
+        1 => TailField::Modrm(RegField::Digit(bits(packed, 17, 4)), place(packed)),
+        2 => TailField::Modrm(RegField::Register8, place(packed)),
+        _ => TailField::Modrm(RegField::Register, place(packed)),
+    }
+}
+
+fn imm(packed: u64) -> ImmField
+    ensures { result ≡ imm_field packed }
+{
+    let size = bits(packed, 0, 3);
+    if size == 0 {
+        return ImmField::NoImm;
+    }
+    if flag(packed, 3) {
+        ImmField::Simm(size)
+    } else {
+        ImmField::Imm(size)
+    }
+}
+
+fn unpack(packed: u64) -> Line
+    ensures { result ≡ unpacked packed }
+{
+    Line {
+        prefix: prefix(packed),
+        w: w(packed),
+        opcode: opcode(packed),
+        tail: tail(packed),
+        imm: imm(packed),
+    }
+}
+
+fn number(row: Row) -> usize
+    ensures is { result ≡ number_of row }
+    ensures below { result < 158 }
+{
+    row as usize
+}
+
+fn entry(row: Row) -> u64
+    ensures { result ≡ entry_of row }
+{
+    TABLE[number(row)]
+}
+
+/// The opcode and the digit of a row as one number.
+fn key(row: Row) -> u64
+    ensures { result ≡ row_key row }
+{
+    entry(row) >> 17
+}
+
+/// How many rows have a key below this one.
+fn first_at_least(rows: &[Row], wanted: u64) -> usize
+    requires { IsNonDecreasingBy row_key rows.now }
+    ensures is { IsPartitionPoint (λ row. nat_lt (row_key row) wanted ≡ true) (λ row. nat_lt (row_key row) wanted ≡ false) rows.now result }
+    ensures within { result ≤ length rows.now }
+{
+    rows.partition_point(|row| key(*row) < wanted)
+}
+
+/// The rows of this key, which stand side by side.
+fn with_key(rows: &[Row], wanted: u64) -> &[Row]
+    requires sorted { IsNonDecreasingBy row_key rows.now }
+    requires small { wanted < 2 ^ 13 }
+    ensures only { All (λ row. row_key row ≡ wanted) result.now }
+    ensures all { (row : Row) → Contains rows.now row → row_key row ≡ wanted → Contains result.now row }
+{
+    let start = first_at_least(rows, wanted);
+    let end = first_at_least(rows, wanted + 1);
+    &rows[start..end]
+}
+
+/// The key of an opcode and a digit, or of an opcode without a digit.
+fn wanted_key(opcode: Opcode, digit: Option<u8>) -> u64
+    requires { ForSome digit (λ d. d < 8) }
+    ensures is { result ≡ key_of opcode digit }
+    ensures small { result < 2 ^ 13 }
+{
+    let escape = if opcode.escape { 4096 } else { 0 };
+    escape + u64::from(opcode.byte) * 16 + u64::from(digit.unwrap_or(8))
+}
+
+/// The rows of an opcode and a digit, or of an opcode without a digit.
+pub fn rows_of(opcode: Opcode, digit: Option<u8>) -> &'static [Row]
+    requires { ForSome digit (λ d. d < 8) }
+    ensures only { All (HasKey opcode digit) result.now }
+    ensures all { (row : Row) → HasKey opcode digit row → Contains result.now row }
+{
+    with_key(&BY_KEY, wanted_key(opcode, digit))
+}
+
+/// What the table says of a row.
+pub fn line(row: Row) -> Line
+    ensures { result ≡ line_of row }
+{
+    unpack(entry(row))
+}
