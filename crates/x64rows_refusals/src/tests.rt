@@ -1,3 +1,5 @@
+ghost use Rattle.std.specs.Prelude.{◌<◌};
+
 use linked_list_allocator::LocalHeap;
 use std::alloc::AllocError;
 use std::process::Abort;
@@ -9,9 +11,11 @@ fn run_within(
     words: &[&str],
     blocks: usize,
     want: &str,
-) -> Result<u8, AllocError> {
+) -> Result<u8, AllocError>
+    requires { blocks < 20 }
+{
     // A heap holds a block at least, so one is taken first.
-    let heap = LocalHeap::new(rt.alloc(), 16 * blocks.saturating_add(1))?;
+    let heap = LocalHeap::new(rt.alloc(), 16 * (blocks + 1))?;
     let taken = Box::new(&heap, 0u8)?;
     let mut out: Vec<u8> = Vec::new(rt.alloc());
     let mut err: Vec<u8> = Vec::new(rt.alloc());
