@@ -1,8 +1,15 @@
 //! Numbers as words of a command line.
 
-ghost use Rattle.std.specs.Prelude.{◌≤◌, ◌<◌, ◌≤ℤ◌, ◌<ℤ◌, ◌^◌, ℕ, ℤ, pos, negsuc, IfSome, IfNone, FitsSigned};
+ghost use Rattle.std.specs.Prelude.{◌≡◌, ◌==◌, slice_index, ◌≤◌, ◌<◌, ◌≤ℤ◌, ◌<ℤ◌, ◌^◌, ℕ, ℤ, pos, negsuc, IfSome, IfNone, FitsSigned};
 ghost use Rattle.std.specs.Int.{w32};
 ghost use Rattle.x64rows_run.specs.Words.{Writes, WritesSigned};
+
+/// Whether a plus stands first, which `parse` would take.
+fn has_plus(word: &str) -> bool
+    ensures { result ≡ (slice_index word.now 0 == 43) }
+{
+    matches!(word.as_bytes(), [b'+', ..])
+}
 
 /// The number from `least` to `most` that the word writes in decimal digits. Leading zeros change nothing.
 pub fn number(word: &str, least: u8, most: u8) -> Option<u8>
@@ -11,8 +18,7 @@ pub fn number(word: &str, least: u8, most: u8) -> Option<u8>
     ensures most { IfSome result (λ n. n ≤ most) }
     ensures none { IfNone result ((n : ℕ) → Writes word.now n → ¬ ((least ≤ n) × (n ≤ most))) }
 {
-    // `parse` also takes a plus.
-    if let [b'+', ..] = word.as_bytes() {
+    if has_plus(word) {
         return None;
     }
     let number = word.parse::<u8>().ok()?;
@@ -27,8 +33,7 @@ pub fn signed_number(word: &str) -> Option<i32>
     ensures digits { IfSome result (WritesSigned word.now) }
     ensures none { IfNone result ((d : ℤ) → WritesSigned word.now d → ¬ (FitsSigned w32 d)) }
 {
-    // `parse` also takes a plus.
-    if let [b'+', ..] = word.as_bytes() {
+    if has_plus(word) {
         return None;
     }
     word.parse::<i32>().ok()
