@@ -8,4 +8,5 @@
 
 pub mod code;
 pub mod encoder;
+pub mod instruction;
 pub mod operands;

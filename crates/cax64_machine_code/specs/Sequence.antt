@@ -1,4 +1,4 @@
-use Rattle.std.specs.Prelude.{◌≡◌, ◌≢◌, ◌≤◌, ℕ, zero, suc, length, Option, Some, None, option_map, option_and_then, List, [], ◌∷◌, ◌++◌, drop}
+use Rattle.std.specs.Prelude.{◌≡◌, ◌≢◌, ◌≤◌, ◌+◌, ℕ, zero, suc, length, Option, Some, None, option_map, option_and_then, List, [], ◌∷◌, ◌++◌, drop}
 use Rattle.cax64_machine_code.specs.Reading.{Parts, read}
 use Rattle.cax64_machine_code.specs.declared.reading.Reading.{Reading}
 
@@ -51,8 +51,14 @@ EachSame [] (meant ∷ later) = ⊥
 EachSame (reading ∷ readings) [] = ⊥
 EachSame (reading ∷ readings) (meant ∷ later) = Same reading meant × (1 ≤ reading.length) × (reading.length ≤ 13) × EachSame readings later
 
+-- the number of bytes of some readings
+abbrev pub total_length : List Reading → ℕ
+total_length [] = 0
+total_length (reading ∷ readings) = reading.length + total_length readings
+
 -- bytes that read, whatever follows, as a list of what is meant, and leave what follows
 pub record ReadsAllAs (meant : List Parts) (b : List ℕ) : Type 0 where
   pub readings : List Reading
+  pub lengths : length b ≡ total_length readings
   pub reads : (rest : List ℕ) → read_all (b ++ rest) (length meant) ≡ Some (readings, rest)
   pub same : EachSame readings meant

@@ -1,0 +1,3 @@
+pub mod Meant
+pub mod Views
+pub mod Laws
