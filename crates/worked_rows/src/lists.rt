@@ -1,0 +1,93 @@
+use crate::Numbers;
+use crate::single::{add, based};
+use cax64_sink_refusals::RefusingSink;
+use cranelift_assembler_x64::inst::andb_i;
+use cranelift_assembler_x64::{
+    CodeSink, Fixed, FixedSink, Imm8, Inst, Instruction, Notice, Recorder, Refused, SinkError,
+    TrapCode, encode_all,
+};
+use std::num::NonZeroU8;
+use std::process::Abort;
+use std::test::Fail;
+
+fn and(imm8: u8) -> Inst<Numbers> {
+    andb_i::new(Fixed(0), Imm8::new(imm8)).into()
+}
+
+/// Encodes a list of instructions, each of which has to be encodable.
+fn put_all<S: CodeSink>(
+    rt: &impl Abort,
+    insts: &[Inst<Numbers>],
+    sink: &mut S,
+) -> Result<(), Refused> {
+    assert!(rt; insts.iter().all(|i| i.is_encodable(sink)));
+    encode_all(insts, sink)
+}
+
+#[test]
+fn an_empty_list_puts_nothing(rt: HostRuntime) {
+    let insts: [Inst<Numbers>; 0] = [];
+    let mut sink = FixedSink::<0>::new();
+    assert_eq!(rt; put_all(&rt, &insts, &mut sink), Ok(()));
+    assert!(rt; sink.bytes().is_empty());
+}
+
+#[test]
+fn two_instructions(rt: HostRuntime) {
+    let insts = [and(0), add(based(4, 0, None, None), 1).into()];
+    let mut sink = Vec::new(rt.alloc());
+    assert_eq!(rt; put_all(&rt, &insts, &mut sink), Ok(()));
+    assert_eq!(rt;
+        sink.as_slice(),
+        [0x24, 0x00, 0xF0, 0x01, 0x0C, 0x24].as_slice()
+    );
+}
+
+#[test]
+fn a_full_sink_has_the_whole_instructions_and_a_front(rt: HostRuntime) {
+    let insts = [and(0), add(based(4, 0, None, None), 1).into()];
+    let mut sink = FixedSink::<4>::new();
+    let refused = Refused {
+        whole: 1,
+        error: SinkError::Full,
+    };
+    assert_eq!(rt; put_all(&rt, &insts, &mut sink), Err(refused));
+    assert_eq!(rt; sink.bytes(), [0x24, 0x00, 0xF0, 0x01].as_slice());
+}
+
+#[test]
+fn notices_stand_at_their_places(rt: HostRuntime) -> Result<(), Fail> {
+    let code = TrapCode(NonZeroU8::new(5).ok_or("no code")?);
+    let insts = [and(7), add(based(0, 0, None, Some(code)), 1).into()];
+    let mut sink = Recorder::new(rt.alloc());
+    assert_eq!(rt; put_all(&rt, &insts, &mut sink), Ok(()));
+    assert_eq!(rt; sink.bytes(), [0x24, 0x07, 0xF0, 0x01, 0x08].as_slice());
+    assert_eq!(rt; sink.notices(), [Notice::Trap(2, code)].as_slice());
+    Ok(())
+}
+
+#[test]
+fn each_call_of_a_list_is_refused(rt: HostRuntime) -> Result<(), Fail> {
+    let code = TrapCode(NonZeroU8::new(5).ok_or("no code")?);
+    let insts = [and(7), add(based(0, 0, None, Some(code)), 1).into()];
+    let all = [0x24, 0x07, 0xF0, 0x01, 0x08];
+    for (calls, whole, bytes) in [
+        (0, 0, 0),
+        (1, 0, 1),
+        (2, 1, 2),
+        (3, 1, 2),
+        (4, 1, 3),
+        (5, 1, 4),
+    ] {
+        let mut sink = RefusingSink::new(Recorder::new(rt.alloc()), calls);
+        let refused = Refused {
+            whole,
+            error: SinkError::NoMemory,
+        };
+        assert_eq!(rt; put_all(&rt, &insts, &mut sink), Err(refused));
+        let recorder = sink.into_recorder();
+        assert_eq!(rt; recorder.bytes(), &all[..bytes]);
+        assert_eq!(rt; recorder.notices().len(), if calls < 3 { 0 } else { 1 });
+    }
+    Ok(())
+}
