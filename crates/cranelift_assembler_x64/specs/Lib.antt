@@ -6,3 +6,4 @@ pub use Rattle.cax64_sink.specs.FixedSink
 pub use Rattle.cax64_sink.specs.Recorder
 pub use Rattle.cax64_sink.specs.Room
 pub use Rattle.cax64_sink.specs.Sink
+pub use Rattle.cax64_inst.specs.Meant

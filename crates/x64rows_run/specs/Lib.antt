@@ -3,3 +3,4 @@ pub mod Address
 pub mod Fault
 pub mod Status
 pub mod Tail
+pub mod Rows

@@ -2,14 +2,17 @@
 #![tactic(auto)]
 
 mod line;
+mod operand;
+mod rows;
 mod tail;
 mod words;
 
-ghost use Rattle.std.specs.Prelude.{◌≡◌, ◌⊎◌, ◌↔◌, IsNone};
+ghost use Rattle.std.specs.Prelude.{◌≡◌, ◌⊎◌, ◌≢◌, ◌↔◌, IsNone, IfErr};
 ghost use Rattle.x64rows_run.specs.declared.Fault.TheVariants.{NoMemory, Write};
 ghost use Rattle.x64rows_run.specs.Status.{IsStatus};
 
-use crate::line::byte_line;
+use crate::line::push_bytes;
+use crate::rows::ROW_LINES;
 use crate::tail::tail;
 use std::alloc::{AllocError, Allocator};
 use std::io;
@@ -77,8 +80,20 @@ fn print_tail<A: Allocator>(alloc: A, words: [&str; 6], out: &mut impl Write) ->
     let Some(sink) = tail(reg, base, index, scale, displacement, factor) else {
         return Err(Fault::Usage);
     };
-    let line = byte_line(alloc, "", sink.bytes())?;
+    let mut line = String::new(alloc);
+    push_bytes(&mut line, sink.bytes())?;
+    line.push('\n')?;
     out.write_all(line.as_bytes())?;
+    Ok(())
+}
+
+fn print_rows<A: Allocator>(alloc: A, out: &mut impl Write) -> Result<(), Fault>
+    ensures { IfErr result (λ fault. fault ≢ Fault.Usage) }
+{
+    for line in ROW_LINES {
+        let text = line.text(&alloc)?;
+        out.write_all(text.as_bytes())?;
+    }
     Ok(())
 }
 
@@ -86,6 +101,7 @@ fn print_lines<A: Allocator>(alloc: A, words: &[&str], out: &mut impl Write) -> 
     ensures usage { result ≡ Err Fault.Usage → out.new ≡ out.old }
 {
     match words {
+        [] | ["rows"] => print_rows(alloc, out)?,
         ["tail", reg, base, index, scale, displacement, factor] => {
             let words = [*reg, *base, *index, *scale, *displacement, *factor];
             print_tail(alloc, words, out)?;

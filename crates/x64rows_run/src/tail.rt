@@ -7,10 +7,10 @@ ghost use Rattle.x64rows_run.specs.Address.{WritesAddress, WritesFactor, IsAddre
 ghost use Rattle.x64rows_run.specs.Tail.{IsTailOf, WritesOperand};
 ghost use Rattle.cranelift_assembler_x64.specs.FixedSink.{fixed_sink_state};
 
+use crate::operand::base_and_displacement;
 use crate::words::{number, signed_number};
 use cranelift_assembler_x64::{
-    Amode, AmodeOffset, AmodeOffsetPlusKnownOffset, FixedSink, NonRspGpr, Scale,
-    emit_modrm_sib_disp,
+    Amode, AmodeOffset, FixedSink, NonRspGpr, Scale, emit_modrm_sib_disp,
 };
 
 /// The word that stands for no index, no scale or no factor.
@@ -23,17 +23,9 @@ fn address(base: &str, index: &str, scale: &str, displacement: &str) -> Option<A
     ensures addressable { IfSome result IsAddressable }
 {
     let base = number(base, 0, 15)?;
-    let offset = AmodeOffset::new(signed_number(displacement)?);
+    let displacement = signed_number(displacement)?;
     if index == ABSENT && scale == ABSENT {
-        let simm32 = AmodeOffsetPlusKnownOffset {
-            simm32: offset,
-            offset: None,
-        };
-        return Some(Amode::ImmReg {
-            base,
-            simm32,
-            trap: None,
-        });
+        return Some(base_and_displacement(base, displacement));
     }
     let index = number(index, 0, 15)?;
     if index == 4 {
@@ -44,7 +36,7 @@ fn address(base: &str, index: &str, scale: &str, displacement: &str) -> Option<A
         base,
         index: NonRspGpr::new(index),
         scale,
-        simm32: offset,
+        simm32: AmodeOffset::new(displacement),
         trap: None,
     })
 }

@@ -92,6 +92,19 @@ fn tails_are_printed(rt: HostRuntime) -> Result<(), AllocError> {
     Ok(())
 }
 
+const ROWS: &str = "andb_i: 24 aa\nlock_addl_mr: f0 45 01 4c 24 80\n";
+
+#[test]
+fn rows_are_printed(rt: HostRuntime) -> Result<(), AllocError> {
+    check_run(&rt, "rows", 0, ROWS, "")?;
+    let mut written: Vec<u8> = Vec::new(rt.alloc());
+    let mut told: Vec<u8> = Vec::new(rt.alloc());
+    assert_eq!(rt; run(rt.alloc(), &[], &mut written, &mut told), 0);
+    assert_eq!(rt; written.as_slice(), ROWS.as_bytes());
+    assert!(rt; told.is_empty());
+    Ok(())
+}
+
 const NO_COMMANDS: [&str; 40] = [
     "",
     "row",
@@ -176,6 +189,24 @@ fn nothing_is_written_after_a_refused_write(rt: HostRuntime) {
         assert_eq!(rt;
             taken.as_slice(),
             &b"7c e5 01\n"[..len],
+            "after {calls} writes"
+        );
+    }
+}
+
+#[test]
+fn no_line_is_written_after_a_refused_one(rt: HostRuntime) {
+    let stand = ["", "andb_i: 24 aa\n", ROWS, ROWS];
+    for calls in 0..4 {
+        let (status, taken) = refused_run(&rt, &["rows"], ROWS.len(), calls);
+        assert_eq!(rt;
+            status,
+            if calls < 2 { 4 } else { 0 },
+            "after {calls} writes"
+        );
+        assert_eq!(rt;
+            taken.as_slice(),
+            stand[calls].as_bytes(),
             "after {calls} writes"
         );
     }
