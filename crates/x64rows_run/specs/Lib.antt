@@ -4,3 +4,4 @@ pub mod Fault
 pub mod Status
 pub mod Tail
 pub mod Rows
+pub mod Command

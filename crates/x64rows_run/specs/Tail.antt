@@ -15,6 +15,13 @@ pub record WritesOperand (reg base index scale disp factor : List ℕ) (n : ℕ)
   pub place : WritesAddress base index scale disp operand
   pub multiple : WritesFactor factor scaling
 
+-- the words of `tail` write some operand
+pub record HasOperand (reg base index scale disp factor : List ℕ) : Type 0 where
+  pub field : ℕ
+  pub operand : Amode ℕ
+  pub scaling : Option ℤ
+  pub written : WritesOperand reg base index scale disp factor field operand scaling
+
 -- the bytes are the shortest tail of what the words write
 pub record IsTailOf (reg base index scale disp factor : List ℕ) (bytes : List ℕ) : Type 0 where
   pub field : ℕ

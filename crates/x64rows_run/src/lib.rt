@@ -1,19 +1,21 @@
 //! The program `x64rows` as a function over words and two writers.
 #![tactic(auto)]
 
+mod command;
 mod line;
 mod operand;
 mod rows;
 mod tail;
 mod words;
 
-ghost use Rattle.std.specs.Prelude.{◌≡◌, ◌⊎◌, ◌≢◌, ◌↔◌, IsNone, IfErr};
+ghost use Rattle.std.specs.Prelude.{◌≡◌, ◌⊎◌, ◌≢◌, ◌↔◌, IsNone, IfErr, map};
 ghost use Rattle.x64rows_run.specs.declared.Fault.TheVariants.{NoMemory, Write};
+ghost use Rattle.x64rows_run.specs.Command.{IsCommand};
 ghost use Rattle.x64rows_run.specs.Status.{IsStatus};
 
+use crate::command::{asked_tail, asks_for_rows};
 use crate::line::push_bytes;
 use crate::rows::ROW_LINES;
-use crate::tail::tail;
 use std::alloc::{AllocError, Allocator};
 use std::io;
 use std::io::Write;
@@ -73,15 +75,11 @@ impl From<io::Error> for Fault {
     }
 }
 
-fn print_tail<A: Allocator>(alloc: A, words: [&str; 6], out: &mut impl Write) -> Result<(), Fault>
-    ensures usage { result ≡ Err Fault.Usage → out.new ≡ out.old }
+fn print_tail<A: Allocator>(alloc: A, bytes: &[u8], out: &mut impl Write) -> Result<(), Fault>
+    ensures { IfErr result (λ fault. fault ≢ Fault.Usage) }
 {
-    let [reg, base, index, scale, displacement, factor] = words;
-    let Some(sink) = tail(reg, base, index, scale, displacement, factor) else {
-        return Err(Fault::Usage);
-    };
     let mut line = String::new(alloc);
-    push_bytes(&mut line, sink.bytes())?;
+    push_bytes(&mut line, bytes)?;
     line.push('\n')?;
     out.write_all(line.as_bytes())?;
     Ok(())
@@ -97,17 +95,26 @@ fn print_rows<A: Allocator>(alloc: A, out: &mut impl Write) -> Result<(), Fault>
     Ok(())
 }
 
-fn print_lines<A: Allocator>(alloc: A, words: &[&str], out: &mut impl Write) -> Result<(), Fault>
-    ensures usage { result ≡ Err Fault.Usage → out.new ≡ out.old }
+fn print_command<A: Allocator>(alloc: A, words: &[&str], out: &mut impl Write) -> Result<(), Fault>
+    ensures command { (result ≢ Err Fault.Usage) → IsCommand (map (λ word. word.now) words.now) }
+    ensures usage { result ≡ Err Fault.Usage → ¬ IsCommand (map (λ word. word.now) words.now) }
+    ensures unchanged { result ≡ Err Fault.Usage → out.new ≡ out.old }
 {
-    match words {
-        [] | ["rows"] => print_rows(alloc, out)?,
-        ["tail", reg, base, index, scale, displacement, factor] => {
-            let words = [*reg, *base, *index, *scale, *displacement, *factor];
-            print_tail(alloc, words, out)?;
-        }
-        _ => return Err(Fault::Usage),
+    if asks_for_rows(words) {
+        return print_rows(alloc, out);
     }
+    match asked_tail(words) {
+        Some(sink) => print_tail(alloc, sink.bytes(), out),
+        None => Err(Fault::Usage),
+    }
+}
+
+fn print_lines<A: Allocator>(alloc: A, words: &[&str], out: &mut impl Write) -> Result<(), Fault>
+    ensures command { (result ≢ Err Fault.Usage) → IsCommand (map (λ word. word.now) words.now) }
+    ensures usage { result ≡ Err Fault.Usage → ¬ IsCommand (map (λ word. word.now) words.now) }
+    ensures unchanged { result ≡ Err Fault.Usage → out.new ≡ out.old }
+{
+    print_command(alloc, words, out)?;
     out.flush()?;
     Ok(())
 }
@@ -119,7 +126,9 @@ fn print_lines<A: Allocator>(alloc: A, words: &[&str], out: &mut impl Write) -> 
 /// written changes nothing.
 pub fn run<A: Allocator>(alloc: A, words: &[&str], out: &mut impl Write, err: &mut impl Write) -> u8
     ensures status { IsStatus result }
-    ensures usage { result ≡ 2 → out.new ≡ out.old }
+    ensures command { (result ≢ 2) → IsCommand (map (λ word. word.now) words.now) }
+    ensures usage { result ≡ 2 → ¬ IsCommand (map (λ word. word.now) words.now) }
+    ensures unchanged { result ≡ 2 → out.new ≡ out.old }
     ensures told { (result ≡ 0) ⊎ (result ≡ 4) → err.new ≡ err.old }
 {
     let Err(fault) = print_lines(alloc, words, out) else {

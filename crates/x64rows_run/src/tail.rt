@@ -1,10 +1,10 @@
 //! The command `tail`.
 
-ghost use Rattle.std.specs.Prelude.{◌≡◌, ◌≤◌, ◌<◌, ◌≤ℤ◌, ℕ, ℤ, pos, IfSome, IfNone, Option, FitsSigned};
+ghost use Rattle.std.specs.Prelude.{◌≡◌, ◌≤◌, ◌<◌, ◌≤ℤ◌, ℕ, ℤ, pos, IfSome, IfNone, OnSome, Option, FitsSigned};
 ghost use Rattle.cranelift_assembler_x64.specs.declared.Amode.{Amode};
 ghost use Rattle.x64rows_run.specs.Words.{Writes};
 ghost use Rattle.x64rows_run.specs.Address.{WritesAddress, WritesFactor, IsAddressable};
-ghost use Rattle.x64rows_run.specs.Tail.{IsTailOf, WritesOperand};
+ghost use Rattle.x64rows_run.specs.Tail.{IsTailOf, HasOperand};
 ghost use Rattle.cranelift_assembler_x64.specs.FixedSink.{fixed_sink_state};
 
 use crate::operand::base_and_displacement;
@@ -64,7 +64,8 @@ pub fn tail(
     evex_scaling: &str,
 ) -> Option<FixedSink<6>>
     ensures tail { IfSome result (λ sink. IsTailOf reg.now base.now index.now scale.now displacement.now evex_scaling.now (fixed_sink_state sink).bytes) }
-    ensures refused { IfNone result ((n : ℕ) (operand : Amode ℕ) (scaling : Option ℤ) → ¬ WritesOperand reg.now base.now index.now scale.now displacement.now evex_scaling.now n operand scaling) }
+    ensures written { OnSome result (HasOperand reg.now base.now index.now scale.now displacement.now evex_scaling.now) }
+    ensures refused { IfNone result (¬ HasOperand reg.now base.now index.now scale.now displacement.now evex_scaling.now) }
 {
     let reg = number(reg, 0, 7)?;
     let address = address(base, index, scale, displacement)?;
