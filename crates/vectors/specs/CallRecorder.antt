@@ -1,5 +1,4 @@
 -- What a contract sees of a `CallRecorder`.
-use Rattle.std.specs.Prelude.{ℕ}
 use Rattle.cranelift_assembler_x64.specs.Recorder.{recorder_state}
 use Rattle.cranelift_assembler_x64.specs.Room.{count}
 use Rattle.cranelift_assembler_x64.specs.Sink.{State}
