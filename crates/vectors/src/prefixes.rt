@@ -1,0 +1,116 @@
+//! REX, VEX and EVEX.
+
+use crate::columns::write_bytes;
+use crate::fields::{Fault, Fields};
+use cranelift_assembler_x64::FixedSink;
+use cranelift_assembler_x64::evex::EvexPrefix;
+use cranelift_assembler_x64::rex::RexPrefix;
+use cranelift_assembler_x64::vex::VexPrefix;
+
+pub fn answer_rex(fields: &mut Fields<'_>, came: &mut String) -> Result<(), Fault> {
+    let call = fields.text()?;
+    let a = fields.number(15)?;
+    let b = fields.number(15)?;
+    let c = fields.number(15)?;
+    let w_bit = fields.flag()?;
+    let uses_8bit = fields.flag()?;
+    let prefix = match call {
+        "one_op" => RexPrefix::one_op(a, w_bit, uses_8bit),
+        "two_op" => RexPrefix::two_op(a, b, w_bit, uses_8bit),
+        "mem_op" => RexPrefix::mem_op(a, b, w_bit, uses_8bit),
+        "with_digit" if a < 8 => RexPrefix::with_digit(a, b, w_bit, uses_8bit),
+        "three_op" => RexPrefix::three_op(a, b, c, w_bit, uses_8bit),
+        _ => return Err(Fault::Malformed),
+    };
+    let mut sink = FixedSink::<1>::new();
+    let _ = prefix.encode(&mut sink);
+    write_bytes(came, sink.bytes())
+}
+
+fn vex_bytes(prefix: &VexPrefix) -> FixedSink<3> {
+    let mut sink = FixedSink::new();
+    let _ = prefix.encode(&mut sink);
+    sink
+}
+
+fn evex_bytes(prefix: &EvexPrefix) -> FixedSink<4> {
+    let mut sink = FixedSink::new();
+    let _ = prefix.encode(&mut sink);
+    sink
+}
+
+pub fn answer_vex(fields: &mut Fields<'_>, came: &mut String) -> Result<(), Fault> {
+    let reg = fields.number(15)?;
+    let vvvv = fields.number(15)?;
+    let operand = (fields.optional(15)?, fields.optional(15)?);
+    let l = fields.number(1)?;
+    let pp = fields.number(3)?;
+    let map = fields.number(3)?;
+    let w = fields.flag()?;
+    if map == 0 {
+        return Err(Fault::Malformed);
+    }
+    let three = vex_bytes(&VexPrefix::three_op(reg, vvvv, operand, l, pp, map, w));
+    write_bytes(came, three.bytes())?;
+    if vvvv == 0 {
+        let two = vex_bytes(&VexPrefix::two_op(reg, operand, l, pp, map, w));
+        note_difference(came, "two_op", three.bytes(), two.bytes())?;
+    }
+    Ok(())
+}
+
+/// Writes a second call's bytes where they aren't those of the first.
+fn note_difference(
+    came: &mut String,
+    call: &str,
+    first: &[u8],
+    second: &[u8],
+) -> Result<(), Fault> {
+    if first == second {
+        return Ok(());
+    }
+    write!(came, " but {call} gives ")?;
+    write_bytes(came, second)
+}
+
+pub fn answer_evex(fields: &mut Fields<'_>, came: &mut String) -> Result<(), Fault> {
+    let reg = fields.number(31)?;
+    let vvvv = fields.number(31)?;
+    let operand = (fields.optional(15)?, fields.optional(15)?);
+    let ll = fields.number(2)?;
+    let pp = fields.number(3)?;
+    let mmm = fields.number(7)?;
+    let w = fields.flag()?;
+    let broadcast = fields.flag()?;
+    let new = evex_bytes(&EvexPrefix::new(reg, vvvv, operand, ll, pp, mmm, w, broadcast));
+    write_bytes(came, new.bytes())?;
+    let three = EvexPrefix::three_op(reg, vvvv, operand, ll, pp, mmm, w, broadcast);
+    note_difference(came, "three_op", new.bytes(), evex_bytes(&three).bytes())?;
+    if vvvv == 0 {
+        let two = EvexPrefix::two_op(reg, operand, ll, pp, mmm, w, broadcast);
+        note_difference(came, "two_op", new.bytes(), evex_bytes(&two).bytes())?;
+    }
+    Ok(())
+}
+
+pub fn answer_apx(fields: &mut Fields<'_>, came: &mut String) -> Result<(), Fault> {
+    let reg = fields.number(31)?;
+    let vvvv = fields.number(31)?;
+    let operand = (fields.optional(31)?, fields.optional(31)?);
+    let pp = fields.number(3)?;
+    let mmm = fields.number(7)?;
+    let w = fields.flag()?;
+    let nd = fields.flag()?;
+    let nf = fields.flag()?;
+    let legacy = evex_bytes(&EvexPrefix::legacy(reg, vvvv, operand, pp, mmm, w, nd, nf));
+    write_bytes(came, legacy.bytes())?;
+    let three = EvexPrefix::legacy_three_op(reg, vvvv, operand, pp, mmm, w, nd, nf);
+    let three = evex_bytes(&three);
+    note_difference(came, "legacy_three_op", legacy.bytes(), three.bytes())?;
+    if vvvv == 0 {
+        let two = EvexPrefix::legacy_two_op(reg, operand, pp, mmm, w, nd, nf);
+        let two = evex_bytes(&two);
+        note_difference(came, "legacy_two_op", legacy.bytes(), two.bytes())?;
+    }
+    Ok(())
+}

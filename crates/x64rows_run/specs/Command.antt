@@ -1,0 +1,17 @@
+-- Which words are a command.
+use Rattle.std.specs.Prelude.{◌≡◌, ◌⊎◌, List, [], ◌∷◌, ℕ, codes}
+use Rattle.x64rows_run.specs.Tail.{HasOperand}
+
+-- no word, or `rows`
+abbrev pub AsksForRows : List (List ℕ) → Type 0
+AsksForRows [] = Unit {0}
+AsksForRows (command ∷ []) = command ≡ codes "rows"
+AsksForRows words = ⊥
+
+-- `tail`, and six words that write an operand
+abbrev pub AsksForTail : List (List ℕ) → Type 0
+AsksForTail (command ∷ reg ∷ base ∷ index ∷ scale ∷ disp ∷ factor ∷ []) = (command ≡ codes "tail") × HasOperand reg base index scale disp factor
+AsksForTail words = ⊥
+
+abbrev pub IsCommand : List (List ℕ) → Type 0
+IsCommand words = AsksForRows words ⊎ AsksForTail words

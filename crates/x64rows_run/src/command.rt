@@ -1,0 +1,27 @@
+//! What the words ask for.
+
+ghost use Rattle.std.specs.Prelude.{◌↔◌, map, IsTrue, OnSome, IfNone};
+ghost use Rattle.x64rows_run.specs.Command.{AsksForRows, AsksForTail};
+
+use crate::tail::tail;
+use cranelift_assembler_x64::FixedSink;
+
+/// Whether the words are those of `rows`.
+pub fn asks_for_rows(words: &[&str]) -> bool
+    ensures { IsTrue result ↔ AsksForRows (map (λ word. word.now) words.now) }
+{
+    matches!(words, [] | ["rows"])
+}
+
+/// The bytes that the words of `tail` ask for.
+pub fn asked_tail(words: &[&str]) -> Option<FixedSink<6>>
+    ensures asked { OnSome result (AsksForTail (map (λ word. word.now) words.now)) }
+    ensures others { IfNone result (¬ AsksForTail (map (λ word. word.now) words.now)) }
+{
+    match words {
+        ["tail", reg, base, index, scale, displacement, factor] => {
+            tail(reg, base, index, scale, displacement, factor)
+        }
+        _ => None,
+    }
+}

@@ -1,0 +1,141 @@
+//! The program `x64rows` as a function over words and two writers.
+#![tactic(auto)]
+
+mod command;
+mod line;
+mod operand;
+mod rows;
+mod tail;
+mod words;
+
+ghost use Rattle.std.specs.Prelude.{◌≡◌, ◌⊎◌, ◌≢◌, ◌↔◌, IsNone, IfErr, map};
+ghost use Rattle.x64rows_run.specs.declared.Fault.TheVariants.{NoMemory, Write};
+ghost use Rattle.x64rows_run.specs.Command.{IsCommand};
+ghost use Rattle.x64rows_run.specs.Status.{IsStatus};
+
+use crate::command::{asked_tail, asks_for_rows};
+use crate::line::push_bytes;
+use crate::rows::ROW_LINES;
+use std::alloc::{AllocError, Allocator};
+use std::io;
+use std::io::Write;
+
+#[cfg(test)]
+mod tests;
+
+/// Why a run ends before its last line is written.
+#[derive(Clone, Copy, Debug, PartialEq)]
+enum Fault {
+    /// The words aren't those of a command.
+    Usage,
+    NoMemory,
+    /// The output refused a line.
+    Write,
+}
+
+impl Fault {
+    ghost use Rattle.x64rows_run.specs.Fault.{status_of};
+
+    /// The exit status, 2 to 4.
+    fn status(self) -> u8
+        ensures { result ≡ status_of self }
+    {
+        match self {
+            Fault::Usage => 2,
+            Fault::NoMemory => 3,
+            Fault::Write => 4,
+        }
+    }
+
+    /// The line for the error stream.
+    fn message(self) -> Option<&'static str>
+        ensures { IsNone result ↔ (self ≡ Fault.Write) }
+    {
+        match self {
+            Fault::Usage => Some("usage\n"),
+            Fault::NoMemory => Some("no memory\n"),
+            Fault::Write => None,
+        }
+    }
+}
+
+impl From<AllocError> for Fault {
+    ghost from_gives = { λ _ fault. fault ≡ NoMemory };
+
+    fn from(_error: AllocError) -> Fault {
+        Fault::NoMemory
+    }
+}
+
+impl From<io::Error> for Fault {
+    ghost from_gives = { λ _ fault. fault ≡ Write };
+
+    fn from(_error: io::Error) -> Fault {
+        Fault::Write
+    }
+}
+
+fn print_tail<A: Allocator>(alloc: A, bytes: &[u8], out: &mut impl Write) -> Result<(), Fault>
+    ensures { IfErr result (λ fault. fault ≢ Fault.Usage) }
+{
+    let mut line = String::new(alloc);
+    push_bytes(&mut line, bytes)?;
+    line.push('\n')?;
+    out.write_all(line.as_bytes())?;
+    Ok(())
+}
+
+fn print_rows<A: Allocator>(alloc: A, out: &mut impl Write) -> Result<(), Fault>
+    ensures { IfErr result (λ fault. fault ≢ Fault.Usage) }
+{
+    for line in ROW_LINES {
+        let text = line.text(&alloc)?;
+        out.write_all(text.as_bytes())?;
+    }
+    Ok(())
+}
+
+fn print_command<A: Allocator>(alloc: A, words: &[&str], out: &mut impl Write) -> Result<(), Fault>
+    ensures command { (result ≢ Err Fault.Usage) → IsCommand (map (λ word. word.now) words.now) }
+    ensures usage { result ≡ Err Fault.Usage → ¬ IsCommand (map (λ word. word.now) words.now) }
+    ensures unchanged { result ≡ Err Fault.Usage → out.new ≡ out.old }
+{
+    if asks_for_rows(words) {
+        return print_rows(alloc, out);
+    }
+    match asked_tail(words) {
+        Some(sink) => print_tail(alloc, sink.bytes(), out),
+        None => Err(Fault::Usage),
+    }
+}
+
+fn print_lines<A: Allocator>(alloc: A, words: &[&str], out: &mut impl Write) -> Result<(), Fault>
+    ensures command { (result ≢ Err Fault.Usage) → IsCommand (map (λ word. word.now) words.now) }
+    ensures usage { result ≡ Err Fault.Usage → ¬ IsCommand (map (λ word. word.now) words.now) }
+    ensures unchanged { result ≡ Err Fault.Usage → out.new ≡ out.old }
+{
+    print_command(alloc, words, out)?;
+    out.flush()?;
+    Ok(())
+}
+
+/// Runs `x64rows` on the words after the program's name, and answers its exit status: 0, 2 for words that aren't those
+/// of a command, 3 for want of memory, 4 for a failed write to `out`.
+///
+/// Each line is made whole before any of it is written. For status 2 and 3 a line goes to `err`; whether that is
+/// written changes nothing.
+pub fn run<A: Allocator>(alloc: A, words: &[&str], out: &mut impl Write, err: &mut impl Write) -> u8
+    ensures status { IsStatus result }
+    ensures command { (result ≢ 2) → IsCommand (map (λ word. word.now) words.now) }
+    ensures usage { result ≡ 2 → ¬ IsCommand (map (λ word. word.now) words.now) }
+    ensures unchanged { result ≡ 2 → out.new ≡ out.old }
+    ensures told { (result ≡ 0) ⊎ (result ≡ 4) → err.new ≡ err.old }
+{
+    let Err(fault) = print_lines(alloc, words, out) else {
+        return 0;
+    };
+    if let Some(message) = fault.message() {
+        let _ = err.write_all(message.as_bytes());
+    }
+    fault.status()
+}

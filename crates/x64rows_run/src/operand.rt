@@ -1,0 +1,20 @@
+//! Operands in memory.
+
+ghost use Rattle.std.specs.Prelude.{◌≡◌, None};
+
+use cranelift_assembler_x64::{Amode, AmodeOffset, AmodeOffsetPlusKnownOffset};
+
+/// A base and a displacement, with no late offset and no trap.
+pub fn base_and_displacement(base: u8, displacement: i32) -> Amode<u8>
+    ensures { result ≡ Amode.ImmReg base (record { simm32 = displacement; offset = None }) None }
+{
+    let simm32 = AmodeOffsetPlusKnownOffset {
+        simm32: AmodeOffset::new(displacement),
+        offset: None,
+    };
+    Amode::ImmReg {
+        base,
+        simm32,
+        trap: None,
+    }
+}
