@@ -10,6 +10,7 @@ mod columns;
 mod fields;
 mod prefixes;
 mod program;
+mod reading;
 mod report;
 mod tails;
 
@@ -30,10 +31,11 @@ pub enum Kind {
     Vex,
     Evex,
     Apx,
+    Reader,
     Program,
 }
 
-const KINDS: [Kind; 8] = [
+const KINDS: [Kind; 9] = [
     Kind::Tails,
     Kind::Relative,
     Kind::Disp,
@@ -41,6 +43,7 @@ const KINDS: [Kind; 8] = [
     Kind::Vex,
     Kind::Evex,
     Kind::Apx,
+    Kind::Reader,
     Kind::Program,
 ];
 
@@ -55,6 +58,7 @@ impl Kind {
             Kind::Vex => "vex",
             Kind::Evex => "evex",
             Kind::Apx => "apx",
+            Kind::Reader => "reader",
             Kind::Program => "program",
         }
     }
@@ -74,6 +78,7 @@ impl Kind {
             Kind::Vex => prefixes::answer_vex(fields, came),
             Kind::Evex => prefixes::answer_evex(fields, came),
             Kind::Apx => prefixes::answer_apx(fields, came),
+            Kind::Reader => reading::answer_reading(alloc, fields, came),
             Kind::Program => program::answer_program(alloc, fields, came),
         }
     }

@@ -1,0 +1,115 @@
+//! What is read from bytes.
+
+ghost use Rattle.std.specs.Prelude.{◌<◌, IfOk};
+
+use crate::fields::{Fault, Fields};
+use cranelift_assembler_x64::reader::{Place, Reading, RegView, read_inst};
+use std::alloc::Global;
+
+fn digit_of(byte: u8) -> Result<u8, Fault>
+    ensures { IfOk result (λ digit. digit < 16) }
+{
+    match byte {
+        b'0'..=b'9' => Ok(byte - b'0'),
+        b'a'..=b'f' => Ok(byte - b'a' + 10),
+        _ => Err(Fault::Malformed),
+    }
+}
+
+/// The bytes of hexadecimal pairs.
+fn bytes_of(alloc: Global, text: &str) -> Result<Vec<u8>, Fault> {
+    let mut bytes = Vec::new(alloc);
+    if text == "-" {
+        return Ok(bytes);
+    }
+    for pair in text.as_bytes().chunks(2) {
+        match pair {
+            [high, low] => {
+                let byte = digit_of(*high)? * 16 + digit_of(*low)?;
+                bytes.push(byte).map_err(|_| Fault::NoMemory)?;
+            }
+            _ => return Err(Fault::Malformed),
+        }
+    }
+    Ok(bytes)
+}
+
+fn write_view(came: &mut String, view: RegView) -> Result<(), Fault> {
+    match view {
+        RegView::Low(number) => write!(came, "low:{number}")?,
+        RegView::High(number) => write!(came, "high:{number}")?,
+    }
+    Ok(())
+}
+
+fn write_memory(
+    came: &mut String,
+    base: Option<u8>,
+    index: Option<(u8, u8)>,
+    disp: i32,
+) -> Result<(), Fault> {
+    match base {
+        Some(number) => write!(came, "mem:base={number}")?,
+        None => came.push_str("mem:base=-")?,
+    }
+    match index {
+        Some((number, factor)) => write!(came, ",index={number}*{factor}")?,
+        None => came.push_str(",index=-")?,
+    }
+    write!(came, ",disp={disp}")?;
+    Ok(())
+}
+
+fn write_place(came: &mut String, place: Place) -> Result<(), Fault> {
+    match place {
+        Place::Reg(view) => {
+            came.push_str("reg:")?;
+            write_view(came, view)
+        }
+        Place::Mem { base, index, disp } => write_memory(came, base, index, disp),
+        Place::Rip(disp) => {
+            write!(came, "rip:{disp}")?;
+            Ok(())
+        }
+    }
+}
+
+/// Row, length, tail, register in reg, register in vvvv, place and immediate.
+fn write_reading(came: &mut String, reading: &Reading) -> Result<(), Fault> {
+    let (name, length, tail) = (reading.row.name(), reading.length, reading.tail);
+    write!(came, "{name}\t{length}\t{tail}\t")?;
+    match reading.reg {
+        Some(view) => write_view(came, view)?,
+        None => came.push('-')?,
+    }
+    match reading.vvvv {
+        Some(number) => write!(came, "\t{number}\t")?,
+        None => came.push_str("\t-\t")?,
+    }
+    match reading.place {
+        Some(place) => write_place(came, place)?,
+        None => came.push('-')?,
+    }
+    match reading.imm {
+        Some(value) => write!(came, "\t{value}")?,
+        None => came.push_str("\t-")?,
+    }
+    Ok(())
+}
+
+pub fn answer_reading(
+    alloc: Global,
+    fields: &mut Fields<'_>,
+    came: &mut String,
+) -> Result<(), Fault> {
+    let bytes = bytes_of(alloc, fields.text()?)?;
+    // how the bytes were made
+    let _ = fields.text()?;
+    match read_inst(&bytes) {
+        Some(reading) => write_reading(came, &reading),
+        None => {
+            came.push_str("none\t-\t-\t-\t-\t-\t-")?;
+            Ok(())
+        }
+    }
+}
