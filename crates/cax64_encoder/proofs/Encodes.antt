@@ -1,6 +1,6 @@
-use Rattle.std.proofs.Common.{◌≡◌, ◌≢◌, ℕ, zero, suc, ◌+◌, ◌-◌, ◌*◌, ◌/◌, ◌%◌, ◌^◌, ◌<◌, ◌≤◌, arith, Bool, true, false, refl, ◌∙◌, ap, sym, subst, Option, Some, None, List, [], ◌∷◌, ◌++◌, length, append_assoc, append-nil, ℤ, pos, negsuc, take, drop}
-use Rattle.std.specs.Prelude.{◌==◌, ◌&&◌, ◌||◌, not, nat_lt, nat_le, if◌then◌else◌, option_map}
-use Rattle.std.specs.Int.{cast_unsigned, to_le_bytes, w8, w16, w32}
+use Rattle.std.proofs.Common.{◌≡◌, ℕ, ◌+◌, ◌*◌, ◌/◌, ◌%◌, ◌^◌, ◌<◌, arith, Bool, true, false, refl, ◌∙◌, ap, Option, Some, None, List, [], ◌∷◌, ◌++◌, length, append_assoc, append-nil, ℤ, pos, negsuc}
+use Rattle.std.specs.Prelude.{◌==◌, ◌&&◌, nat_lt, nat_le, if◌then◌else◌, option_map}
+use Rattle.std.specs.Int.{cast_unsigned, w8, w32}
 use Rattle.std.specs.Int.RustNames.{FitsSigned}
 use Rattle.std.proofs.lemmas.Int.{ints}
 use Rattle.std.proofs.lemmas.Bool.{and_parts}
@@ -11,46 +11,32 @@ use Rattle.cax64_sink.specs.declared.Notice.{Notice}
 use Rattle.cax64_sink.specs.Ends.{EndsInBytes}
 use Rattle.cax64_sink.proofs.Runs.{all_bytes_append, all_notices_append}
 use Rattle.cax64_sink.proofs.Ends.{ends_append}
-use Rattle.cax64_address.specs.Address.{displaced_place, target_notices, trap_of}
-use Rattle.cax64_address.specs.Emitted.{TailOf}
+use Rattle.cax64_address.specs.Address.{displaced_place}
 use Rattle.cax64_address.specs.declared.amode.Amode.{Amode}
 use Rattle.cax64_address.specs.declared.amode.Amode.TheVariants.{ImmReg, ImmRegRegShift, RipRelative}
-use Rattle.cax64_machine_code.specs.Fields.{signed_of, number_at}
-use Rattle.cax64_machine_code.specs.Line.{imm_bytes, opcode_bytes, prefix_matches}
-use Rattle.cax64_machine_code.specs.Prefix.{Prefix, x_of, b_of, r_of, has_rex}
-use Rattle.cax64_machine_code.specs.Reading.{Parts, Found, imm_at, place_at, reg_view, reg_place, view_of, find}
-use Rattle.cax64_machine_code.specs.Rows.{line_of}
-use Rattle.cax64_machine_code.specs.Sequence.{ReadsAs}
-use Rattle.cax64_machine_code.specs.declared.row.Row.{Row}
-use Rattle.cax64_machine_code.specs.declared.reading.Place.{Place}
+use Rattle.cax64_machine_code.specs.Line.{imm_bytes, opcode_bytes}
+use Rattle.cax64_machine_code.specs.Prefix.{Prefix, r_of, has_rex}
+use Rattle.cax64_machine_code.specs.Reading.{place_at, reg_view, view_of}
 use Rattle.cax64_machine_code.specs.declared.reading.Place.TheVariants.{Reg}
-use Rattle.cax64_machine_code.specs.declared.reading.RegView.{RegView}
 use Rattle.cax64_machine_code.specs.declared.reading.RegView.TheVariants.{Low}
-use Rattle.cax64_machine_code.specs.declared.line.Line.{Line}
 use Rattle.cax64_machine_code.specs.declared.line.Opcode.{Opcode}
 use Rattle.cax64_machine_code.specs.declared.line.RegField.{RegField}
 use Rattle.cax64_machine_code.specs.declared.line.RegField.TheVariants.{Digit, Register8, Register}
 use Rattle.cax64_machine_code.specs.declared.line.PlaceField.{PlaceField}
 use Rattle.cax64_machine_code.specs.declared.line.PlaceField.TheVariants.{Memory, RegisterOrMemory, Register8OrMemory}
-use Rattle.cax64_machine_code.specs.declared.line.TailField.{TailField}
-use Rattle.cax64_machine_code.specs.declared.line.TailField.TheVariants.{NoTail, Modrm}
+use Rattle.cax64_machine_code.specs.declared.line.TailField.TheVariants.{Modrm}
 use Rattle.cax64_machine_code.specs.declared.line.ImmField.{ImmField}
 use Rattle.cax64_machine_code.specs.declared.line.ImmField.TheVariants.{NoImm, Imm, Simm}
 use Rattle.cax64_machine_code.proofs.Bytes.{one_back, two_back, four_back, s8_back, s32_back}
-use Rattle.cax64_machine_code.proofs.Matched.{reads_as, reads_as_tail, reads_as_row}
-use Rattle.cax64_machine_code.proofs.Written.{IsPrefix, IsImm, BeginsWith, DigitIs, bare_found, tail_found}
+use Rattle.cax64_machine_code.proofs.Written.{IsImm, BeginsWith, DigitIs}
 use Rattle.cax64_prefix.specs.Rex.{is_special_if_8bit}
 use Rattle.cax64_encoder.specs.Code.{when, trap_actions, opcode_actions, imm_actions, optional_imm_actions}
-use Rattle.cax64_encoder.specs.Encodes.{reg_number, place_special, TailPartOf, PrefixFor, operand_parts, memory_in, trap_notice, notices_of, EncodesAs}
-use Rattle.cax64_encoder.specs.Fits.{first_byte, is_line, is_digit, fits, tail_fits, reg_fits, place_fits, is_no_place, is_absent, imm_has_size, is_no_imm, imm_fits, uses_8bit_reg, uses_8bit_place, opcode_size, prefix_size, tail_size}
-use Rattle.cax64_encoder.specs.Operands.{number_value, named_place, place_x, place_b, imm_value, imm_size, imm_in_range, signed_below}
+use Rattle.cax64_encoder.specs.Encodes.{reg_number, trap_notice}
+use Rattle.cax64_encoder.specs.Fits.{first_byte, is_digit, reg_fits, imm_has_size, is_no_imm, imm_fits, uses_8bit_reg, uses_8bit_place, opcode_size}
+use Rattle.cax64_encoder.specs.Operands.{number_value, imm_value, imm_size, imm_in_range, signed_below}
 use Rattle.cax64_encoder.specs.declared.operands.Number.{Number}
 use Rattle.cax64_encoder.specs.declared.operands.ImmOperand.{ImmOperand}
 use Rattle.cax64_encoder.specs.declared.operands.ImmOperand.TheVariants.{Imm8, Imm16, Imm32, Simm8, Simm32}
-use Rattle.cax64_encoder.specs.declared.operands.Operands.{Operands}
-use Rattle.cax64_encoder.specs.declared.operands.PlaceOperand as place
-use Rattle.cax64_encoder.specs.declared.operands.PlaceOperand.{PlaceOperand}
-use Rattle.cax64_encoder.proofs.Lines.{LineFacts, line_facts}
 
 -- Immediates.
 
@@ -79,10 +65,12 @@ imm_back (Simm size) (Imm8 v) h r = cc
 imm_back (Simm size) (Imm16 v) h r = cc
 imm_back (Simm size) (Imm32 v) h r = cc
 imm_back (Simm size) (Simm8 v) h r = record { reads = λ rest. let f : FitsSigned w8 v = signed_fits8 v r in rw (is_number size 1 h, one_back (cast_unsigned w8 v) rest, s8_back v f) refl }
-imm_back (Simm size) (Simm32 v) h r = record { reads = λ rest.
-    let f : FitsSigned w32 v = signed_fits32 v r in
-    let small : cast_unsigned w32 v < 2 ^ 32 = omega (arith, ints) in
-    rw (is_number size 4 h, four_back (cast_unsigned w32 v) rest small, s32_back v f) refl }
+imm_back (Simm size) (Simm32 v) h r = record {
+  reads = λ rest.
+      let f : FitsSigned w32 v = signed_fits32 v r in
+      let small : cast_unsigned w32 v < 2 ^ 32 = omega (arith, ints) in
+      rw (is_number size 4 h, four_back (cast_unsigned w32 v) rest small, s32_back v f) refl;
+}
 
 no_imm_back : (field : ImmField) → is_no_imm field ≡ true → IsImm field None []
 no_imm_back NoImm h = record { reads = λ rest. refl }
@@ -138,36 +126,36 @@ imm_quiet (Some (Simm32 v)) at = refl
 pub opcode_part : (opcode : Opcode) → all_bytes (opcode_actions opcode) ≡ opcode_bytes opcode
 opcode_part opcode = by_escape opcode.escape opcode.byte
   where
-  by_escape : (escape : Bool) (byte : ℕ) → all_bytes (when escape 0x0F ++ (put (byte ∷ []) ∷ [])) ≡ (if escape then (0x0F ∷ byte ∷ []) else (byte ∷ []))
-  by_escape true byte = refl
-  by_escape false byte = refl
+    by_escape : (escape : Bool) (byte : ℕ) → all_bytes (when escape 0x0F ++ (put (byte ∷ []) ∷ [])) ≡ (if escape then (0x0F ∷ byte ∷ []) else (byte ∷ []))
+    by_escape true byte = refl
+    by_escape false byte = refl
 
 pub opcode_quiet : (opcode : Opcode) (at : ℕ) → all_notices (opcode_actions opcode) at ≡ []
 opcode_quiet opcode at = by_escape opcode.escape opcode.byte at
   where
-  by_escape : (escape : Bool) (byte at : ℕ) → all_notices (when escape 0x0F ++ (put (byte ∷ []) ∷ [])) at ≡ []
-  by_escape true byte at = refl
-  by_escape false byte at = refl
+    by_escape : (escape : Bool) (byte at : ℕ) → all_notices (when escape 0x0F ++ (put (byte ∷ []) ∷ [])) at ≡ []
+    by_escape true byte at = refl
+    by_escape false byte at = refl
 
 pub opcode_begins : (opcode : Opcode) → BeginsWith (first_byte opcode) (opcode_bytes opcode)
 opcode_begins opcode = by_escape opcode.escape opcode.byte
   where
-  by_escape : (escape : Bool) (byte : ℕ) → BeginsWith (if escape then 0x0F else byte) (if escape then (0x0F ∷ byte ∷ []) else (byte ∷ []))
-  by_escape true byte = record { more = byte ∷ []; is = refl }
-  by_escape false byte = record { more = []; is = refl }
+    by_escape : (escape : Bool) (byte : ℕ) → BeginsWith (if escape then 0x0F else byte) (if escape then (0x0F ∷ byte ∷ []) else (byte ∷ []))
+    by_escape true byte = record { more = byte ∷ []; is = refl }
+    by_escape false byte = record { more = []; is = refl }
 
 pub opcode_length : (opcode : Opcode) → length (opcode_bytes opcode) ≡ opcode_size opcode
 opcode_length opcode = by_escape opcode.escape opcode.byte
   where
-  by_escape : (escape : Bool) (byte : ℕ) → length (if escape then (0x0F ∷ byte ∷ []) else (byte ∷ [])) ≡ (if escape then 2 else 1)
-  by_escape true byte = refl
-  by_escape false byte = refl
+    by_escape : (escape : Bool) (byte : ℕ) → length (if escape then (0x0F ∷ byte ∷ []) else (byte ∷ [])) ≡ (if escape then 2 else 1)
+    by_escape true byte = refl
+    by_escape false byte = refl
 
 pub opcode_ends : (opcode : Opcode) → EndsInBytes (opcode_actions opcode)
 opcode_ends opcode = ends_append (when opcode.escape 0x0F) (put (opcode.byte ∷ []) ∷ []) one
   where
-  one : 0 < 1
-  one = omega arith
+    one : 0 < 1
+    one = omega arith
 
 pub trap_bytes : (trap : _) → all_bytes (trap_actions trap) ≡ []
 trap_bytes None = refl
@@ -234,12 +222,12 @@ five_notices trap pre op tail imm at e hp ho hi =
     all_notices_append trap (pre ++ (op ++ (tail ++ imm))) at
     ∙ ap (λ (k : ℕ). all_notices trap at ++ all_notices (pre ++ (op ++ (tail ++ imm))) k) zero
     ∙ ap (λ (x : List Notice). all_notices trap at ++ x)
-      (all_notices_append pre (op ++ (tail ++ imm)) at
-      ∙ rw (hp at)
-        (all_notices_append op (tail ++ imm) (at + length (all_bytes pre))
-        ∙ rw (ho (at + length (all_bytes pre)))
-          (all_notices_append tail imm (at + length (all_bytes pre) + length (all_bytes op))
-          ∙ rw (hi (at + length (all_bytes pre) + length (all_bytes op) + length (all_bytes tail))) (append-nil _))))
+    (all_notices_append pre (op ++ (tail ++ imm)) at
+    ∙ rw (hp at)
+    (all_notices_append op (tail ++ imm) (at + length (all_bytes pre))
+    ∙ rw (ho (at + length (all_bytes pre)))
+    (all_notices_append tail imm (at + length (all_bytes pre) + length (all_bytes op))
+    ∙ rw (hi (at + length (all_bytes pre) + length (all_bytes op) + length (all_bytes tail))) (append-nil _))))
   where
-  add_zero : (n : ℕ) → n + 0 ≡ n
-  add_zero n = omega arith
+    add_zero : (n : ℕ) → n + 0 ≡ n
+    add_zero n = omega arith

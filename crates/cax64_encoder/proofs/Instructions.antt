@@ -1,9 +1,9 @@
-use Rattle.std.proofs.Common.{◌≡◌, ◌≢◌, ℕ, ◌+◌, ◌<◌, ◌≤◌, arith, refl, ◌∙◌, ap, sym, subst, List, [], ◌∷◌, ◌++◌, Bool, true, false, length, Result, Ok, Err, Option, Some, None, ℤ}
-use Rattle.std.specs.Prelude.{◌&&◌, if◌then◌else◌, OnOk, OnErr, IfErr, IsOk}
+use Rattle.std.proofs.Common.{◌≡◌, ◌≢◌, ℕ, ◌+◌, ◌<◌, ◌≤◌, arith, refl, ◌∙◌, ap, List, [], ◌∷◌, ◌++◌, Bool, true, length, Result, Ok, Err, Option, Some, None, ℤ}
+use Rattle.std.specs.Prelude.{if◌then◌else◌, OnOk, OnErr, IfErr, IsOk}
 use Rattle.std.proofs.lemmas.Bool.{and_parts}
 use Rattle.cax64_machine_code.specs.Reading.{Parts}
 use Rattle.cax64_machine_code.specs.declared.reading.Reading.{Reading}
-use Rattle.cax64_sink.specs.Room.{Room, HasRoom, FallsBy}
+use Rattle.cax64_sink.specs.Room.{HasRoom, FallsBy}
 use Rattle.cax64_sink.specs.Sink.{State, Action, Ran, all_bytes, all_notices, size, notes}
 use Rattle.cax64_sink.specs.declared.SinkError.{SinkError}
 use Rattle.cax64_sink.specs.declared.Notice.{Notice}
@@ -13,7 +13,6 @@ use Rattle.cax64_sink.proofs.Rooms.{less_room, ran_succeeds, ran_byte_room, ran_
 use Rattle.cax64_sink.proofs.Ends.{refused_bytes, refused_notices}
 use Rattle.cax64_address.specs.declared.amode.Amode.{Amode}
 use Rattle.cax64_address.specs.declared.amode.Amode.TheVariants.{ImmReg, ImmRegRegShift, RipRelative}
-use Rattle.cax64_register.specs.Real.{is_real}
 use Rattle.cax64_address.specs.Address as address
 use Rattle.cax64_encoder.specs.Encodes.{notices_of, EncodesAs}
 use Rattle.cax64_encoder.specs.Instruction.{AddsInstruction, LeavesInstruction}

@@ -1,11 +1,11 @@
-use Rattle.std.proofs.Common.{◌≡◌, ℕ, ℤ, Bool, true, false, refl, ◌∙◌, ap, Option, Some, None, [], ◌∷◌}
+use Rattle.std.proofs.Common.{◌≡◌, ℕ, ℤ, Bool, true, false, refl, ◌∙◌, Option, Some, None, [], ◌∷◌}
 use Rattle.cax64_address.specs.Address.{is_addressable, displacement_of, place_of}
 use Rattle.cax64_address.specs.declared.amode.Amode.{Amode}
 use Rattle.cax64_machine_code.specs.declared.row.Row.{Row}
 use Rattle.cax64_machine_code.specs.declared.reading.RegView.TheVariants.{Low}
 use Rattle.cax64_encoder.specs.Encodes.{operand_parts}
 use Rattle.cax64_encoder.specs.declared.operands.PlaceOperand.TheVariants.{Memory}
-use Rattle.std.specs.Prelude.{◌&&◌, ◌==◌, nat_lt, if◌then◌else◌}
+use Rattle.std.specs.Prelude.{◌&&◌, ◌==◌, nat_lt}
 use Rattle.std.proofs.lemmas.Bool.{and_parts}
 use Rattle.cax64_register.specs.Real.{is_real}
 use Rattle.cax64_encoder.specs.Operands.{number_of, number_value, is_real_number, is_number, are_encodable}
@@ -51,11 +51,11 @@ reg_memory_meant settled enc row offsets amode reg h = rw (number_is_enc settled
 pub reg_memory_encodable : {M : Type 0} (settled : M → Bool) (enc : M → ℕ) (offsets : ℕ → Option ℤ) (amode : Amode M) (reg : M) → are_encodable settled enc offsets (record { reg = Some (number_of settled enc reg); vvvv = None; place = Memory amode; imm = None; fixed = None ∷ None ∷ None ∷ None ∷ [] }) ≡ (is_addressable settled enc offsets amode && is_real settled enc reg)
 reg_memory_encodable settled enc offsets amode reg = rw (number_is_real settled enc reg, and_true (is_addressable settled enc offsets amode)) (and_comm (is_real settled enc reg) (is_addressable settled enc offsets amode))
   where
-  and_comm : (a b : Bool) → (a && b) ≡ (b && a)
-  and_comm true true = refl
-  and_comm true false = refl
-  and_comm false true = refl
-  and_comm false false = refl
+    and_comm : (a b : Bool) → (a && b) ≡ (b && a)
+    and_comm true true = refl
+    and_comm true false = refl
+    and_comm false true = refl
+    and_comm false false = refl
 
 -- the law of an instruction whose only register is fixed
 pub fixed_encodable : {R : Type 0} (settled : R → Bool) (enc : R → ℕ) (reg : R) (expected : ℕ) → (is_number (number_of settled enc reg) expected && true) ≡ (settled reg && (enc reg == expected))

@@ -1,21 +1,20 @@
-use Rattle.std.proofs.Common.{◌≡◌, ◌≢◌, ℕ, ◌+◌, ◌*◌, ◌/◌, ◌%◌, ◌<◌, ◌≤◌, arith, Bool, true, false, refl, ◌∙◌, ap, sym, Option, Some, None, List, [], ◌∷◌, ◌++◌, length, append_assoc}
+use Rattle.std.proofs.Common.{◌≡◌, ℕ, ◌+◌, ◌/◌, ◌<◌, ◌≤◌, arith, Bool, true, false, refl, ◌∙◌, ap, sym, Option, Some, None, List, [], ◌∷◌, ◌++◌, length, append_assoc}
 use Rattle.std.specs.Prelude.{◌==◌, ◌&&◌, ◌||◌, not, nat_lt, nat_le, if◌then◌else◌, IsTrue, IsSome, IfSome, is_some, ◌↔◌, option_map, unwrap_or}
 use Rattle.std.specs.Int.{from_bool}
 use Rattle.std.proofs.lemmas.Bool.{and_parts}
 use Rattle.std.proofs.lemmas.Bool.Decides.{nat_tests}
 use Rattle.std.proofs.lemmas.List.{length-append}
-use Rattle.cax64_sink.specs.Sink.{Action, put, all_bytes, all_notices}
+use Rattle.cax64_sink.specs.Sink.{all_bytes, all_notices}
 use Rattle.cax64_sink.proofs.Runs.{all_bytes_append, all_notices_append}
 use Rattle.cax64_register.specs.Real.{is_real, is_real_non_rsp}
 use Rattle.cax64_address.specs.Address.{registers_are_real, index_bit, base_bit}
 use Rattle.cax64_address.specs.declared.amode.Amode.{Amode}
 use Rattle.cax64_address.specs.declared.amode.Amode.TheVariants.{ImmReg, ImmRegRegShift, RipRelative}
-use Rattle.cax64_machine_code.specs.Prefix.{Prefix, legacy_prefix, vex_prefix, Rex, rex_bits, Vex, prefix_at, x_of, b_of, r_of, has_rex}
-use Rattle.cax64_machine_code.specs.Line.{w_matches, vvvv_matches, prefix_matches, same_legacy}
-use Rattle.cax64_machine_code.specs.Reading.{vvvv_at, vvvv_register_of}
+use Rattle.cax64_machine_code.specs.Prefix.{legacy_prefix, vex_prefix, Rex, rex_bits, prefix_at}
+use Rattle.cax64_machine_code.specs.Line.{w_matches, vvvv_matches}
+use Rattle.cax64_machine_code.specs.Reading.{vvvv_register_of}
 use Rattle.cax64_machine_code.specs.declared.line.LegacySet.{LegacySet}
 use Rattle.cax64_machine_code.specs.declared.line.Line.{Line}
-use Rattle.cax64_machine_code.specs.declared.line.PrefixField.{PrefixField}
 use Rattle.cax64_machine_code.specs.declared.line.PrefixField.TheVariants.{LegacyField, VexField}
 use Rattle.cax64_machine_code.specs.declared.line.VvvvField.{VvvvField}
 use Rattle.cax64_machine_code.specs.declared.line.VvvvField.TheVariants.{VvvvRegister, Stored1111}
@@ -26,18 +25,18 @@ use Rattle.cax64_prefix.specs.Rex.{rex_bytes, is_special_if_8bit}
 use Rattle.cax64_prefix.specs.Vex.{vex_bytes, vex_fields, VexReadsAs}
 use Rattle.cax64_prefix.specs.declared.vex.VexPrefix.{VexPrefix}
 use Rattle.cax64_prefix.specs.declared.vex.VexPrefix.TheVariants.{TwoByte, ThreeByte}
-use Rattle.cax64_prefix.proofs.PutRuns.{all_bytes-puts, all_notices-puts}
+use Rattle.cax64_prefix.proofs.PutRuns.{all_bytes-puts}
 use Rattle.cax64_prefix.proofs.RexBits.{AreBits}
 use Rattle.cax64_prefix.proofs.Prefixes.{legacy_bytes, prefix_back, prefix_vex}
 use Rattle.cax64_encoder.specs.Code.{when, set_actions}
-use Rattle.cax64_encoder.specs.Encodes.{PrefixFor, rex_stands, place_special, place_high, amode_high}
-use Rattle.cax64_encoder.specs.Fits.{first_byte, is_line, is_w0, has_tail, has_8bit, uses_8bit_reg, uses_8bit_place, is_no_place, is_absent, vvvv_fits, prefix_size, set_size, one_if}
+use Rattle.cax64_encoder.specs.Encodes.{PrefixFor, rex_stands, place_special, place_high}
+use Rattle.cax64_encoder.specs.Fits.{first_byte, is_line, is_w0, has_tail, has_8bit, uses_8bit_reg, uses_8bit_place, is_no_place, is_absent, vvvv_fits, set_size, one_if}
 use Rattle.cax64_encoder.specs.Operands.{number_value, is_real_number, place_is_real, place_x, place_b}
 use Rattle.cax64_encoder.specs.declared.operands.Number.{Number}
 use Rattle.cax64_encoder.specs.declared.operands.Number.TheVariants.{Settled, Unsettled}
 use Rattle.cax64_encoder.specs.declared.operands.PlaceOperand as place
 use Rattle.cax64_encoder.specs.declared.operands.PlaceOperand.{PlaceOperand}
-use Rattle.cax64_encoder.proofs.Lines.{LineFacts, line_facts, plain_byte}
+use Rattle.cax64_encoder.proofs.Lines.{line_facts, plain_byte}
 
 when_bytes : (b : Bool) (c : ℕ) → all_bytes (when b c) ≡ (if b then c ∷ [] else [])
 when_bytes true c = refl
@@ -187,9 +186,9 @@ legacy_for settled enc line reg vvvv operand set rexed w rex is hl hr hp hv hb h
       size = rw (legacy_part set rex, is) (omega (arith, length-append (legacy_bytes set) (rex_bytes rex), set_length set, rex_length rex));
     }
   where
-  not_true_is : (a : Bool) → not a ≡ true → a ≡ false
-  not_true_is true h = cc
-  not_true_is false h = refl
+    not_true_is : (a : Bool) → not a ≡ true → a ≡ false
+    not_true_is true h = cc
+    not_true_is false h = refl
 
 -- the fields of a VEX row
 vex_field_facts : (pp map l : ℕ) (escape tailed : Bool) → (nat_lt pp 4 && (nat_le 1 map && (nat_le map 3 && (nat_lt l 2 && (not escape && tailed))))) ≡ true → (pp < 4) × (1 ≤ map) × (map ≤ 3) × (l < 2)
@@ -200,8 +199,8 @@ vex_field_facts pp map l escape tailed h =
     let p4 = and_parts (nat_lt l 2) _ p3.1 in
     (below pp 4 p1.0, at_most 1 map p2.0, at_most map 3 p3.0, below l 2 p4.0)
   where
-  at_most : (a b : ℕ) → nat_le a b ≡ true → a ≤ b
-  at_most a b h = grind (arith, nat_tests)
+    at_most : (a b : ℕ) → nat_le a b ≡ true → a ≤ b
+    at_most a b h = grind (arith, nat_tests)
 
 itself : (a : ℕ) → (a == a) ≡ true
 itself a = grind (arith, nat_tests)
@@ -222,16 +221,16 @@ vvvv_there Stored1111 (Some held) pp map l number h e = cc
 no_8bit : (tail : TailField) → not (true && has_8bit tail) ≡ true → (uses_8bit_reg tail ≡ false) × (uses_8bit_place tail ≡ false)
 no_8bit tail h = neither_of (uses_8bit_reg tail) (uses_8bit_place tail) h
   where
-  neither_of : (a b : Bool) → not (a || b) ≡ true → (a ≡ false) × (b ≡ false)
-  neither_of true b h = cc
-  neither_of false true h = cc
-  neither_of false false h = (refl, refl)
+    neither_of : (a b : Bool) → not (a || b) ≡ true → (a ≡ false) × (b ≡ false)
+    neither_of true b h = cc
+    neither_of false true h = cc
+    neither_of false false h = (refl, refl)
 
 no_true : {P : Type 0} (a : Bool) → a ≡ false → a ≡ true → P
 no_true a e f = absurd (apart (sym e ∙ f))
   where
-  apart : false ≡ true → ⊥
-  apart h = cc
+    apart : false ≡ true → ⊥
+    apart h = cc
 
 -- a VEX prefix
 pub vex_for : {M : Type 0} (enc : M → ℕ) (line : Line) (reg : ℕ) (vvvv : Option Number) (operand : PlaceOperand M) (pp map l : ℕ) (field : VvvvField) (w : Bool) (number : ℕ) (registers : Option ℕ × Option ℕ) (vex : VexPrefix) → line.prefix ≡ VexField pp map l field → is_line line ≡ true → vvvv_fits line.prefix vvvv ≡ true → w_matches line.w (from_bool w) ≡ true → number ≡ unwrap_or (option_map number_value vvvv) 0 → unwrap_or registers.0 0 / 8 ≡ place_b enc operand → unwrap_or registers.1 0 / 8 ≡ place_x enc operand → VexReadsAs (vex_fields reg number registers l pp map w) (vex_bytes vex) → PrefixFor enc line reg vvvv operand (all_bytes (puts (vex_bytes vex)))

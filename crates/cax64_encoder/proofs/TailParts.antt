@@ -1,6 +1,5 @@
-use Rattle.std.proofs.Common.{◌≡◌, ℕ, ◌+◌, ◌*◌, ◌/◌, ◌%◌, ◌<◌, ◌≤◌, arith, refl, ◌∙◌, ap, List, [], ◌∷◌, ◌++◌, Some, length}
-use Rattle.cax64_machine_code.specs.Tail.{read_tail, IsTail}
-use Rattle.cax64_machine_code.specs.Shortest.{Shortest}
+use Rattle.std.proofs.Common.{◌≡◌, ℕ, ◌+◌, ◌*◌, ◌/◌, ◌%◌, ◌<◌, ◌≤◌, arith, refl, ◌∙◌, ap, List, [], ◌∷◌, Some, length}
+use Rattle.cax64_machine_code.specs.Tail.{read_tail}
 use Rattle.cax64_machine_code.specs.declared.reading.Place.{Place}
 use Rattle.cax64_machine_code.specs.declared.reading.Place.TheVariants.{Reg}
 use Rattle.cax64_machine_code.specs.declared.reading.RegView.TheVariants.{Low}
@@ -19,10 +18,12 @@ whole n = omega arith
 -- a register in the place of the tail
 pub register_tail : (reg number modrm : ℕ) → modrm ≡ 3 * 64 + reg % 8 * 8 + number % 8 → TailOf 0 (number / 8) 1 (reg % 8) (Reg (Low number)) (λ at. []) (put (modrm ∷ []) ∷ [])
 register_tail reg number modrm e = record {
-  tail = record { reads = λ rest.
-      let hr : reg % 8 < 8 = omega arith in
-      let hn : number % 8 < 8 = omega arith in
-      rw e (register_back 0 (number / 8) 1 (reg % 8) (number % 8) rest hr hn ∙ ap (λ (k : ℕ). Some (record { reg = reg % 8; place = Reg (Low k); rest = rest })) (whole number)) };
+  tail = record {
+    reads = λ rest.
+        let hr : reg % 8 < 8 = omega arith in
+        let hn : number % 8 < 8 = omega arith in
+        rw e (register_back 0 (number / 8) 1 (reg % 8) (number % 8) rest hr hn ∙ ap (λ (k : ℕ). Some (record { reg = reg % 8; place = Reg (Low k); rest = rest })) (whole number));
+  };
   shortest = record { least = λ u hb hu. one_byte 0 (number / 8) 1 (reg % 8) (Reg (Low number)) u hu };
   notices = λ at. refl;
   ends = omega arith;

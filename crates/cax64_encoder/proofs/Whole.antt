@@ -1,5 +1,5 @@
-use Rattle.std.proofs.Common.{◌≡◌, ◌≢◌, ℕ, ◌+◌, ◌-◌, ◌/◌, ◌%◌, ◌<◌, ◌≤◌, arith, Bool, true, false, refl, ◌∙◌, ap, sym, subst, Option, Some, None, ◌⊎◌, inl, inr, List, [], ◌∷◌, ◌++◌, length, append_assoc, append-nil, ℤ, take, drop}
-use Rattle.std.specs.Prelude.{◌==◌, ◌&&◌, ◌||◌, not, nat_lt, nat_le, if◌then◌else◌, option_map}
+use Rattle.std.proofs.Common.{◌≡◌, ℕ, ◌+◌, ◌-◌, ◌%◌, ◌<◌, ◌≤◌, arith, Bool, true, false, refl, ◌∙◌, ap, sym, subst, Option, Some, None, ◌⊎◌, inl, inr, List, [], ◌∷◌, ◌++◌, length, append_assoc, append-nil, ℤ}
+use Rattle.std.specs.Prelude.{nat_lt, nat_le, if◌then◌else◌, option_map}
 use Rattle.std.proofs.Math.Seq.{drop-append_seam, take-append_seam}
 use Rattle.std.proofs.lemmas.Bool.{and_parts}
 use Rattle.std.proofs.lemmas.Bool.Decides.{nat_tests}
@@ -14,12 +14,12 @@ use Rattle.cax64_address.specs.Address.{displaced_place, target_notices, trap_of
 use Rattle.cax64_address.specs.Emitted.{TailOf}
 use Rattle.cax64_address.specs.declared.amode.Amode.{Amode}
 use Rattle.cax64_address.specs.declared.amode.Amode.TheVariants.{ImmReg, ImmRegRegShift, RipRelative}
-use Rattle.cax64_machine_code.specs.Line.{imm_bytes, opcode_bytes, prefix_matches}
-use Rattle.cax64_machine_code.specs.Prefix.{Prefix, prefix_at, x_of, b_of}
-use Rattle.cax64_machine_code.specs.Reading.{Parts, Found, place_at, reg_view, vvvv_at, find}
+use Rattle.cax64_machine_code.specs.Line.{imm_bytes, opcode_bytes}
+use Rattle.cax64_machine_code.specs.Prefix.{prefix_at, x_of, b_of}
+use Rattle.cax64_machine_code.specs.Reading.{place_at, reg_view, find}
 use Rattle.cax64_machine_code.specs.Rows.{line_of}
 use Rattle.cax64_machine_code.specs.Sequence.{ReadsAs}
-use Rattle.cax64_machine_code.specs.Shortest.{HasShortestTail, tail_within, Shortest}
+use Rattle.cax64_machine_code.specs.Shortest.{HasShortestTail, tail_within}
 use Rattle.cax64_machine_code.specs.Tail.{IsTail}
 use Rattle.cax64_machine_code.specs.declared.row.Row.{Row}
 use Rattle.cax64_machine_code.specs.declared.reading.Place.{Place}
@@ -44,7 +44,7 @@ use Rattle.cax64_encoder.specs.declared.code.PrefixCode.{PrefixCode}
 use Rattle.cax64_encoder.specs.declared.code.PrefixCode.TheVariants.{Legacy, Vex}
 use Rattle.cax64_encoder.specs.Code.{set_actions, prefix_actions, trap_actions, opcode_actions, optional_imm_actions}
 use Rattle.cax64_encoder.specs.Encodes.{reg_number, TailPartOf, PrefixFor, operand_parts, memory_in, trap_in, trap_notice, notices_of, ShortestFor, EncodesAs}
-use Rattle.cax64_encoder.specs.Fits.{first_byte, is_line, is_digit, fits, tail_fits, reg_fits, place_fits, is_no_place, is_absent, vvvv_fits, imm_fits, opcode_size, prefix_size, tail_size}
+use Rattle.cax64_encoder.specs.Fits.{first_byte, is_line, is_digit, fits, tail_fits, reg_fits, place_fits, is_no_place, is_absent, vvvv_fits, imm_fits, opcode_size, tail_size}
 use Rattle.cax64_encoder.specs.Operands.{number_value, is_absent_or_real, place_is_real, are_real, named_place, place_x, place_b, imm_value, imm_size}
 use Rattle.cax64_encoder.specs.declared.operands.Number.{Number}
 use Rattle.cax64_encoder.specs.declared.operands.Number.TheVariants.{Settled, Unsettled}
@@ -86,9 +86,9 @@ sizes {row = row} {o} {pre} h trap tail small =
     let one : 1 ≤ opcode_size (line_of row).opcode = some_opcode (line_of row).opcode.escape in
     (omega (arith, h.prefix.size), omega (arith, h.prefix.size))
   where
-  some_opcode : (escape : Bool) → 1 ≤ (if escape then 2 else 1)
-  some_opcode true = omega arith
-  some_opcode false = omega arith
+    some_opcode : (escape : Bool) → 1 ≤ (if escape then 2 else 1)
+    some_opcode true = omega arith
+    some_opcode false = omega arith
 
 no_place_named : {M : Type 0} (enc : M → ℕ) (disp : ℤ) (k : ℕ) (operand : PlaceOperand M) → is_no_place operand ≡ true → named_place enc disp k operand ≡ None
 no_place_named enc disp k place.TheVariants.NoPlace h = refl
@@ -123,9 +123,9 @@ tail_ends tail (Some (Simm32 v)) h = ends_append tail _ (omega arith)
 no_reg : {M : Type 0} (o : Operands M) → is_absent o.reg ≡ true → option_map (λ (n : Number). Low (number_value n)) o.reg ≡ None
 no_reg o h = by_reg o.reg h
   where
-  by_reg : (reg : Option Number) → is_absent reg ≡ true → option_map (λ (n : Number). Low (number_value n)) reg ≡ None
-  by_reg None h = refl
-  by_reg (Some n) h = cc
+    by_reg : (reg : Option Number) → is_absent reg ≡ true → option_map (λ (n : Number). Low (number_value n)) reg ≡ None
+    by_reg None h = refl
+    by_reg (Some n) h = cc
 
 -- a row without a tail
 pub bare_encodes : {M : Type 0} (enc : M → ℕ) (row : Row) (o : Operands M) (disp : ℤ) (pre : List Action) → Parted enc row o pre → (line_of row).tail ≡ NoTail → is_absent o.reg ≡ true → is_no_place o.place ≡ true → EncodesAs (operand_parts enc row disp o) (memory_in o.place) (instruction_actions (line_of row) None pre [] o)
@@ -133,10 +133,10 @@ bare_encodes enc row o disp pre h ht hr hp =
     let ib = all_bytes (optional_imm_actions o.imm) in
     let acts = instruction_actions (line_of row) None pre [] o in
     let found : (rest : List ℕ) → find (all_bytes acts ++ rest) ≡ Some (record { parts = operand_parts enc row disp o; tail = 0; rest = rest }) = λ rest.
-        let parts = five_parts [] pre (opcode_actions (line_of row).opcode) [] (optional_imm_actions o.imm) rest refl in
-        let bare = bare_found row h.prefix.prefix (first_byte (line_of row).opcode) (all_bytes pre) ib rest (option_map imm_value o.imm) (first_prefix h) (opcode_begins (line_of row).opcode) h.prefix.matches ht (imm_part (line_of row).imm o.imm h.imm) in
-        ap find (parts ∙ ap (λ (x : List ℕ). all_bytes pre ++ (x ++ (ib ++ rest))) (opcode_part (line_of row).opcode)) ∙ bare
-        ∙ rw (h.prefix.vvvv_is, no_reg o hr, no_place_named enc disp (imm_size o.imm) o.place hp) refl in
+    let parts = five_parts [] pre (opcode_actions (line_of row).opcode) [] (optional_imm_actions o.imm) rest refl in
+    let bare = bare_found row h.prefix.prefix (first_byte (line_of row).opcode) (all_bytes pre) ib rest (option_map imm_value o.imm) (first_prefix h) (opcode_begins (line_of row).opcode) h.prefix.matches ht (imm_part (line_of row).imm o.imm h.imm) in
+    ap find (parts ∙ ap (λ (x : List ℕ). all_bytes pre ++ (x ++ (ib ++ rest))) (opcode_part (line_of row).opcode)) ∙ bare
+    ∙ rw (h.prefix.vvvv_is, no_reg o hr, no_place_named enc disp (imm_size o.imm) o.place hp) refl in
     let size = sizes h None [] (none_small (line_of row).tail) in
     record {
       reads = reads_as (operand_parts enc row disp o) 0 (all_bytes acts) found size.0 size.1;
@@ -145,8 +145,8 @@ bare_encodes enc row o disp pre h ht hr hp =
       ends = ends_in_code (line_of row) None pre [] (optional_imm_actions o.imm) (imm_ends o.imm);
     }
   where
-  none_small : (tail : TailField) → 0 ≤ tail_size tail
-  none_small tail = omega arith
+    none_small : (tail : TailField) → 0 ≤ tail_size tail
+    none_small tail = omega arith
 
 front_length : (read tail imm before : ℕ) → read ≡ before + (tail + imm) → read - tail - imm ≡ before
 front_length read tail imm before e = omega arith
@@ -167,7 +167,6 @@ told_at (RipRelative target) at before read e = rw e refl
 
 -- a row with a tail
 module _ {M : Type 0} (enc : M → ℕ) (row : Row) (o : Operands M) (disp : ℤ) (field : RegField) (place_field : PlaceField) (trap : Option TrapCode) (pre tail : List Action) (named : Place) (told : ℕ → List Notice) (h : Parted enc row o pre) (ht : (line_of row).tail ≡ Modrm field place_field) (hr : reg_fits field o.reg ≡ true) (t : TailOf (place_x enc o.place) (place_b enc o.place) 1 (reg_number (line_of row).tail o.reg % 8) named told tail) (allowed : place_at place_field h.prefix.prefix named ≡ Some named) (means : named_place enc disp (imm_size o.imm) o.place ≡ Some named) where
-
   acts : List Action
   acts = instruction_actions (line_of row) trap pre tail o
 
@@ -248,8 +247,8 @@ module _ {M : Type 0} (enc : M → ℕ) (row : Row) (o : Operands M) (disp : ℤ
       five_notices (trap_actions trap) pre (opcode_actions (line_of row).opcode) tail (optional_imm_actions o.imm) at (trap_bytes trap) h.quiet (opcode_quiet (line_of row).opcode) (imm_quiet o.imm)
       ∙ rw (trap_told trap at, opcode_part (line_of row).opcode, t.notices (at + length (all_bytes pre) + length (opcode_bytes (line_of row).opcode)), add_three at (length (all_bytes pre)) (length (opcode_bytes (line_of row).opcode))) refl
     where
-    add_three : (a b c : ℕ) → a + b + c ≡ a + (b + c)
-    add_three a b c = omega arith
+      add_three : (a b c : ℕ) → a + b + c ≡ a + (b + c)
+      add_three a b c = omega arith
 
   ends_are : EndsInBytes acts
   unfolding acts

@@ -1,4 +1,4 @@
-use Rattle.std.specs.Prelude.{ℕ, Bool, true, false, if◌then◌else◌, Option, Some, None, List, [], ◌∷◌, ◌++◌}
+use Rattle.std.specs.Prelude.{ℕ, Bool, true, false, Option, Some, None, List, [], ◌∷◌, ◌++◌}
 use Rattle.std.specs.Int.{cast_unsigned, to_le_bytes, w8, w16, w32}
 use Rattle.cax64_address.specs.Emitted as address
 use Rattle.cax64_machine_code.specs.declared.line.LegacySet.{LegacySet}

@@ -1,4 +1,4 @@
-use Rattle.std.specs.Prelude.{ℕ, ◌+◌, ◌*◌, ◌/◌, Bool, true, false, not, ◌&&◌, ◌||◌, ◌==◌, nat_lt, nat_le, if◌then◌else◌, Option, Some, None}
+use Rattle.std.specs.Prelude.{ℕ, ◌+◌, ◌/◌, Bool, true, false, not, ◌&&◌, ◌||◌, ◌==◌, nat_lt, nat_le, if◌then◌else◌, Option, Some, None}
 use Rattle.cax64_encoder.specs.Operands.{imm_in_range}
 use Rattle.cax64_encoder.specs.declared.operands.Number.{Number}
 use Rattle.cax64_encoder.specs.declared.operands.ImmOperand.{ImmOperand}
@@ -10,7 +10,6 @@ use Rattle.cax64_machine_code.specs.Line.{imm_bytes}
 use Rattle.cax64_machine_code.specs.declared.line.Line.{Line}
 use Rattle.cax64_machine_code.specs.declared.line.LegacySet.{LegacySet}
 use Rattle.cax64_machine_code.specs.declared.line.Opcode.{Opcode}
-use Rattle.cax64_machine_code.specs.declared.line.VvvvField.{VvvvField}
 use Rattle.cax64_machine_code.specs.declared.line.VvvvField.TheVariants.{VvvvRegister, Stored1111}
 use Rattle.cax64_machine_code.specs.declared.line.PrefixField.{PrefixField}
 use Rattle.cax64_machine_code.specs.declared.line.PrefixField.TheVariants.{LegacyField, VexField}

@@ -17,9 +17,9 @@ use cax64_address::amode::Amode;
 use cax64_address::disp::encode_modrm;
 use cax64_address::tail::tail_of;
 use cax64_machine_code::line::{Line, PlaceField, PrefixField, RegField, TailField};
+use cax64_machine_code::row::Row;
 use cax64_prefix::rex::RexPrefix;
 use cax64_prefix::vex::VexPrefix;
-use cax64_machine_code::row::Row;
 use cax64_register::AsReg;
 use cax64_sink::TrapCode;
 
@@ -197,10 +197,8 @@ pub fn code_of<M: AsReg>(line: Line, operands: &Operands<M>, displacement: i32) 
     requires line { IsTrue (is_line line) }
     requires fits { IsTrue (fits line operands.now) }
     requires real { IsTrue (are_real M.settled M.enc operands.now) }
-    ensures {
-      (row : Row) → line_of row ≡ line
-      → EncodesAs (operand_parts M.enc row displacement operands.now) (memory_in operands.now.place) (code_actions result)
-    }
+    ensures { (row : Row) → line_of row ≡ line
+        → EncodesAs (operand_parts M.enc row displacement operands.now) (memory_in operands.now.place) (code_actions result) }
 {
     let reg = reg_number(line.tail, operands.reg);
     Code {

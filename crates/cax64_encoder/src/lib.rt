@@ -4,8 +4,6 @@
 //! is to get, and only then makes them.
 #![tactic(auto)]
 
-
-
 pub mod code;
 pub mod encoder;
 pub mod instruction;

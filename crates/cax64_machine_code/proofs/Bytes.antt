@@ -1,8 +1,8 @@
-use Rattle.std.proofs.Common.{◌≡◌, ℕ, ◌+◌, ◌*◌, ◌/◌, ◌%◌, ◌^◌, ◌<◌, ◌≤◌, arith, ℤ, pos, List, [], ◌∷◌, ◌++◌, Some, refl, ap}
+use Rattle.std.proofs.Common.{◌≡◌, ℕ, ◌+◌, ◌*◌, ◌/◌, ◌%◌, ◌^◌, ◌<◌, arith, ℤ, List, ◌∷◌, ◌++◌, Some, refl}
 use Rattle.std.proofs.lemmas.Int.{ints}
-use Rattle.std.specs.Int.{cast_unsigned, cast_signed, w8, w16, w32, w64, to_le_bytes}
+use Rattle.std.specs.Int.{cast_unsigned, w8, w16, w32, to_le_bytes}
 use Rattle.std.specs.Int.RustNames.{FitsSigned}
-use Rattle.cax64_machine_code.specs.Fields.{mod_of, reg_of, rm_of, s8, s32, signed_of, number_at}
+use Rattle.cax64_machine_code.specs.Fields.{mod_of, reg_of, rm_of, s8, s32, number_at}
 
 -- the fields of a byte that is put together of three
 pub mod_is : (m g r : ℕ) → g < 8 → r < 8 → mod_of (m * 64 + g * 8 + r) ≡ m

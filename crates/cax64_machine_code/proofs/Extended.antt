@@ -1,8 +1,7 @@
-use Rattle.std.proofs.Common.{◌≡◌, ◌≢◌, ℕ, ◌+◌, ◌-◌, ◌*◌, ◌<◌, ◌≤◌, ◌/◌, ◌%◌, ◌^◌, arith, List, [], ◌∷◌, ◌++◌, Bool, true, false, Some, None, Option, refl, ℤ, pos, ◌∙◌, ap, sym, suc, zero, length, append_assoc}
-use Rattle.std.specs.Prelude.{◌==◌, ◌&&◌, ◌||◌, not, if◌then◌else◌, option_map, option_and_then}
-use Rattle.std.proofs.lemmas.List.{length-append}
-use Rattle.cax64_machine_code.specs.Fields.{mod_of, reg_of, rm_of, scale_of, index_of, base_of, number_at, s8, s32, signed_of}
-use Rattle.cax64_machine_code.specs.Tail.{Tail, IsTail, read_tail, sib_at, disp_at, disp8_at, disp32_at, displaced, scaled_index}
+use Rattle.std.proofs.Common.{◌≡◌, ℕ, ◌+◌, ◌*◌, List, [], ◌∷◌, ◌++◌, Bool, true, false, Some, None, Option, refl, ℤ, pos, ◌∙◌, ap, sym, suc, zero}
+use Rattle.std.specs.Prelude.{◌==◌, ◌&&◌, if◌then◌else◌, option_map}
+use Rattle.cax64_machine_code.specs.Fields.{mod_of, reg_of, rm_of, base_of, number_at, s32}
+use Rattle.cax64_machine_code.specs.Tail.{Tail, read_tail, sib_at, disp_at, disp8_at, disp32_at, displaced, scaled_index}
 use Rattle.cax64_machine_code.specs.declared.reading.RegView.TheVariants.{Low}
 use Rattle.cax64_machine_code.specs.declared.reading.Place.{Place}
 use Rattle.cax64_machine_code.specs.declared.reading.Place.TheVariants.{Reg, Mem, Rip}

@@ -1,9 +1,8 @@
-use Rattle.std.proofs.Common.{◌≡◌, ◌≢◌, ℕ, ◌+◌, ◌*◌, ◌<◌, ◌≤◌, ◌/◌, ◌%◌, ◌^◌, arith, List, [], ◌∷◌, ◌++◌, Bool, true, false, Some, None, Option, refl, ℤ, pos, ◌∙◌, ap, sym, suc, zero, length, ◌⊎◌, inl, inr}
-use Rattle.std.specs.Prelude.{◌==◌, ◌&&◌, if◌then◌else◌, option_map, All, is_some}
-use Rattle.std.proofs.lemmas.Bool.{and_parts}
+use Rattle.std.proofs.Common.{◌≡◌, ◌≢◌, ℕ, ◌+◌, ◌*◌, ◌<◌, ◌≤◌, ◌%◌, arith, List, [], ◌∷◌, Bool, true, false, Some, None, Option, refl, ℤ, ◌∙◌, ap, sym, suc, length}
+use Rattle.std.specs.Prelude.{◌==◌, ◌&&◌, if◌then◌else◌, is_some}
 use Rattle.std.proofs.lemmas.Bool.Decides.{nat_tests}
-use Rattle.cax64_machine_code.specs.Fields.{IsBytes, mod_of, reg_of, rm_of, scale_of, index_of, base_of, number_at, s8, s32}
-use Rattle.cax64_machine_code.specs.Tail.{Tail, read_tail, sib_at, disp_at, disp8_at, disp32_at, displaced, scaled_index}
+use Rattle.cax64_machine_code.specs.Fields.{IsBytes, mod_of, reg_of, rm_of, base_of, number_at}
+use Rattle.cax64_machine_code.specs.Tail.{Tail, read_tail, sib_at, disp_at, disp32_at, displaced, scaled_index}
 use Rattle.cax64_machine_code.specs.declared.reading.RegView.TheVariants.{Low}
 use Rattle.cax64_machine_code.specs.declared.reading.Place.{Place}
 use Rattle.cax64_machine_code.specs.declared.reading.Place.TheVariants.{Reg, Mem, Rip}
@@ -163,9 +162,9 @@ no_sib x b factor mode reg (sib ∷ bytes) disp t hp h = choose ((base_of sib ==
     (no_memory reg None (scaled_index x sib) disp (disp32_at bytes) t hp)
     (no_memory reg (Some (base_of sib + 8 * b)) (scaled_index x sib) disp (disp_at mode factor bytes) t hp) h
   where
-  choose : {X : Type 0} (t : Bool) (a b r : X) → (a ≡ r → ⊥) → (b ≡ r → ⊥) → (if t then a else b) ≡ r → ⊥
-  choose true a b r f g h = f h
-  choose false a b r f g h = g h
+    choose : {X : Type 0} (t : Bool) (a b r : X) → (a ≡ r → ⊥) → (b ≡ r → ⊥) → (if t then a else b) ≡ r → ⊥
+    choose true a b r f g h = f h
+    choose false a b r f g h = g h
 
 rip_tests : (x b factor : ℕ) (disp : ℤ) (modrm : ℕ) (bytes : List ℕ) (t : Tail) (t3 t4 t5 : Bool) → t.place ≡ Rip disp → t.rest ≡ [] → (if t3 then Some (record { reg = reg_of modrm; place = Reg (Low (rm_of modrm + 8 * b)); rest = bytes }) else (if t4 then sib_at x b factor (mod_of modrm) (reg_of modrm) bytes else (if t5 then displaced (reg_of modrm) Rip (disp32_at bytes) else displaced (reg_of modrm) (Mem (Some (rm_of modrm + 8 * b)) None) (disp_at (mod_of modrm) factor bytes)))) ≡ Some t → 5 ≤ length (modrm ∷ bytes)
 rip_tests x b factor disp modrm bytes t true t4 t5 hp hr h =

@@ -1,13 +1,11 @@
-use Rattle.std.proofs.Common.{◌≡◌, ◌≢◌, ℕ, zero, suc, ◌+◌, ◌-◌, ◌≤◌, arith, List, [], ◌∷◌, ◌++◌, Bool, true, false, refl, ◌∙◌, ap, sym, subst, Option, Some, None, length, append-nil, append_assoc, drop}
-use Rattle.std.proofs.Common as common
-use Rattle.std.specs.Prelude.{option_map, option_and_then}
+use Rattle.std.proofs.Common.{◌≡◌, ℕ, ◌-◌, ◌≤◌, arith, List, [], ◌∷◌, ◌++◌, refl, subst, Option, Some, None, length}
+use Rattle.std.specs.Prelude.{option_map}
 use Rattle.std.proofs.lemmas.List.{length-append}
 use Rattle.cax64_machine_code.specs.Prefix.{Prefix, prefix_at}
-use Rattle.cax64_machine_code.specs.Reading.{Parts, Found, matched_at, or_later, row_at, operands_at, find, reading_of, read}
+use Rattle.cax64_machine_code.specs.Reading.{Parts, Found, matched_at, or_later, row_at, operands_at, find, read}
 use Rattle.cax64_machine_code.specs.Rows.{line_of, all_rows}
-use Rattle.cax64_machine_code.specs.Sequence.{parts_of, ReadsAs}
+use Rattle.cax64_machine_code.specs.Sequence.{ReadsAs}
 use Rattle.cax64_machine_code.specs.declared.row.Row.{Row}
-use Rattle.cax64_machine_code.specs.declared.reading.Reading.{Reading}
 use Rattle.cax64_machine_code.proofs.Table.{IsIn, here, there, row_is_in}
 use Rattle.cax64_machine_code.proofs.Uniqueness.{one_row}
 

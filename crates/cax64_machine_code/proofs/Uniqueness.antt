@@ -1,16 +1,14 @@
-use Rattle.std.proofs.Common.{◌≡◌, ◌≢◌, ℕ, zero, suc, ◌+◌, arith, List, [], ◌∷◌, Bool, true, false, refl, ◌∙◌, ap, sym, Option, Some, None, ◌⊎◌, inl, inr, length, slice_get}
+use Rattle.std.proofs.Common.{◌≡◌, ℕ, suc, arith, List, [], ◌∷◌, Bool, true, false, refl, ◌∙◌, ap, sym, Option, Some, None, ◌⊎◌, inl, inr, length}
 use Rattle.std.specs.Prelude.{◌==◌, ◌&&◌, ◌||◌, not, if◌then◌else◌, is_some, option_and_then}
 use Rattle.std.proofs.lemmas.Bool.{and_parts}
 use Rattle.std.proofs.lemmas.Bool.Decides.{nat_tests}
 use Rattle.cax64_machine_code.specs.Fields.{reg_of}
-use Rattle.cax64_machine_code.specs.Prefix.{Rex, Prefix, legacy_prefix, vex_prefix, has_rex, w_of}
+use Rattle.cax64_machine_code.specs.Prefix.{Prefix, legacy_prefix, vex_prefix, w_of}
 use Rattle.cax64_machine_code.specs.Line.{same_bool, same_legacy, w_matches, field_matches, prefix_matches, after, reg_matches, digit_matches, opcode_at, opcode_bytes}
 use Rattle.cax64_machine_code.specs.declared.line.LegacySet.{LegacySet}
 use Rattle.cax64_machine_code.specs.declared.line.Line.{Line}
-use Rattle.cax64_machine_code.specs.declared.line.VvvvField.{VvvvField}
 use Rattle.cax64_machine_code.specs.declared.line.PrefixField.{PrefixField}
 use Rattle.cax64_machine_code.specs.declared.line.RegField.{RegField}
-use Rattle.cax64_machine_code.specs.declared.line.PlaceField.{PlaceField}
 use Rattle.cax64_machine_code.specs.declared.line.TailField.{TailField}
 use Rattle.cax64_machine_code.specs.declared.line.PrefixField.TheVariants.{LegacyField, VexField}
 use Rattle.cax64_machine_code.specs.declared.line.RegField.TheVariants.{Digit, Register8, Register}
@@ -85,10 +83,12 @@ vex_excluded f1 f2 f3 v1 v2 a1 a2 a3 b1 b2 b3 h k n =
     let k2 = and_parts (f2 == b2) ((f3 == b3) && v2) k1.1 in
     let k3 = and_parts (f3 == b3) v2 k2.1 in
     elim (or_true (not (a1 == b1)) (not (a2 == b2) || not (a3 == b3)) n) as (λ _. ⊥) [
-      inl n1 ↦ number_excluded f1 a1 b1 h1.0 k1.0 n1
-    | inr m ↦ elim (or_true (not (a2 == b2)) (not (a3 == b3)) m) as (λ _. ⊥) [
-        inl n2 ↦ number_excluded f2 a2 b2 h2.0 k2.0 n2
-      | inr n3 ↦ number_excluded f3 a3 b3 h3.0 k3.0 n3 ] ]
+      | inl n1 ↦ number_excluded f1 a1 b1 h1.0 k1.0 n1
+      | inr m ↦ elim (or_true (not (a2 == b2)) (not (a3 == b3)) m) as (λ _. ⊥) [
+        | inl n2 ↦ number_excluded f2 a2 b2 h2.0 k2.0 n2
+        | inr n3 ↦ number_excluded f3 a3 b3 h3.0 k3.0 n3
+      ]
+    ]
 
 prefix_excluded : (a b : PrefixField) (p : Prefix) → prefix_apart a b ≡ true → field_matches a p ≡ true → field_matches b p ≡ true → ⊥
 prefix_excluded (LegacyField set rex) (LegacyField other may) (legacy_prefix found byte) n h k =
@@ -116,8 +116,9 @@ bytes_excluded (x ∷ xs) (y ∷ ys) (c ∷ bytes) r s n h k =
     let q = some_if (y == c) (after ys bytes) s k in
     let e : x ≡ y = equal x c p.0 ∙ sym (equal y c q.0) in
     elim (or_true (not (x == y)) (bytes_apart xs ys) n) as (λ _. ⊥) [
-      inl m ↦ not_true (x == y) (ap (λ z. z == y) e ∙ itself y) m
-    | inr m ↦ bytes_excluded xs ys bytes r s m p.1 q.1 ]
+      | inl m ↦ not_true (x == y) (ap (λ z. z == y) e ∙ itself y) m
+      | inr m ↦ bytes_excluded xs ys bytes r s m p.1 q.1
+    ]
 
 suc_same : (m n : ℕ) → suc m ≡ suc n → m ≡ n
 suc_same m n e = omega arith
@@ -175,12 +176,15 @@ excluded a b p bytes r s n h k =
     let ho = behind a bytes r ha.1 in
     let ko = behind b bytes s kb.1 in
     elim (or_true (prefix_apart a.prefix b.prefix) _ n) as (λ _. ⊥) [
-      inl m ↦ prefix_excluded a.prefix b.prefix p m hp.0 kp.0
-    | inr m1 ↦ elim (or_true (w_apart a.w b.w) _ m1) as (λ _. ⊥) [
-        inl m ↦ w_excluded a.w b.w (w_of p) m hp.1 kp.1
-      | inr m2 ↦ elim (or_true (bytes_apart (opcode_bytes a.opcode) (opcode_bytes b.opcode)) _ m2) as (λ _. ⊥) [
-          inl m ↦ bytes_excluded (opcode_bytes a.opcode) (opcode_bytes b.opcode) bytes r s m ho.opcode ko.opcode
-        | inr m ↦ opcode_excluded a b bytes r s m ho ko ] ] ]
+      | inl m ↦ prefix_excluded a.prefix b.prefix p m hp.0 kp.0
+      | inr m1 ↦ elim (or_true (w_apart a.w b.w) _ m1) as (λ _. ⊥) [
+        | inl m ↦ w_excluded a.w b.w (w_of p) m hp.1 kp.1
+        | inr m2 ↦ elim (or_true (bytes_apart (opcode_bytes a.opcode) (opcode_bytes b.opcode)) _ m2) as (λ _. ⊥) [
+          | inl m ↦ bytes_excluded (opcode_bytes a.opcode) (opcode_bytes b.opcode) bytes r s m ho.opcode ko.opcode
+          | inr m ↦ opcode_excluded a b bytes r s m ho ko
+        ]
+      ]
+    ]
 
 apart_at : (a b : Row) (rows : List Row) → IsIn b rows → apart_from_all a rows ≡ true → apart (line_of a) (line_of b) ≡ true
 apart_at a b [] m h = elim m [ ]
@@ -198,7 +202,9 @@ same_or_apart a b (c ∷ rows) h (there m) (there n) = same_or_apart a b rows (a
 pub one_row : (a b : Row) (p : Prefix) (bytes r s : List ℕ) → matched_at (line_of a) p bytes ≡ Some r → matched_at (line_of b) p bytes ≡ Some s → a ≡ b
 one_row a b p bytes r s h k =
     elim (same_or_apart a b all_rows table_apart (row_is_in a) (row_is_in b)) as (λ _. a ≡ b) [
-      inl e ↦ e
-    | inr m ↦ elim m as (λ _. a ≡ b) [
-        inl n ↦ absurd (excluded (line_of a) (line_of b) p bytes r s n h k)
-      | inr n ↦ absurd (excluded (line_of b) (line_of a) p bytes s r n k h) ] ]
+      | inl e ↦ e
+      | inr m ↦ elim m as (λ _. a ≡ b) [
+        | inl n ↦ absurd (excluded (line_of a) (line_of b) p bytes r s n h k)
+        | inr n ↦ absurd (excluded (line_of b) (line_of a) p bytes s r n k h)
+      ]
+    ]

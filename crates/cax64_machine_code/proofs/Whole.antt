@@ -1,8 +1,7 @@
-use Rattle.std.proofs.Common.{◌≡◌, ◌≢◌, ℕ, ◌+◌, ◌-◌, ◌*◌, ◌<◌, ◌≤◌, ◌/◌, ◌%◌, arith, List, [], ◌∷◌, ◌++◌, Bool, true, false, Some, None, Option, refl, ℤ, pos, ◌∙◌, ap, sym, suc, zero, length}
+use Rattle.std.proofs.Common.{◌≡◌, ℕ, ◌-◌, ◌/◌, ◌%◌, arith, List, [], ◌∷◌, ◌++◌, Bool, true, false, Some, None, Option, refl, ℤ, pos, ◌∙◌, ap, sym, length}
 use Rattle.std.specs.Prelude.{◌==◌, ◌&&◌, ◌||◌, not, if◌then◌else◌, option_map, option_and_then}
-use Rattle.std.proofs.lemmas.Bool.{and_parts}
 use Rattle.std.proofs.lemmas.List.{length-append}
-use Rattle.cax64_machine_code.specs.Fields.{number_at, signed_of, reg_of}
+use Rattle.cax64_machine_code.specs.Fields.{number_at, signed_of}
 use Rattle.cax64_machine_code.specs.Tail.{Tail, read_tail}
 use Rattle.cax64_machine_code.specs.Prefix.{no_legacy, legacy_at, Rex, rex_of, rex_at, Vex, vex_two_byte, vex_three_byte, is_vex_map, vex_at, Prefix, legacy_prefix, vex_prefix, begins_vex, is_no_legacy, after_vex, after_legacy, prefix_at, x_of, b_of}
 use Rattle.cax64_machine_code.specs.Line.{prefix_matches, after, digit_matches, opcode_at, opcode_bytes}
@@ -12,17 +11,16 @@ use Rattle.cax64_machine_code.specs.declared.line.RegField.{RegField}
 use Rattle.cax64_machine_code.specs.declared.line.PlaceField.{PlaceField}
 use Rattle.cax64_machine_code.specs.declared.line.TailField.{TailField}
 use Rattle.cax64_machine_code.specs.declared.line.ImmField.{ImmField}
-use Rattle.cax64_machine_code.specs.declared.line.RegField.TheVariants.{Digit, Register8, Register}
 use Rattle.cax64_machine_code.specs.declared.line.TailField.TheVariants.{NoTail, Modrm}
 use Rattle.cax64_machine_code.specs.declared.line.ImmField.TheVariants.{NoImm, Imm, Simm}
-use Rattle.cax64_machine_code.specs.Reading.{Parts, Found, reading_of, read, place_at, imm_at, bare_operands, tail_operands, operands_of, operands_at, matched_at, or_later, row_at, find, vvvv_at, reg_view}
+use Rattle.cax64_machine_code.specs.Reading.{Found, reading_of, read, place_at, imm_at, operands_of, operands_at, matched_at, or_later, row_at, find, vvvv_at, reg_view}
 use Rattle.cax64_machine_code.specs.Rows.{line_of, all_rows}
 use Rattle.cax64_machine_code.specs.declared.row.Row.{Row}
 use Rattle.cax64_machine_code.specs.declared.row.Row.TheVariants.{lock_addb_mi}
 use Rattle.cax64_machine_code.specs.declared.reading.Place.{Place}
 use Rattle.cax64_machine_code.specs.declared.reading.Reading.{Reading}
 use Rattle.cax64_machine_code.proofs.Extended.{number_at_more, mapped, longer, read_tail_more}
-use Rattle.cax64_machine_code.proofs.Uniqueness.{Behind, behind, some_if}
+use Rattle.cax64_machine_code.proofs.Uniqueness.{behind, some_if}
 use Rattle.cax64_machine_code.proofs.Matched.{row_found}
 
 choice : {X Y : Type 0} (t : Bool) (a b r : X) (a' b' s : Y) → (a ≡ r → a' ≡ s) → (b ≡ r → b' ≡ s) → (if t then a else b) ≡ r → (if t then a' else b') ≡ s
@@ -143,13 +141,13 @@ unfolding row_at
 row_matches p bytes [] row rest h = cc
 row_matches p bytes (other ∷ rows) row rest h = first_or_later p bytes other row rest rows (matched_at (line_of other) p bytes) refl h (row_matches p bytes rows row rest)
   where
-  first_or_later : (p : Prefix) (bytes : List ℕ) (other row : Row) (rest : List ℕ) (rows : List Row) (o : Option (List ℕ)) → matched_at (line_of other) p bytes ≡ o → or_later (option_map {T = List ℕ} {U = Row × List ℕ} (λ r. (other, r)) o) (row_at rows p bytes) ≡ Some (row, rest) → (row_at rows p bytes ≡ Some (row, rest) → matched_at (line_of row) p bytes ≡ Some rest) → matched_at (line_of row) p bytes ≡ Some rest
-  first_or_later p bytes other row rest rows None e h later = later h
-  first_or_later p bytes other row rest rows (Some r) e h later =
-      let k = some_same _ _ h in
-      let same : other ≡ row = first_same _ _ _ _ k in
-      let left : r ≡ rest = second_same _ _ _ _ k in
-      rw (← same, ← left) e
+    first_or_later : (p : Prefix) (bytes : List ℕ) (other row : Row) (rest : List ℕ) (rows : List Row) (o : Option (List ℕ)) → matched_at (line_of other) p bytes ≡ o → or_later (option_map {T = List ℕ} {U = Row × List ℕ} (λ r. (other, r)) o) (row_at rows p bytes) ≡ Some (row, rest) → (row_at rows p bytes ≡ Some (row, rest) → matched_at (line_of row) p bytes ≡ Some rest) → matched_at (line_of row) p bytes ≡ Some rest
+    first_or_later p bytes other row rest rows None e h later = later h
+    first_or_later p bytes other row rest rows (Some r) e h later =
+        let k = some_same _ _ h in
+        let same : other ≡ row = first_same _ _ _ _ k in
+        let left : r ≡ rest = second_same _ _ _ _ k in
+        rw (← same, ← left) e
 
 imm_at_more : (field : ImmField) (bytes more : List ℕ) (r : Option ℤ × List ℕ) → imm_at field bytes ≡ Some r → imm_at field (bytes ++ more) ≡ Some (r.0, r.1 ++ more)
 imm_at_more NoImm bytes more r h =

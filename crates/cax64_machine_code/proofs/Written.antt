@@ -1,25 +1,22 @@
-use Rattle.std.proofs.Common.{◌≡◌, ◌≢◌, ℕ, zero, suc, ◌+◌, ◌-◌, ◌*◌, ◌<◌, ◌≤◌, ◌/◌, ◌%◌, arith, List, [], ◌∷◌, ◌++◌, Bool, true, false, Some, None, Option, refl, ℤ, pos, ◌∙◌, ap, sym, length, append_assoc}
-use Rattle.std.specs.Prelude.{◌==◌, ◌&&◌, if◌then◌else◌, option_map, option_and_then}
+use Rattle.std.proofs.Common.{◌≡◌, ℕ, ◌-◌, arith, List, [], ◌∷◌, ◌++◌, Bool, true, false, Some, None, Option, refl, ℤ, ◌∙◌, ap, sym, length}
+use Rattle.std.specs.Prelude.{◌==◌, ◌&&◌, if◌then◌else◌}
 use Rattle.std.proofs.lemmas.Bool.Decides.{nat_tests}
 use Rattle.std.proofs.lemmas.List.{length-append}
-use Rattle.cax64_machine_code.specs.Fields.{reg_of, rm_of, mod_of, number_at, signed_of}
-use Rattle.cax64_machine_code.specs.Tail.{Tail, IsTail, read_tail, sib_at, disp_at, disp32_at, displaced}
-use Rattle.cax64_machine_code.specs.Prefix.{Prefix, prefix_at, x_of, b_of, r_of, has_rex}
-use Rattle.cax64_machine_code.specs.Line.{opcode_bytes, prefix_matches, after, digit_matches, reg_matches, opcode_at}
-use Rattle.cax64_machine_code.specs.Reading.{Parts, Found, imm_at, place_at, reg_view, vvvv_at, matched_at, operands_of, operands_at, find}
-use Rattle.cax64_machine_code.specs.Rows.{line_of, all_rows}
+use Rattle.cax64_machine_code.specs.Fields.{reg_of, rm_of, mod_of}
+use Rattle.cax64_machine_code.specs.Tail.{Tail, IsTail, read_tail, sib_at, displaced}
+use Rattle.cax64_machine_code.specs.Prefix.{Prefix, prefix_at, x_of, b_of}
+use Rattle.cax64_machine_code.specs.Line.{opcode_bytes, prefix_matches, after, digit_matches}
+use Rattle.cax64_machine_code.specs.Reading.{imm_at, place_at, reg_view, vvvv_at, matched_at, operands_at, find}
+use Rattle.cax64_machine_code.specs.Rows.{line_of}
 use Rattle.cax64_machine_code.specs.declared.line.Line.{Line}
 use Rattle.cax64_machine_code.specs.declared.line.RegField.{RegField}
 use Rattle.cax64_machine_code.specs.declared.line.PlaceField.{PlaceField}
 use Rattle.cax64_machine_code.specs.declared.line.ImmField.{ImmField}
-use Rattle.cax64_machine_code.specs.declared.line.TailField.{TailField}
 use Rattle.cax64_machine_code.specs.declared.line.RegField.TheVariants.{Digit, Register8, Register}
 use Rattle.cax64_machine_code.specs.declared.line.TailField.TheVariants.{NoTail, Modrm}
 use Rattle.cax64_machine_code.specs.declared.row.Row.{Row}
 use Rattle.cax64_machine_code.specs.declared.reading.Place.{Place}
-use Rattle.cax64_machine_code.specs.declared.reading.RegView.{RegView}
 use Rattle.cax64_machine_code.proofs.Matched.{find_is}
-use Rattle.cax64_machine_code.proofs.Extended.{longer, read_tail_more}
 
 -- how the parts of an instruction, put one behind the other, are found again
 

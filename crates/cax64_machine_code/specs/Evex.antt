@@ -1,4 +1,4 @@
-use Rattle.std.specs.Prelude.{ℕ, ◌+◌, ◌-◌, ◌*◌, ◌/◌, ◌%◌, ◌&&◌, ◌==◌, if◌then◌else◌, Option, Some, None, List, [], ◌∷◌}
+use Rattle.std.specs.Prelude.{ℕ, ◌+◌, ◌-◌, ◌*◌, ◌/◌, ◌%◌, ◌&&◌, ◌==◌, if◌then◌else◌, Option, Some, None, List, ◌∷◌}
 
 -- The fields of an EVEX prefix: bits 3 and 4 of reg, bit 3 of base and of index, five bits of vvvv. (Intel SDM,
 -- volume 2, 2.7.1.)

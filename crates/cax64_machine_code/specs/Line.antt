@@ -1,6 +1,6 @@
 use Rattle.std.specs.Prelude.{ℕ, Bool, true, false, not, ◌&&◌, ◌||◌, ◌==◌, if◌then◌else◌, Option, Some, None, option_and_then, List, [], ◌∷◌}
 use Rattle.cax64_machine_code.specs.Fields.{reg_of}
-use Rattle.cax64_machine_code.specs.Prefix.{Rex, Vex, Prefix, legacy_prefix, vex_prefix, has_rex, w_of}
+use Rattle.cax64_machine_code.specs.Prefix.{Prefix, legacy_prefix, vex_prefix, has_rex, w_of}
 use Rattle.cax64_machine_code.specs.declared.line.LegacySet.{LegacySet}
 use Rattle.cax64_machine_code.specs.declared.line.Opcode.{Opcode}
 use Rattle.cax64_machine_code.specs.declared.line.Line.{Line}

@@ -1,7 +1,7 @@
-use Rattle.std.specs.Prelude.{◌≡◌, ℕ, ◌+◌, ◌-◌, ◌*◌, Bool, true, false, not, ◌&&◌, nat_le, if◌then◌else◌, Option, Some, None, option_map, option_and_then, ℤ, pos, List, [], ◌∷◌, length}
+use Rattle.std.specs.Prelude.{ℕ, ◌+◌, ◌-◌, ◌*◌, Bool, true, false, not, ◌&&◌, nat_le, if◌then◌else◌, Option, Some, None, option_map, option_and_then, ℤ, pos, List, [], ◌∷◌, length}
 use Rattle.cax64_machine_code.specs.Fields.{number_at, signed_of}
-use Rattle.cax64_machine_code.specs.Prefix.{Prefix, legacy_prefix, vex_prefix, prefix_at, has_rex, r_of, x_of, b_of, vvvv_of}
-use Rattle.cax64_machine_code.specs.Tail.{Tail, read_tail}
+use Rattle.cax64_machine_code.specs.Prefix.{Prefix, prefix_at, has_rex, r_of, x_of, b_of, vvvv_of}
+use Rattle.cax64_machine_code.specs.Tail.{read_tail}
 use Rattle.cax64_machine_code.specs.Line.{prefix_matches, opcode_at}
 use Rattle.cax64_machine_code.specs.declared.line.Line.{Line}
 use Rattle.cax64_machine_code.specs.declared.line.VvvvField.{VvvvField}
@@ -92,14 +92,14 @@ abbrev pub tail_operands : Row → Line → RegField → PlaceField → Prefix �
 tail_operands row line reg field prefix bytes =
     option_and_then
     (λ t. option_and_then
-      (λ place. option_map
-        (λ i. record {
-          parts = record { row = row; reg = reg_view reg prefix t.reg; vvvv = vvvv_at line.prefix prefix; place = Some place; imm = i.0 };
-          tail = length bytes - length t.rest;
-          rest = i.1;
-        })
-        (imm_at line.imm t.rest))
-      (place_at field prefix t.place))
+    (λ place. option_map
+    (λ i. record {
+      parts = record { row = row; reg = reg_view reg prefix t.reg; vvvv = vvvv_at line.prefix prefix; place = Some place; imm = i.0 };
+      tail = length bytes - length t.rest;
+      rest = i.1;
+    })
+    (imm_at line.imm t.rest))
+    (place_at field prefix t.place))
     (read_tail (x_of prefix) (b_of prefix) 1 bytes)
 
 abbrev pub operands_of : TailField → Row → Line → Prefix → List ℕ → Option Found

@@ -1,4 +1,4 @@
-use Rattle.std.specs.Prelude.{ℕ, Bool, true, false, Option, Some, None, List, [], ◌∷◌}
+use Rattle.std.specs.Prelude.{ℕ, true, false, Option, Some, None, List, [], ◌∷◌}
 use Rattle.cax64_machine_code.specs.Prefix.{no_legacy}
 use Rattle.cax64_machine_code.specs.declared.line.LegacySet.{LegacySet}
 use Rattle.cax64_machine_code.specs.declared.line.Opcode.{Opcode}

@@ -1,4 +1,4 @@
-use Rattle.std.specs.Prelude.{◌≡◌, ◌≢◌, ◌≤◌, ◌+◌, ℕ, zero, suc, length, Option, Some, None, option_map, option_and_then, List, [], ◌∷◌, ◌++◌, drop}
+use Rattle.std.specs.Prelude.{◌≡◌, ◌≢◌, ◌≤◌, ◌+◌, ℕ, zero, suc, length, Option, Some, option_map, option_and_then, List, [], ◌∷◌, ◌++◌, drop}
 use Rattle.cax64_machine_code.specs.Reading.{Parts, read}
 use Rattle.cax64_machine_code.specs.declared.reading.Reading.{Reading}
 

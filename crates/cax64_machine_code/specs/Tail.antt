@@ -1,4 +1,4 @@
-use Rattle.std.specs.Prelude.{◌≡◌, ℕ, ◌+◌, ◌*◌, ◌^◌, ℤ, pos, ◌*ℤ◌, if◌then◌else◌, ◌==◌, ◌&&◌, Option, Some, None, option_map, option_and_then, List, [], ◌∷◌, ◌++◌}
+use Rattle.std.specs.Prelude.{◌≡◌, ℕ, ◌+◌, ◌*◌, ◌^◌, ℤ, pos, ◌*ℤ◌, if◌then◌else◌, ◌==◌, ◌&&◌, Option, Some, None, option_map, List, [], ◌∷◌, ◌++◌}
 use Rattle.cax64_machine_code.specs.Fields.{mod_of, reg_of, rm_of, scale_of, index_of, base_of, number_at, s8, s32}
 use Rattle.cax64_machine_code.specs.declared.reading.RegView.TheVariants.{Low}
 use Rattle.cax64_machine_code.specs.declared.reading.Place.{Place}

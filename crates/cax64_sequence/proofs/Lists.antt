@@ -1,6 +1,6 @@
-use Rattle.std.proofs.Common.{◌≡◌, ℕ, zero, suc, ◌+◌, ◌-◌, ◌*◌, ◌<◌, ◌≤◌, arith, List, [], ◌∷◌, ◌++◌, Bool, true, false, refl, ◌∙◌, ap, sym, subst, Option, Some, None, append_assoc, append-nil, Result, Ok, Err, take, drop, map, length, get_or, slice_get, ℤ}
-use Rattle.std.specs.Prelude.{option_map, option_and_then, if◌then◌else◌, OnOk, OnErr, IfErr, IsOk, All, IsTrue}
-use Rattle.std.proofs.Math.Seq.{drop-append_seam, take-append_seam, take-length, drop-length}
+use Rattle.std.proofs.Common.{◌≡◌, ℕ, zero, suc, ◌+◌, ◌*◌, ◌<◌, ◌≤◌, arith, List, [], ◌∷◌, ◌++◌, Bool, true, false, refl, ◌∙◌, ap, sym, Option, Some, None, append_assoc, append-nil, take, drop, map, length, get_or, slice_get}
+use Rattle.std.specs.Prelude.{option_map, option_and_then, if◌then◌else◌}
+use Rattle.std.proofs.Math.Seq.{drop-append_seam, take-length}
 use Rattle.std.proofs.Math.Nat.{mul-le-mul_left}
 use Rattle.std.proofs.lemmas.List.{take_more, map-append, length-append, length-map, take-append-le, drop-append-le, length-drop}
 use Rattle.std.proofs.lemmas.Option.{slice_get_read, slice_get-map}
@@ -125,9 +125,9 @@ adds_none s = record {
   shortest = tt;
 }
   where
-  no_notices : (records : Bool) (old : List Notice) → old ≡ (if records then old ++ [] else old)
-  no_notices true old = sym (append-nil old)
-  no_notices false old = refl
+    no_notices : (records : Bool) (old : List Notice) → old ≡ (if records then old ++ [] else old)
+    no_notices true old = sym (append-nil old)
+    no_notices false old = refl
 
 pub adds_more : {M : Type 0} (ms : List Parts) (m : Parts) (mems : List (Option (Amode M))) (mem : Option (Amode M)) (s u t : State) → length mems ≡ length ms → AddsAll ms mems s u → Keeps s u → AddsInstruction m mem u t → AddsAll (ms ++ m ∷ []) (mems ++ mem ∷ []) s t
 unfolding reads_more
@@ -136,7 +136,7 @@ adds_more ms m mems mem s u t e h keeps k =
     let mems_length : length mems ≡ length rs = e ∙ sym (same_length rs ms h.reads.same) in
     let place : length u.bytes ≡ length s.bytes + total_length rs = ap length h.bytes ∙ length-append s.bytes h.added ∙ ap (λ (n : ℕ). length s.bytes + n) h.reads.lengths in
     let told : t.notices ≡ (if s.records then s.notices ++ (each_notices mems (length s.bytes) rs ++ notices_of mem (length s.bytes + total_length rs) k.reads.reading) else s.notices) =
-        told_next s.records s.notices u.notices t.notices (each_notices mems (length s.bytes) rs) (notices_of mem (length s.bytes + total_length rs) k.reads.reading) h.notices (k.notices ∙ rw (keeps.records, place) refl) in
+    told_next s.records s.notices u.notices t.notices (each_notices mems (length s.bytes) rs) (notices_of mem (length s.bytes + total_length rs) k.reads.reading) h.notices (k.notices ∙ rw (keeps.records, place) refl) in
     record {
       added = h.added ++ k.added;
       bytes = k.bytes ∙ ap (λ (x : List ℕ). x ++ k.added) h.bytes ∙ append_assoc s.bytes h.added k.added;

@@ -41,10 +41,7 @@ fn encode_each<I: Instruction, S: CodeSink>(insts: &[I], sink: &mut S) -> Result
 /// Puts instructions one behind the other, and tells the sink of their traps and targets.
 ///
 /// A refusal says how many instructions are whole.
-pub fn encode_all<R: Registers, S: CodeSink>(
-    insts: &[Inst<R>],
-    sink: &mut S,
-) -> Result<(), Refused>
+pub fn encode_all<R: Registers, S: CodeSink>(insts: &[Inst<R>], sink: &mut S) -> Result<(), Refused>
     requires { All (λ i. IsTrue (encodable R.ReadGpr.settled R.ReadGpr.enc R.ReadWriteGpr.settled R.ReadWriteGpr.enc (S.state sink.old).offsets i)) insts.now }
     ensures adds { OnOk result (AddsAll (map (meant R.ReadGpr.enc (S.state sink.old).offsets) insts.now) (map memory insts.now) (S.state sink.old) (S.state sink.new)) }
     ensures leaves { IfErr result (λ e. LeavesAll (map (meant R.ReadGpr.enc (S.state sink.old).offsets) insts.now) (map memory insts.now) e.whole (S.state sink.old) (S.state sink.new)) }

@@ -1,4 +1,4 @@
-use Rattle.std.proofs.Common.{◌≡◌, ◌∙◌, ℕ, map, take, sym, ap, refl, Option, ℤ}
+use Rattle.std.proofs.Common.{take}
 use Rattle.cax64_encoder.specs.Instruction.{AddsInstruction, LeavesInstruction}
 use Rattle.cax64_sequence.proofs.Lists.{adds_none, adds_more, map_more, two_maps, keeps_on, keeps_self, falls_more, falls_none, falls_one, falls_zero, leaves_at}
 use Rattle.cax64_sequence.proofs.encode_each.Goals as goal

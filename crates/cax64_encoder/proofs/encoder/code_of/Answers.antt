@@ -1,4 +1,4 @@
-use Rattle.std.proofs.Common.{◌≡◌, ◌<◌, ap, FitsSigned, w32}
+use Rattle.std.proofs.Common.{w32}
 use Rattle.std.proofs.lemmas.Int.{to_z-of_z}
 use Rattle.cax64_sink.specs.Sink.{all_bytes}
 use Rattle.cax64_encoder.specs.Code.{prefix_actions, tail_actions}

@@ -1,4 +1,3 @@
-use Rattle.std.proofs.Common.{◌≡◌, ◌++◌, sym, ap, ◌∙◌, Some, length}
 use Rattle.cax64_machine_code.proofs.Whole.{reading_no_front}
 use Rattle.cax64_machine_code.proofs.laws.no_reading_begins_another.Goals as goal
 

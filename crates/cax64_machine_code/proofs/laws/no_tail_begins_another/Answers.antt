@@ -1,5 +1,3 @@
-use Rattle.std.proofs.Common.{◌≡◌, ◌++◌, sym, ap, ◌∙◌, Some}
-use Rattle.cax64_machine_code.specs.Tail.{read_tail}
 use Rattle.cax64_machine_code.proofs.Extended.{tail_no_front}
 use Rattle.cax64_machine_code.proofs.laws.no_tail_begins_another.Goals as goal
 

@@ -1,9 +1,9 @@
-use Rattle.std.proofs.Common.{◌≡◌, ◌∙◌, ap, sym, refl, FitsSigned, w32, rules, IsTrue, true}
+use Rattle.std.proofs.Common.{◌≡◌, ◌∙◌, sym, FitsSigned, w32, rules, true}
 use Rattle.std.proofs.lemmas.Int.{to_z-of_z}
 use Rattle.cax64_sink.proofs.Ends.{ran_keeps}
 use Rattle.cax64_encoder.specs.Code.{code_actions}
-use Rattle.cax64_encoder.specs.Encodes.{operand_parts, memory_in, EncodesAs}
-use Rattle.cax64_encoder.specs.Operands.{are_encodable, are_real, displacement_in}
+use Rattle.cax64_encoder.specs.Encodes.{EncodesAs}
+use Rattle.cax64_encoder.specs.Operands.{are_encodable}
 use Rattle.cax64_encoder.proofs.Table.{row_is_line}
 use Rattle.cax64_encoder.proofs.Instructions.{run_adds, run_leaves, run_error, run_room, run_bytes_fall, run_notices_fall, encodable_real}
 use Rattle.cax64_encoder.proofs.instruction.Instruction.encode.Goals as goal
