@@ -26,16 +26,18 @@ some_later (first ∷ next ∷ done) act later h = some_later (next ∷ done) ac
 
 -- what a refusal leaves of the bytes is a front of all, and less
 pub refused_bytes : {acts : List Action} {s t : State} (left : Refusal acts s t) → EndsInBytes acts → (more : List ℕ) × (all_bytes left.done ++ more ≡ all_bytes acts) × (0 < length more)
-refused_bytes {acts} left h =
-    (all_bytes (left.act ∷ left.later),
-     sym (ap all_bytes left.parts ∙ all_bytes_append left.done (left.act ∷ left.later)),
-     some_later left.done left.act left.later (rw left.parts at h))
+refused_bytes {acts} left h = (
+  all_bytes (left.act ∷ left.later),
+  sym (ap all_bytes left.parts ∙ all_bytes_append left.done (left.act ∷ left.later)),
+  some_later left.done left.act left.later (rw left.parts at h),
+)
 
 -- what a refusal leaves of the notices is a front of all
 pub refused_notices : {acts : List Action} {s t : State} (left : Refusal acts s t) (at : ℕ) → (more : List Notice) × (all_notices left.done at ++ more ≡ all_notices acts at)
-refused_notices {acts} left at =
-    (all_notices (left.act ∷ left.later) (at + length (all_bytes left.done)),
-     sym (ap (λ (x : List Action). all_notices x at) left.parts ∙ all_notices_append left.done (left.act ∷ left.later) at))
+refused_notices {acts} left at = (
+  all_notices (left.act ∷ left.later) (at + length (all_bytes left.done)),
+  sym (ap (λ (x : List Action). all_notices x at) left.parts ∙ all_notices_append left.done (left.act ∷ left.later) at),
+)
 
 -- what no run changes
 pub ran_keeps : {acts : List Action} {s t : State} {r : Result (Unit {0}) SinkError} → Ran acts s t r → Keeps s t
