@@ -1,5 +1,5 @@
 -- Actions whose last one puts bytes, so that what a refusal leaves is less than the whole.
-use Rattle.std.specs.Prelude.{ℕ, ◌<◌, List, [], ◌∷◌, length}
+use Rattle.std.specs.Prelude.{◌<◌, List, [], ◌∷◌, length}
 use Rattle.cax64_sink.specs.Sink.{Action, bytes_of}
 
 abbrev pub EndsInBytes : List Action → Type 0
