@@ -10,3 +10,4 @@ pub mod Apart
 pub mod Reading
 pub mod Sequence
 pub mod Shortest
+pub mod Len
