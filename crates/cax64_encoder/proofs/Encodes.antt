@@ -14,6 +14,7 @@ use Rattle.cax64_sink.proofs.Ends.{ends_append}
 use Rattle.cax64_address.specs.Address.{displaced_place}
 use Rattle.cax64_address.specs.declared.amode.Amode.{Amode}
 use Rattle.cax64_address.specs.declared.amode.Amode.TheVariants.{ImmReg, ImmRegRegShift, RipRelative}
+use Rattle.cax64_machine_code.specs.Len.{opcode_len}
 use Rattle.cax64_machine_code.specs.Line.{imm_bytes, opcode_bytes}
 use Rattle.cax64_machine_code.specs.Prefix.{Prefix, r_of, has_rex}
 use Rattle.cax64_machine_code.specs.Reading.{place_at, reg_view, view_of}
@@ -32,9 +33,10 @@ use Rattle.cax64_machine_code.proofs.Written.{IsImm, BeginsWith, DigitIs}
 use Rattle.cax64_prefix.specs.Rex.{is_special_if_8bit}
 use Rattle.cax64_encoder.specs.Code.{when, trap_actions, opcode_actions, imm_actions, optional_imm_actions}
 use Rattle.cax64_encoder.specs.Encodes.{reg_number, trap_notice}
-use Rattle.cax64_encoder.specs.Fits.{first_byte, is_digit, reg_fits, imm_has_size, is_no_imm, imm_fits, uses_8bit_reg, uses_8bit_place, opcode_size}
-use Rattle.cax64_encoder.specs.Operands.{number_value, imm_value, imm_size, imm_in_range, signed_below}
-use Rattle.cax64_encoder.specs.declared.operands.Number.{Number}
+use Rattle.cax64_encoder.specs.Visited.{number_value}
+use Rattle.cax64_encoder.specs.Fits.{first_byte, is_digit, reg_fits, imm_has_size, is_no_imm, imm_fits, uses_8bit_reg, uses_8bit_place}
+use Rattle.cax64_encoder.specs.Operands.{imm_value, imm_size, imm_in_range, signed_below}
+use Rattle.cax64_encoder.specs.declared.visited.Number.{Number}
 use Rattle.cax64_encoder.specs.declared.operands.ImmOperand.{ImmOperand}
 use Rattle.cax64_encoder.specs.declared.operands.ImmOperand.TheVariants.{Imm8, Imm16, Imm32, Simm8, Simm32}
 
@@ -144,7 +146,7 @@ opcode_begins opcode = by_escape opcode.escape opcode.byte
     by_escape true byte = record { more = byte ∷ []; is = refl }
     by_escape false byte = record { more = []; is = refl }
 
-pub opcode_length : (opcode : Opcode) → length (opcode_bytes opcode) ≡ opcode_size opcode
+pub opcode_length : (opcode : Opcode) → length (opcode_bytes opcode) ≡ opcode_len opcode
 opcode_length opcode = by_escape opcode.escape opcode.byte
   where
     by_escape : (escape : Bool) (byte : ℕ) → length (if escape then (0x0F ∷ byte ∷ []) else (byte ∷ [])) ≡ (if escape then 2 else 1)

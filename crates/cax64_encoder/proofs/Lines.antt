@@ -3,9 +3,10 @@ use Rattle.std.specs.Prelude.{◌==◌, ◌&&◌, ◌||◌, not, nat_le}
 use Rattle.std.proofs.lemmas.Bool.{and_parts}
 use Rattle.std.proofs.lemmas.Bool.Decides.{nat_tests}
 use Rattle.cax64_prefix.proofs.Prefixes.{IsPlain}
+use Rattle.cax64_machine_code.specs.Len.{opcode_len}
 use Rattle.cax64_machine_code.specs.Line.{imm_bytes}
 use Rattle.cax64_machine_code.specs.declared.line.Line.{Line}
-use Rattle.cax64_encoder.specs.Fits.{is_plain, first_byte, is_prefix_field, is_w, is_w0, has_tail, is_digit, is_vex, has_8bit, prefix_size, opcode_size, tail_size, is_line}
+use Rattle.cax64_encoder.specs.Fits.{is_plain, first_byte, is_prefix_field, is_w, is_w0, has_tail, is_digit, is_vex, has_8bit, prefix_size, tail_size, is_8bit_once, is_line}
 
 neither : (a b : Bool) → not (a || b) ≡ true → (a ≡ false) × (not b ≡ true)
 neither true b h = cc
@@ -41,8 +42,9 @@ pub record LineFacts (line : Line) : Type 0 where
   pub w : is_w line.w ≡ true
   pub bare_w : (has_tail line.tail || is_w0 line.w) ≡ true
   pub digit : is_digit line.tail ≡ true
+  pub once : is_8bit_once line.tail ≡ true
   pub vex_8bit : not (is_vex line.prefix && has_8bit line.tail) ≡ true
-  pub size : nat_le (prefix_size line.prefix + (opcode_size line.opcode + (tail_size line.tail + imm_bytes line.imm))) 13 ≡ true
+  pub size : nat_le (prefix_size line.prefix + (opcode_len line.opcode + (tail_size line.tail + imm_bytes line.imm))) 13 ≡ true
 
 pub line_facts : (line : Line) → is_line line ≡ true → LineFacts line
 line_facts line h =
@@ -51,5 +53,6 @@ line_facts line h =
     let p3 = and_parts (is_w line.w) _ p2.1 in
     let p4 = and_parts (has_tail line.tail || is_w0 line.w) _ p3.1 in
     let p5 = and_parts (is_digit line.tail) _ p4.1 in
-    let p6 = and_parts (not (is_vex line.prefix && has_8bit line.tail)) _ p5.1 in
-    record { plain = p1.0; prefix = p2.0; w = p3.0; bare_w = p4.0; digit = p5.0; vex_8bit = p6.0; size = p6.1 }
+    let p6 = and_parts (is_8bit_once line.tail) _ p5.1 in
+    let p7 = and_parts (not (is_vex line.prefix && has_8bit line.tail)) _ p6.1 in
+    record { plain = p1.0; prefix = p2.0; w = p3.0; bare_w = p4.0; digit = p5.0; once = p6.0; vex_8bit = p7.0; size = p7.1 }

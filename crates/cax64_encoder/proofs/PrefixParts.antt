@@ -10,6 +10,7 @@ use Rattle.cax64_register.specs.Real.{is_real, is_real_non_rsp}
 use Rattle.cax64_address.specs.Address.{registers_are_real, index_bit, base_bit}
 use Rattle.cax64_address.specs.declared.amode.Amode.{Amode}
 use Rattle.cax64_address.specs.declared.amode.Amode.TheVariants.{ImmReg, ImmRegRegShift, RipRelative}
+use Rattle.cax64_machine_code.specs.Len.{one_if, is_w1, legacy_len}
 use Rattle.cax64_machine_code.specs.Prefix.{legacy_prefix, vex_prefix, Rex, rex_bits, prefix_at}
 use Rattle.cax64_machine_code.specs.Line.{w_matches, vvvv_matches}
 use Rattle.cax64_machine_code.specs.Reading.{vvvv_register_of}
@@ -22,18 +23,19 @@ use Rattle.cax64_machine_code.specs.declared.line.TailField.{TailField}
 use Rattle.cax64_machine_code.proofs.Uniqueness.{legacy_self}
 use Rattle.cax64_prefix.specs.Puts.{puts}
 use Rattle.cax64_prefix.specs.Rex.{rex_bytes, is_special_if_8bit}
-use Rattle.cax64_prefix.specs.Vex.{vex_bytes, vex_fields, VexReadsAs}
+use Rattle.cax64_prefix.specs.Vex.{vex_bytes, vex_fields, VexReadsAs, fits_two_bytes}
 use Rattle.cax64_prefix.specs.declared.vex.VexPrefix.{VexPrefix}
 use Rattle.cax64_prefix.specs.declared.vex.VexPrefix.TheVariants.{TwoByte, ThreeByte}
 use Rattle.cax64_prefix.proofs.PutRuns.{all_bytes-puts}
 use Rattle.cax64_prefix.proofs.RexBits.{AreBits}
 use Rattle.cax64_prefix.proofs.Prefixes.{legacy_bytes, prefix_back, prefix_vex}
 use Rattle.cax64_encoder.specs.Code.{when, set_actions}
-use Rattle.cax64_encoder.specs.Encodes.{PrefixFor, rex_stands, place_special, place_high}
-use Rattle.cax64_encoder.specs.Fits.{first_byte, is_line, is_w0, has_tail, has_8bit, uses_8bit_reg, uses_8bit_place, is_no_place, is_absent, vvvv_fits, set_size, one_if}
-use Rattle.cax64_encoder.specs.Operands.{number_value, is_real_number, place_is_real, place_x, place_b}
-use Rattle.cax64_encoder.specs.declared.operands.Number.{Number}
-use Rattle.cax64_encoder.specs.declared.operands.Number.TheVariants.{Settled, Unsettled}
+use Rattle.cax64_encoder.specs.Encodes.{PrefixFor, rex_stands, place_special, place_high, amode_high}
+use Rattle.cax64_encoder.specs.Fits.{first_byte, is_line, is_w0, has_tail, has_8bit, uses_8bit_reg, uses_8bit_place, is_no_place, is_absent, vvvv_fits}
+use Rattle.cax64_encoder.specs.Operands.{place_is_real, place_x, place_b}
+use Rattle.cax64_encoder.specs.Visited.{number_value, is_real_number}
+use Rattle.cax64_encoder.specs.declared.visited.Number.{Number}
+use Rattle.cax64_encoder.specs.declared.visited.Number.TheVariants.{Settled, Unsettled}
 use Rattle.cax64_encoder.specs.declared.operands.PlaceOperand as place
 use Rattle.cax64_encoder.specs.declared.operands.PlaceOperand.{PlaceOperand}
 use Rattle.cax64_encoder.proofs.Lines.{line_facts, plain_byte}
@@ -66,7 +68,7 @@ one_length false c = refl
 four_lengths : (a b c d : List ℕ) → length (a ++ (b ++ (c ++ d))) ≡ length a + (length b + (length c + length d))
 four_lengths a b c d = omega (arith, length-append a (b ++ (c ++ d)), length-append b (c ++ d), length-append c d)
 
-set_length : (set : LegacySet) → length (legacy_bytes set) ≡ set_size set
+set_length : (set : LegacySet) → length (legacy_bytes set) ≡ legacy_len set
 set_length set =
     let e = four_lengths (if set.lock then 0xF0 ∷ [] else []) (if set.operand_size then 0x66 ∷ [] else []) (if set.repne then 0xF2 ∷ [] else []) (if set.rep then 0xF3 ∷ [] else []) in
     omega (arith, e, one_length set.lock 0xF0, one_length set.operand_size 0x66, one_length set.repne 0xF2, one_length set.rep 0xF3)
@@ -123,6 +125,13 @@ none_is : (rex : Option Rex) (stands : Bool) → (IsSome rex ↔ IsTrue stands) 
 none_is None stands h e = refl
 none_is (Some rex) stands h e = let bad : stands ≡ true = h.0 refl in cc
 
+-- a REX byte is there where it stands
+rex_there : (rex : Option Rex) (stands : Bool) → (IsSome rex ↔ IsTrue stands) → length (rex_bytes rex) ≡ one_if stands
+rex_there None true h = let bad : IsSome {T = Rex} None = h.1 refl in cc
+rex_there None false h = refl
+rex_there (Some rex) true h = refl
+rex_there (Some rex) false h = let bad : false ≡ true = h.0 refl in cc
+
 or_true_left : (a b : Bool) → a ≡ true → (a || b) ≡ true
 or_true_left a b e = rw e refl
 
@@ -164,8 +173,8 @@ no_vvvv None h = refl
 no_vvvv (Some number) h = cc
 
 -- legacy prefixes and REX
-pub legacy_for : {M : Type 0} (settled : M → Bool) (enc : M → ℕ) (line : Line) (reg : ℕ) (vvvv : Option Number) (operand : PlaceOperand M) (set : LegacySet) (rexed w : Bool) (rex : Option Rex) → line.prefix ≡ LegacyField set rexed → is_line line ≡ true → reg < 16 → place_is_real settled enc operand ≡ true → vvvv_fits line.prefix vvvv ≡ true → (has_tail line.tail || (is_no_place operand && (reg == 0))) ≡ true → w_matches line.w (from_bool w) ≡ true → (is_w0 line.w ≡ true → w ≡ false) → rex_bits rex ≡ record { w = from_bool w; r = reg / 8; x = place_x enc operand; b = place_b enc operand } → (IsSome rex ↔ IsTrue (rex_stands enc w (has_8bit line.tail) reg operand)) → PrefixFor enc line reg vvvv operand (all_bytes (set_actions set ++ puts (rex_bytes rex)))
-legacy_for settled enc line reg vvvv operand set rexed w rex is hl hr hp hv hb hw hz bits stands =
+pub legacy_for : {M : Type 0} (settled : M → Bool) (enc : M → ℕ) (line : Line) (reg : ℕ) (vvvv : Option Number) (operand : PlaceOperand M) (set : LegacySet) (rexed w : Bool) (rex : Option Rex) → line.prefix ≡ LegacyField set rexed → is_line line ≡ true → reg < 16 → place_is_real settled enc operand ≡ true → vvvv_fits line.prefix vvvv ≡ true → (has_tail line.tail || (is_no_place operand && (reg == 0))) ≡ true → w_matches line.w (from_bool w) ≡ true → (is_w0 line.w ≡ true → w ≡ false) → w ≡ is_w1 line.w → rex_bits rex ≡ record { w = from_bool w; r = reg / 8; x = place_x enc operand; b = place_b enc operand } → (IsSome rex ↔ IsTrue (rex_stands enc w (has_8bit line.tail) reg operand)) → PrefixFor enc line reg vvvv operand (all_bytes (set_actions set ++ puts (rex_bytes rex)))
+legacy_for settled enc line reg vvvv operand set rexed w rex is hl hr hp hv hb hw hz hv1 bits stands =
     let facts = line_facts line hl in
     let parts = and_parts (not (set.repne && set.rep)) (rexed || not (has_tail line.tail)) (rw is at facts.prefix) in
     let once : (set.repne && set.rep) ≡ false = not_true_is (set.repne && set.rep) parts.0 in
@@ -184,6 +193,7 @@ legacy_for settled enc line reg vvvv operand set rexed w rex is hl hr hp hv hb h
       low_reg = λ e f. some_is rex (stands.1 (stands_for enc w (has_8bit line.tail) reg operand (or_true_left (uses_8bit_reg line.tail) (uses_8bit_place line.tail) e) (or_true_left (is_special_if_8bit reg) (place_special operand) f)));
       low_place = λ e f. some_is rex (stands.1 (stands_for enc w (has_8bit line.tail) reg operand (or_true_right (uses_8bit_reg line.tail) (uses_8bit_place line.tail) e) (or_true_right (is_special_if_8bit reg) (place_special operand) f)));
       size = rw (legacy_part set rex, is) (omega (arith, length-append (legacy_bytes set) (rex_bytes rex), set_length set, rex_length rex));
+      length = rw (legacy_part set rex, is, ← hv1) (omega (arith, length-append (legacy_bytes set) (rex_bytes rex), set_length set, rex_there rex (rex_stands enc w (has_8bit line.tail) reg operand) stands));
     }
   where
     not_true_is : (a : Bool) → not a ≡ true → a ≡ false
@@ -209,6 +219,47 @@ vex_length : (vex : VexPrefix) → length (vex_bytes vex) ≤ 3
 vex_length (TwoByte last) = omega arith
 vex_length (ThreeByte second last) = omega arith
 
+-- two bytes or three
+vex_there : (vex : VexPrefix) (two : Bool) → ((length (vex_bytes vex) ≡ 2) ↔ IsTrue two) → length (vex_bytes vex) ≡ (if two then 2 else 3)
+vex_there (TwoByte last) true h = refl
+vex_there (TwoByte last) false h = let bad : false ≡ true = h.0 refl in cc
+vex_there (ThreeByte second last) true h = let bad : ◌≡◌ {A = ℕ} 3 2 = h.1 refl in absurd (omega (arith, bad))
+vex_there (ThreeByte second last) false h = refl
+
+low_half : (n : ℕ) → (n / 8 == 0) ≡ not (nat_le 8 n)
+low_half n = by_test (nat_le 8 n) refl
+  where
+    by_test : (high : Bool) → nat_le 8 n ≡ high → (n / 8 == 0) ≡ not high
+    by_test true h = grind (arith, nat_tests)
+    by_test false h = grind (arith, nat_tests)
+
+neither_high : (x b w : ℕ) (map : ℕ) → ((x / 8 == 0) && ((b / 8 == 0) && ((w == 0) && (map == 1)))) ≡ ((map == 1) && (not (nat_le 8 x || nat_le 8 b) && (w == 0)))
+neither_high x b w map = rw (low_half x, low_half b) (turned (nat_le 8 x) (nat_le 8 b) (w == 0) (map == 1))
+  where
+    turned : (x b w m : Bool) → (not x && (not b && (w && m))) ≡ (m && (not (x || b) && w))
+    turned true b w true = refl
+    turned true b w false = refl
+    turned false true w true = refl
+    turned false true w false = refl
+    turned false false true true = refl
+    turned false false true false = refl
+    turned false false false true = refl
+    turned false false false false = refl
+
+no_w : (w : Bool) → (from_bool w == 0) ≡ not w
+no_w true = refl
+no_w false = refl
+
+amode_low : {M : Type 0} (enc : M → ℕ) (amode : Amode M) (w map : ℕ) → ((index_bit enc amode == 0) && ((base_bit enc amode == 0) && ((w == 0) && (map == 1)))) ≡ ((map == 1) && (not (amode_high enc amode) && (w == 0)))
+amode_low enc (ImmReg base simm32 trap) w map = neither_high 0 (enc base) w map
+amode_low enc (ImmRegRegShift base index scale simm32 trap) w map = neither_high (enc index) (enc base) w map
+amode_low enc (RipRelative target) w map = neither_high 0 0 w map
+
+place_low : {M : Type 0} (enc : M → ℕ) (operand : PlaceOperand M) (w map : ℕ) → ((place_x enc operand == 0) && ((place_b enc operand == 0) && ((w == 0) && (map == 1)))) ≡ ((map == 1) && (not (place_high enc operand) && (w == 0)))
+place_low enc place.TheVariants.NoPlace w map = neither_high 0 0 w map
+place_low enc (place.TheVariants.Register number) w map = neither_high 0 (number_value number) w map
+place_low enc (place.TheVariants.Memory amode) w map = amode_low enc amode w map
+
 abbrev vvvv_reads : VvvvField → ℕ → Option Number → Type 0
 vvvv_reads field number vvvv = (vvvv_matches field number ≡ true) × (vvvv_register_of field number ≡ option_map number_value vvvv)
 
@@ -233,11 +284,12 @@ no_true a e f = absurd (apart (sym e ∙ f))
     apart h = cc
 
 -- a VEX prefix
-pub vex_for : {M : Type 0} (enc : M → ℕ) (line : Line) (reg : ℕ) (vvvv : Option Number) (operand : PlaceOperand M) (pp map l : ℕ) (field : VvvvField) (w : Bool) (number : ℕ) (registers : Option ℕ × Option ℕ) (vex : VexPrefix) → line.prefix ≡ VexField pp map l field → is_line line ≡ true → vvvv_fits line.prefix vvvv ≡ true → w_matches line.w (from_bool w) ≡ true → number ≡ unwrap_or (option_map number_value vvvv) 0 → unwrap_or registers.0 0 / 8 ≡ place_b enc operand → unwrap_or registers.1 0 / 8 ≡ place_x enc operand → VexReadsAs (vex_fields reg number registers l pp map w) (vex_bytes vex) → PrefixFor enc line reg vvvv operand (all_bytes (puts (vex_bytes vex)))
-vex_for enc line reg vvvv operand pp map l field w number registers vex is hl hv hw hn hb hx back =
+pub vex_for : {M : Type 0} (enc : M → ℕ) (line : Line) (reg : ℕ) (vvvv : Option Number) (operand : PlaceOperand M) (pp map l : ℕ) (field : VvvvField) (w : Bool) (number : ℕ) (registers : Option ℕ × Option ℕ) (vex : VexPrefix) → line.prefix ≡ VexField pp map l field → is_line line ≡ true → vvvv_fits line.prefix vvvv ≡ true → w_matches line.w (from_bool w) ≡ true → number ≡ unwrap_or (option_map number_value vvvv) 0 → unwrap_or registers.0 0 / 8 ≡ place_b enc operand → unwrap_or registers.1 0 / 8 ≡ place_x enc operand → w ≡ is_w1 line.w → VexReadsAs (vex_fields reg number registers l pp map w) (vex_bytes vex) → ((length (vex_bytes vex) ≡ 2) ↔ IsTrue (fits_two_bytes (vex_fields reg number registers l pp map w))) → PrefixFor enc line reg vvvv operand (all_bytes (puts (vex_bytes vex)))
+vex_for enc line reg vvvv operand pp map l field w number registers vex is hl hv hw hn hb hx hv1 back two =
     let facts = line_facts line hl in
     let vvvv_is = vvvv_there field vvvv pp map l number (rw is at hv) hn in
     let none = no_8bit line.tail (rw is at facts.vex_8bit) in
+    let low : fits_two_bytes (vex_fields reg number registers l pp map w) ≡ ((map == 1) && (not (place_high enc operand) && (from_bool w == 0))) = rw (hx, hb) (place_low enc operand (from_bool w) map) in
     record {
       prefix = vex_prefix (vex_fields reg number registers l pp map w);
       reads = λ rest. rw (all_bytes-puts (vex_bytes vex)) (prefix_vex vex (vex_fields reg number registers l pp map w) (first_byte line.opcode ∷ rest) back);
@@ -249,4 +301,5 @@ vex_for enc line reg vvvv operand pp map l field w number registers vex is hl hv
       low_reg = λ e f. no_true (uses_8bit_reg line.tail) none.0 e;
       low_place = λ e f. no_true (uses_8bit_place line.tail) none.1 e;
       size = rw (all_bytes-puts (vex_bytes vex), is) (vex_length vex);
+      length = rw (all_bytes-puts (vex_bytes vex), is, ← hv1, ← no_w w) (vex_there vex (fits_two_bytes (vex_fields reg number registers l pp map w)) two ∙ ap (λ (t : Bool). if t then 2 else 3) low);
     }

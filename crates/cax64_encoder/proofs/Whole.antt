@@ -1,5 +1,5 @@
 use Rattle.std.proofs.Common.{◌≡◌, ℕ, ◌+◌, ◌-◌, ◌%◌, ◌<◌, ◌≤◌, arith, Bool, true, false, refl, ◌∙◌, ap, sym, subst, Option, Some, None, ◌⊎◌, inl, inr, List, [], ◌∷◌, ◌++◌, length, append_assoc, append-nil, ℤ}
-use Rattle.std.specs.Prelude.{nat_lt, nat_le, if◌then◌else◌, option_map}
+use Rattle.std.specs.Prelude.{◌==◌, ◌&&◌, ◌||◌, nat_lt, nat_le, if◌then◌else◌, option_map}
 use Rattle.std.proofs.Math.Seq.{drop-append_seam, take-append_seam}
 use Rattle.std.proofs.lemmas.Bool.{and_parts}
 use Rattle.std.proofs.lemmas.Bool.Decides.{nat_tests}
@@ -14,6 +14,7 @@ use Rattle.cax64_address.specs.Address.{displaced_place, target_notices, trap_of
 use Rattle.cax64_address.specs.Emitted.{TailOf}
 use Rattle.cax64_address.specs.declared.amode.Amode.{Amode}
 use Rattle.cax64_address.specs.declared.amode.Amode.TheVariants.{ImmReg, ImmRegRegShift, RipRelative}
+use Rattle.cax64_machine_code.specs.Len.{opcode_len}
 use Rattle.cax64_machine_code.specs.Line.{imm_bytes, opcode_bytes}
 use Rattle.cax64_machine_code.specs.Prefix.{prefix_at, x_of, b_of}
 use Rattle.cax64_machine_code.specs.Reading.{place_at, reg_view, find}
@@ -43,11 +44,13 @@ use Rattle.cax64_encoder.proofs.PrefixParts.{set_quiet}
 use Rattle.cax64_encoder.specs.declared.code.PrefixCode.{PrefixCode}
 use Rattle.cax64_encoder.specs.declared.code.PrefixCode.TheVariants.{Legacy, Vex}
 use Rattle.cax64_encoder.specs.Code.{set_actions, prefix_actions, trap_actions, opcode_actions, optional_imm_actions}
-use Rattle.cax64_encoder.specs.Encodes.{reg_number, TailPartOf, PrefixFor, operand_parts, memory_in, trap_in, trap_notice, notices_of, ShortestFor, EncodesAs}
-use Rattle.cax64_encoder.specs.Fits.{first_byte, is_line, is_digit, fits, tail_fits, reg_fits, place_fits, is_no_place, is_absent, vvvv_fits, imm_fits, opcode_size, tail_size}
-use Rattle.cax64_encoder.specs.Operands.{number_value, is_absent_or_real, place_is_real, are_real, named_place, place_x, place_b, imm_value, imm_size}
-use Rattle.cax64_encoder.specs.declared.operands.Number.{Number}
-use Rattle.cax64_encoder.specs.declared.operands.Number.TheVariants.{Settled, Unsettled}
+use Rattle.cax64_encoder.specs.Encodes.{reg_number, TailPartOf, PrefixFor, trap_notice, notices_of, ShortestFor, EncodesParts}
+use Rattle.cax64_encoder.specs.Meant.{operand_parts}
+use Rattle.cax64_encoder.specs.Visited.{number_value}
+use Rattle.cax64_encoder.specs.Fits.{first_byte, has_tail, is_line, is_digit, fits, tail_fits, reg_fits, place_fits, is_no_place, is_absent, vvvv_fits, imm_fits, tail_size}
+use Rattle.cax64_encoder.specs.Operands.{is_absent_or_real, vvvv_number, place_is_real, are_real, named_place, place_x, place_b, imm_value, imm_size, memory_in, trap_in}
+use Rattle.cax64_encoder.specs.declared.visited.Number.{Number}
+use Rattle.cax64_encoder.specs.declared.visited.Number.TheVariants.{Settled, Unsettled}
 use Rattle.cax64_encoder.specs.declared.operands.ImmOperand.{ImmOperand}
 use Rattle.cax64_encoder.specs.declared.operands.ImmOperand.TheVariants.{Imm8, Imm16, Imm32, Simm8, Simm32}
 use Rattle.cax64_encoder.specs.declared.operands.Operands.{Operands}
@@ -70,7 +73,7 @@ instruction_actions line trap pre tail o = trap_actions trap ++ (pre ++ (opcode_
 pub record Parted {M : Type 0} (enc : M → ℕ) (row : Row) (o : Operands M) (pre : List Action) : Type 0 where
   pub facts : LineFacts (line_of row)
   pub imm : imm_fits (line_of row).imm o.imm ≡ true
-  pub prefix : PrefixFor enc (line_of row) (reg_number (line_of row).tail o.reg) o.vvvv o.place (all_bytes pre)
+  pub prefix : PrefixFor enc (line_of row) (reg_number (line_of row).tail o.reg) (vvvv_number o.reg o.vvvv) o.place (all_bytes pre)
   pub quiet : (k : ℕ) → all_notices pre k ≡ []
 
 first_prefix : {M : Type 0} {enc : M → ℕ} {row : Row} {o : Operands M} {pre : List Action} (h : Parted enc row o pre) → IsPrefix h.prefix.prefix (first_byte (line_of row).opcode) (all_bytes pre)
@@ -80,10 +83,10 @@ first_prefix h = record { reads = h.prefix.reads }
 sizes : {M : Type 0} {enc : M → ℕ} {row : Row} {o : Operands M} {pre : List Action} (h : Parted enc row o pre) (trap : Option TrapCode) (tail : List Action) → length (all_bytes tail) ≤ tail_size (line_of row).tail → (1 ≤ length (all_bytes (instruction_actions (line_of row) trap pre tail o))) × (length (all_bytes (instruction_actions (line_of row) trap pre tail o)) ≤ 13)
 sizes {row = row} {o} {pre} h trap tail small =
     let whole = five_lengths (trap_actions trap) pre (opcode_actions (line_of row).opcode) tail (optional_imm_actions o.imm) (trap_bytes trap) in
-    let op : length (all_bytes (opcode_actions (line_of row).opcode)) ≡ opcode_size (line_of row).opcode = ap length (opcode_part (line_of row).opcode) ∙ opcode_length (line_of row).opcode in
+    let op : length (all_bytes (opcode_actions (line_of row).opcode)) ≡ opcode_len (line_of row).opcode = ap length (opcode_part (line_of row).opcode) ∙ opcode_length (line_of row).opcode in
     let imm : length (all_bytes (optional_imm_actions o.imm)) ≡ imm_bytes (line_of row).imm = imm_length o.imm ∙ sym (imm_same (line_of row).imm o.imm h.imm) in
     let most = at_most _ 13 h.facts.size in
-    let one : 1 ≤ opcode_size (line_of row).opcode = some_opcode (line_of row).opcode.escape in
+    let one : 1 ≤ opcode_len (line_of row).opcode = some_opcode (line_of row).opcode.escape in
     (omega (arith, h.prefix.size), omega (arith, h.prefix.size))
   where
     some_opcode : (escape : Bool) → 1 ≤ (if escape then 2 else 1)
@@ -128,7 +131,7 @@ no_reg o h = by_reg o.reg h
     by_reg (Some n) h = cc
 
 -- a row without a tail
-pub bare_encodes : {M : Type 0} (enc : M → ℕ) (row : Row) (o : Operands M) (disp : ℤ) (pre : List Action) → Parted enc row o pre → (line_of row).tail ≡ NoTail → is_absent o.reg ≡ true → is_no_place o.place ≡ true → EncodesAs (operand_parts enc row disp o) (memory_in o.place) (instruction_actions (line_of row) None pre [] o)
+pub bare_encodes : {M : Type 0} (enc : M → ℕ) (row : Row) (o : Operands M) (disp : ℤ) (pre : List Action) → Parted enc row o pre → (line_of row).tail ≡ NoTail → is_absent o.reg ≡ true → is_no_place o.place ≡ true → EncodesParts (operand_parts enc row disp o) (memory_in o.place) (instruction_actions (line_of row) None pre [] o)
 bare_encodes enc row o disp pre h ht hr hp =
     let ib = all_bytes (optional_imm_actions o.imm) in
     let acts = instruction_actions (line_of row) None pre [] o in
@@ -255,17 +258,17 @@ module _ {M : Type 0} (enc : M → ℕ) (row : Row) (o : Operands M) (disp : ℤ
   ends_are = ends_in_code (line_of row) trap pre tail (optional_imm_actions o.imm) (inl (tail_ends tail o.imm t.ends))
 
   -- the actions write the instruction, whose memory operand has these notices
-  tail_encodes : (memory : Option (Amode M)) → ((at : ℕ) → trap_notice trap at ++ told (at + (length (all_bytes pre) + length (opcode_bytes (line_of row).opcode))) ≡ notices_of memory at reads.reading) → (HasShortestTail (all_bytes acts) reads.reading → ShortestFor memory (all_bytes acts) reads.reading) → EncodesAs (operand_parts enc row disp o) memory acts
+  tail_encodes : (memory : Option (Amode M)) → ((at : ℕ) → trap_notice trap at ++ told (at + (length (all_bytes pre) + length (opcode_bytes (line_of row).opcode))) ≡ notices_of memory at reads.reading) → (HasShortestTail (all_bytes acts) reads.reading → ShortestFor memory (all_bytes acts) reads.reading) → EncodesParts (operand_parts enc row disp o) memory acts
   tail_encodes memory notices shortest = record { reads = reads; notices = λ at. notices_are at ∙ notices at; shortest = shortest shortest_tail; ends = ends_are }
 
-  memory_encodes : (amode : Amode M) → trap ≡ trap_of amode → ((at : ℕ) → told at ≡ target_notices amode at) → EncodesAs (operand_parts enc row disp o) (Some amode) acts
+  memory_encodes : (amode : Amode M) → trap ≡ trap_of amode → ((at : ℕ) → told at ≡ target_notices amode at) → EncodesParts (operand_parts enc row disp o) (Some amode) acts
   memory_encodes amode e f = tail_encodes (Some amode) (λ at.
       let start : ℕ = length (all_bytes pre) + length (opcode_bytes (line_of row).opcode) in
       ap (λ (t : Option TrapCode). trap_notice t at ++ told (at + start)) e
       ∙ ap (λ (l : List Notice). trap_notice (trap_of amode) at ++ l) (f (at + start))
       ∙ told_at amode at start reads.reading before) (λ s. s)
 
-  register_encodes : trap ≡ None → ((at : ℕ) → told at ≡ []) → EncodesAs {M = M} (operand_parts enc row disp o) None acts
+  register_encodes : trap ≡ None → ((at : ℕ) → told at ≡ []) → EncodesParts {M = M} (operand_parts enc row disp o) None acts
   register_encodes e f = tail_encodes None (λ at.
       let start : ℕ = length (all_bytes pre) + length (opcode_bytes (line_of row).opcode) in
       ap (λ (t : Option TrapCode). trap_notice t at ++ told (at + start)) e ∙ f (at + start)) (λ s. tt)
@@ -280,7 +283,7 @@ register_may M number Memory h = cc
 register_may M number RegisterOrMemory h = refl
 register_may M number Register8OrMemory h = refl
 
-by_place : {M : Type 0} (enc : M → ℕ) (row : Row) (o : Operands M) (disp : ℤ) (field : RegField) (place_field : PlaceField) (pre tail : List Action) (operand : PlaceOperand M) → o.place ≡ operand → (h : Parted enc row o pre) → (line_of row).tail ≡ Modrm field place_field → reg_fits field o.reg ≡ true → place_fits place_field operand ≡ true → TailPartOf enc disp (imm_size o.imm) (reg_number (line_of row).tail o.reg) operand tail → EncodesAs (operand_parts enc row disp o) (memory_in operand) (instruction_actions (line_of row) (trap_in operand) pre tail o)
+by_place : {M : Type 0} (enc : M → ℕ) (row : Row) (o : Operands M) (disp : ℤ) (field : RegField) (place_field : PlaceField) (pre tail : List Action) (operand : PlaceOperand M) → o.place ≡ operand → (h : Parted enc row o pre) → (line_of row).tail ≡ Modrm field place_field → reg_fits field o.reg ≡ true → place_fits place_field operand ≡ true → TailPartOf enc disp (imm_size o.imm) (reg_number (line_of row).tail o.reg) operand tail → EncodesParts (operand_parts enc row disp o) (memory_in operand) (instruction_actions (line_of row) (trap_in operand) pre tail o)
 unfolding acts
 by_place enc row o disp field place_field pre tail place.TheVariants.NoPlace e h ht hr hp t = cc
 by_place {M} enc row o disp field place_field pre tail (place.TheVariants.Register number) e h ht hr hp t =
@@ -292,7 +295,7 @@ by_place enc row o disp field place_field pre tail (place.TheVariants.Memory amo
     (memory_named enc disp (imm_size o.imm) place_field h.prefix.prefix amode)
     (rw e refl) amode refl (λ at. refl)
 
-by_tail : {M : Type 0} (enc : M → ℕ) (row : Row) (o : Operands M) (disp : ℤ) (pre tail : List Action) (field : TailField) → (line_of row).tail ≡ field → Parted enc row o pre → tail_fits field o.reg o.place ≡ true → TailPartOf enc disp (imm_size o.imm) (reg_number (line_of row).tail o.reg) o.place tail → EncodesAs (operand_parts enc row disp o) (memory_in o.place) (instruction_actions (line_of row) (trap_in o.place) pre tail o)
+by_tail : {M : Type 0} (enc : M → ℕ) (row : Row) (o : Operands M) (disp : ℤ) (pre tail : List Action) (field : TailField) → (line_of row).tail ≡ field → Parted enc row o pre → tail_fits field o.reg o.place ≡ true → TailPartOf enc disp (imm_size o.imm) (reg_number (line_of row).tail o.reg) o.place tail → EncodesParts (operand_parts enc row disp o) (memory_in o.place) (instruction_actions (line_of row) (trap_in o.place) pre tail o)
 by_tail enc row o disp pre tail NoTail e h f t =
     let p = and_parts (is_absent o.reg) (is_no_place o.place) f in
     let q = no_tail_place o.place enc disp (imm_size o.imm) (reg_number (line_of row).tail o.reg) tail p.1 t in
@@ -302,10 +305,10 @@ by_tail enc row o disp pre tail (Modrm field place_field) e h f t =
     by_place enc row o disp field place_field pre tail o.place refl h e p.0 p.1 t
 
 -- a prefix, an opcode, a tail and an immediate for a row and operands of its shape write that row with these operands
-pub encodes : {M : Type 0} (enc : M → ℕ) (row : Row) (o : Operands M) (disp : ℤ) (pre tail : List Action) → is_line (line_of row) ≡ true → fits (line_of row) o ≡ true → PrefixFor enc (line_of row) (reg_number (line_of row).tail o.reg) o.vvvv o.place (all_bytes pre) → ((k : ℕ) → all_notices pre k ≡ []) → TailPartOf enc disp (imm_size o.imm) (reg_number (line_of row).tail o.reg) o.place tail → EncodesAs (operand_parts enc row disp o) (memory_in o.place) (instruction_actions (line_of row) (trap_in o.place) pre tail o)
+pub encodes : {M : Type 0} (enc : M → ℕ) (row : Row) (o : Operands M) (disp : ℤ) (pre tail : List Action) → is_line (line_of row) ≡ true → fits (line_of row) o ≡ true → PrefixFor enc (line_of row) (reg_number (line_of row).tail o.reg) (vvvv_number o.reg o.vvvv) o.place (all_bytes pre) → ((k : ℕ) → all_notices pre k ≡ []) → TailPartOf enc disp (imm_size o.imm) (reg_number (line_of row).tail o.reg) o.place tail → EncodesParts (operand_parts enc row disp o) (memory_in o.place) (instruction_actions (line_of row) (trap_in o.place) pre tail o)
 encodes enc row o disp pre tail hl hf prefix quiet t =
     let p = and_parts (tail_fits (line_of row).tail o.reg o.place) _ hf in
-    let q = and_parts (vvvv_fits (line_of row).prefix o.vvvv) (imm_fits (line_of row).imm o.imm) p.1 in
+    let q = and_parts (vvvv_fits (line_of row).prefix (vvvv_number o.reg o.vvvv)) (imm_fits (line_of row).imm o.imm) p.1 in
     let h : Parted enc row o pre = record { facts = line_facts (line_of row) hl; imm = q.1; prefix = prefix; quiet = quiet } in
     by_tail enc row o disp pre tail (line_of row).tail refl h p.0 t
 
@@ -314,10 +317,23 @@ encodes enc row o disp pre tail hl hf prefix quiet t =
 pub place_real : {M : Type 0} (settled : M → Bool) (enc : M → ℕ) (o : Operands M) → are_real settled enc o ≡ true → place_is_real settled enc o.place ≡ true
 place_real settled enc o h =
     let p = and_parts (is_absent_or_real o.reg) _ h in
-    (and_parts (is_absent_or_real o.vvvv) (place_is_real settled enc o.place) p.1).1
+    (and_parts (is_absent_or_real (vvvv_number o.reg o.vvvv)) (place_is_real settled enc o.place) p.1).1
 
-pub vvvv_fit : {M : Type 0} (line : Line) (o : Operands M) → fits line o ≡ true → vvvv_fits line.prefix o.vvvv ≡ true
-vvvv_fit line o h = (and_parts (vvvv_fits line.prefix o.vvvv) (imm_fits line.imm o.imm) (and_parts (tail_fits line.tail o.reg o.place) _ h).1).0
+pub vvvv_real : {M : Type 0} (settled : M → Bool) (enc : M → ℕ) (o : Operands M) → are_real settled enc o ≡ true → is_absent_or_real (vvvv_number o.reg o.vvvv) ≡ true
+vvvv_real settled enc o h =
+    let p = and_parts (is_absent_or_real o.reg) _ h in
+    (and_parts (is_absent_or_real (vvvv_number o.reg o.vvvv)) (place_is_real settled enc o.place) p.1).0
+
+-- without a tail there is no place, and nothing in reg
+pub bare_is : {M : Type 0} (line : Line) (o : Operands M) → fits line o ≡ true → (has_tail line.tail || (is_no_place o.place && (reg_number line.tail o.reg == 0))) ≡ true
+bare_is line o h = by_field line.tail (and_parts (tail_fits line.tail o.reg o.place) _ h).0
+  where
+    by_field : (tail : TailField) → tail_fits tail o.reg o.place ≡ true → (has_tail tail || (is_no_place o.place && (reg_number tail o.reg == 0))) ≡ true
+    by_field NoTail f = rw ((and_parts (is_absent o.reg) (is_no_place o.place) f).1) refl
+    by_field (Modrm reg field) f = refl
+
+pub vvvv_fit : {M : Type 0} (line : Line) (o : Operands M) → fits line o ≡ true → vvvv_fits line.prefix (vvvv_number o.reg o.vvvv) ≡ true
+vvvv_fit line o h = (and_parts (vvvv_fits line.prefix (vvvv_number o.reg o.vvvv)) (imm_fits line.imm o.imm) (and_parts (tail_fits line.tail o.reg o.place) _ h).1).0
 
 reg_is_below : (tail : TailField) (number : Option Number) → is_digit tail ≡ true → is_absent_or_real number ≡ true → reg_number tail number < 16
 reg_is_below NoTail number hd hr = omega arith
@@ -337,7 +353,7 @@ prefix_quiet (Legacy set rex) k = all_notices_append (set_actions set) (puts (re
 prefix_quiet (Vex vex) k = all_notices-puts (vex_bytes vex) k
 
 -- the same of a line that is the row's
-pub line_encodes : {M : Type 0} (enc : M → ℕ) (row : Row) (line : Line) (o : Operands M) (disp : ℤ) (pre tail : List Action) → line_of row ≡ line → is_line line ≡ true → fits line o ≡ true → PrefixFor enc line (reg_number line.tail o.reg) o.vvvv o.place (all_bytes pre) → ((k : ℕ) → all_notices pre k ≡ []) → TailPartOf enc disp (imm_size o.imm) (reg_number line.tail o.reg) o.place tail → EncodesAs (operand_parts enc row disp o) (memory_in o.place) (instruction_actions line (trap_in o.place) pre tail o)
+pub line_encodes : {M : Type 0} (enc : M → ℕ) (row : Row) (line : Line) (o : Operands M) (disp : ℤ) (pre tail : List Action) → line_of row ≡ line → is_line line ≡ true → fits line o ≡ true → PrefixFor enc line (reg_number line.tail o.reg) (vvvv_number o.reg o.vvvv) o.place (all_bytes pre) → ((k : ℕ) → all_notices pre k ≡ []) → TailPartOf enc disp (imm_size o.imm) (reg_number line.tail o.reg) o.place tail → EncodesParts (operand_parts enc row disp o) (memory_in o.place) (instruction_actions line (trap_in o.place) pre tail o)
 line_encodes enc row line o disp pre tail e =
-    let P : Line → Type 0 = λ l. is_line l ≡ true → fits l o ≡ true → PrefixFor enc l (reg_number l.tail o.reg) o.vvvv o.place (all_bytes pre) → ((k : ℕ) → all_notices pre k ≡ []) → TailPartOf enc disp (imm_size o.imm) (reg_number l.tail o.reg) o.place tail → EncodesAs (operand_parts enc row disp o) (memory_in o.place) (instruction_actions l (trap_in o.place) pre tail o) in
+    let P : Line → Type 0 = λ l. is_line l ≡ true → fits l o ≡ true → PrefixFor enc l (reg_number l.tail o.reg) (vvvv_number o.reg o.vvvv) o.place (all_bytes pre) → ((k : ℕ) → all_notices pre k ≡ []) → TailPartOf enc disp (imm_size o.imm) (reg_number l.tail o.reg) o.place tail → EncodesParts (operand_parts enc row disp o) (memory_in o.place) (instruction_actions l (trap_in o.place) pre tail o) in
     subst P e (encodes enc row o disp pre tail)

@@ -8,7 +8,10 @@ use Rattle.cax64_prefix.specs.Rex.{rex_bytes}
 use Rattle.cax64_prefix.specs.Vex.{vex_bytes}
 use Rattle.cax64_sink.specs.Sink.{Action, put, trap}
 use Rattle.cax64_sink.specs.declared.TrapCode.{TrapCode}
+use Rattle.cax64_encoder.specs.Nop.{nop_actions}
 use Rattle.cax64_encoder.specs.declared.code.Code.{Code}
+use Rattle.cax64_encoder.specs.declared.code.Code.TheVariants.{Nop, Line}
+use Rattle.cax64_encoder.specs.declared.code.LineCode.{LineCode}
 use Rattle.cax64_encoder.specs.declared.code.PrefixCode.{PrefixCode}
 use Rattle.cax64_encoder.specs.declared.code.PrefixCode.TheVariants.{Legacy, Vex}
 use Rattle.cax64_encoder.specs.declared.code.TailPart.{TailPart}
@@ -52,5 +55,9 @@ abbrev pub optional_imm_actions : Option ImmOperand → List Action
 optional_imm_actions None = []
 optional_imm_actions (Some imm) = imm_actions imm
 
+abbrev pub line_actions : LineCode → List Action
+line_actions code = trap_actions code.trap ++ (prefix_actions code.prefix ++ (opcode_actions code.opcode ++ (tail_actions code.tail ++ optional_imm_actions code.imm)))
+
 abbrev pub code_actions : Code → List Action
-code_actions code = trap_actions code.trap ++ (prefix_actions code.prefix ++ (opcode_actions code.opcode ++ (tail_actions code.tail ++ optional_imm_actions code.imm)))
+code_actions (Nop nop) = nop_actions nop
+code_actions (Line code) = line_actions code

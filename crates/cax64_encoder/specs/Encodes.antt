@@ -1,15 +1,18 @@
-use Rattle.std.specs.Prelude.{◌≡◌, ℕ, ◌+◌, ◌-◌, ◌/◌, ◌%◌, ◌≤◌, Bool, true, false, ◌&&◌, ◌||◌, nat_le, Option, Some, None, option_map, List, [], ◌∷◌, ◌++◌, length, ℤ}
+use Rattle.std.specs.Prelude.{◌≡◌, ℕ, ◌+◌, ◌-◌, ◌/◌, ◌%◌, ◌≤◌, Bool, true, false, ◌&&◌, ◌||◌, ◌==◌, not, nat_le, if◌then◌else◌, IfSome, Option, Some, None, option_map, List, [], ◌∷◌, ◌++◌, length, ℤ}
 use Rattle.cax64_address.specs.Address.{index_bit, base_bit, displaced_place, target_notices, trap_of}
 use Rattle.cax64_address.specs.Emitted.{TailOf}
 use Rattle.cax64_address.specs.declared.amode.Amode.{Amode}
 use Rattle.cax64_address.specs.declared.amode.Amode.TheVariants.{ImmReg, ImmRegRegShift, RipRelative}
 use Rattle.cax64_machine_code.specs.Prefix.{Prefix, prefix_at, x_of, b_of, r_of, has_rex}
+use Rattle.cax64_machine_code.specs.Len.{one_if, is_w1, legacy_len}
 use Rattle.cax64_machine_code.specs.Line.{imm_bytes, prefix_matches}
 use Rattle.cax64_machine_code.specs.Reading.{Parts, vvvv_at}
 use Rattle.cax64_machine_code.specs.Rows.{line_of}
 use Rattle.cax64_machine_code.specs.Sequence.{ReadsAs}
 use Rattle.cax64_machine_code.specs.Shortest.{HasShortestTail}
 use Rattle.cax64_machine_code.specs.declared.line.Line.{Line}
+use Rattle.cax64_machine_code.specs.declared.line.PrefixField.{PrefixField}
+use Rattle.cax64_machine_code.specs.declared.line.PrefixField.TheVariants.{LegacyField, VexField}
 use Rattle.cax64_machine_code.specs.declared.line.TailField.{TailField}
 use Rattle.cax64_machine_code.specs.declared.line.TailField.TheVariants.{NoTail, Modrm}
 use Rattle.cax64_machine_code.specs.declared.line.RegField.TheVariants.{Digit, Register8, Register}
@@ -23,9 +26,11 @@ use Rattle.cax64_sink.specs.Sink.{Action, all_bytes, all_notices}
 use Rattle.cax64_sink.specs.declared.Notice.{Notice}
 use Rattle.cax64_sink.specs.declared.Notice.TheVariants.{Trap, Target}
 use Rattle.cax64_sink.specs.declared.TrapCode.{TrapCode}
-use Rattle.cax64_encoder.specs.Fits.{first_byte, prefix_size, uses_8bit_reg, uses_8bit_place}
-use Rattle.cax64_encoder.specs.Operands.{number_value, named_place, place_x, place_b, imm_value, imm_size}
-use Rattle.cax64_encoder.specs.declared.operands.Number.{Number}
+use Rattle.cax64_encoder.specs.Fits.{first_byte, prefix_size, has_8bit, uses_8bit_reg, uses_8bit_place}
+use Rattle.cax64_encoder.specs.Meant.{Meant, len}
+use Rattle.cax64_encoder.specs.Operands.{place_x, place_b}
+use Rattle.cax64_encoder.specs.Visited.{number_value}
+use Rattle.cax64_encoder.specs.declared.visited.Number.{Number}
 use Rattle.cax64_encoder.specs.declared.operands.Operands.{Operands}
 use Rattle.cax64_encoder.specs.declared.operands.PlaceOperand as place
 use Rattle.cax64_encoder.specs.declared.operands.PlaceOperand.{PlaceOperand}
@@ -66,6 +71,11 @@ TailPartOf enc disp at_end reg place.TheVariants.NoPlace acts = acts ≡ []
 TailPartOf enc disp at_end reg (place.TheVariants.Register number) acts = TailOf 0 (number_value number / 8) 1 (reg % 8) (Reg (Low (number_value number))) (λ at. []) acts
 TailPartOf enc disp at_end reg (place.TheVariants.Memory amode) acts = TailOf (index_bit enc amode) (base_bit enc amode) 1 (reg % 8) (displaced_place enc disp at_end amode) (target_notices amode) acts
 
+-- how many bytes of prefixes are written
+abbrev pub written_prefix_len : {M : Type 0} → (M → ℕ) → PrefixField → Line → ℕ → PlaceOperand M → ℕ
+written_prefix_len enc (LegacyField set rex) line reg operand = legacy_len set + one_if (rex_stands enc (is_w1 line.w) (has_8bit line.tail) reg operand)
+written_prefix_len enc (VexField pp map l vvvv) line reg operand = if (map == 1) && (not (place_high enc operand) && not (is_w1 line.w)) then 2 else 3
+
 -- a prefix that a row's operands go with, and that reads back before the row's opcode
 pub record PrefixFor {M : Type 0} (enc : M → ℕ) (line : Line) (reg : ℕ) (vvvv : Option Number) (operand : PlaceOperand M) (pre : List ℕ) : Type 0 where
   pub prefix : Prefix
@@ -78,26 +88,7 @@ pub record PrefixFor {M : Type 0} (enc : M → ℕ) (line : Line) (reg : ℕ) (v
   pub low_reg : uses_8bit_reg line.tail ≡ true → is_special_if_8bit reg ≡ true → has_rex prefix ≡ true
   pub low_place : uses_8bit_place line.tail ≡ true → place_special operand ≡ true → has_rex prefix ≡ true
   pub size : length pre ≤ prefix_size line.prefix
-
--- what the operands of a row mean
-abbrev pub operand_parts : {M : Type 0} → (M → ℕ) → Row → ℤ → Operands M → Parts
-operand_parts enc row disp o = record {
-  row = row;
-  reg = option_map (λ number. Low (number_value number)) o.reg;
-  vvvv = option_map number_value o.vvvv;
-  place = named_place enc disp (imm_size o.imm) o.place;
-  imm = option_map imm_value o.imm;
-}
-
-abbrev pub memory_in : {M : Type 0} → PlaceOperand M → Option (Amode M)
-memory_in place.TheVariants.NoPlace = None
-memory_in (place.TheVariants.Register number) = None
-memory_in (place.TheVariants.Memory amode) = Some amode
-
-abbrev pub trap_in : {M : Type 0} → PlaceOperand M → Option TrapCode
-trap_in place.TheVariants.NoPlace = None
-trap_in (place.TheVariants.Register number) = None
-trap_in (place.TheVariants.Memory amode) = trap_of amode
+  pub length : length pre ≡ written_prefix_len enc line.prefix line reg operand
 
 abbrev pub trap_notice : Option TrapCode → ℕ → List Notice
 trap_notice None at = []
@@ -116,10 +107,16 @@ abbrev pub ShortestFor : {M : Type 0} → Option (Amode M) → List ℕ → Read
 ShortestFor None bytes reading = Unit {0}
 ShortestFor (Some amode) bytes reading = HasShortestTail bytes reading
 
--- Actions that write an instruction: their bytes read, whatever follows, as the row with these operands; their notices
--- are the instruction's; its tail is the shortest.
-pub record EncodesAs {M : Type 0} (parts : Parts) (memory : Option (Amode M)) (acts : List Action) : Type 0 where
+-- Actions that write operands: their bytes read, whatever follows, as these parts; their notices are those of the memory
+-- operand; its tail is the shortest.
+pub record EncodesParts {M : Type 0} (parts : Parts) (memory : Option (Amode M)) (acts : List Action) : Type 0 where
   pub reads : ReadsAs parts (all_bytes acts)
   pub notices : (at : ℕ) → all_notices acts at ≡ notices_of memory at reads.reading
   pub shortest : ShortestFor memory (all_bytes acts) reads.reading
   pub ends : EndsInBytes acts
+
+-- actions that write an instruction, with as many bytes as it has, and its very bytes where these are fixed
+pub record EncodesAs {M : Type 0} (m : Meant M) (acts : List Action) : Type 0 where
+  pub written : EncodesParts m.parts m.memory acts
+  pub length : length (all_bytes acts) ≡ len m
+  pub exact : IfSome m.exact (λ bytes. all_bytes acts ≡ bytes)

@@ -1,11 +1,14 @@
 use Rattle.std.specs.Prelude.{ℕ, ◌+◌, ◌/◌, Bool, true, false, not, ◌&&◌, ◌||◌, ◌==◌, nat_lt, nat_le, if◌then◌else◌, Option, Some, None}
-use Rattle.cax64_encoder.specs.Operands.{imm_in_range}
-use Rattle.cax64_encoder.specs.declared.operands.Number.{Number}
+use Rattle.cax64_encoder.specs.Operands.{imm_in_range, vvvv_number}
+use Rattle.cax64_encoder.specs.declared.form.Form.{Form}
+use Rattle.cax64_encoder.specs.declared.form.Form.TheVariants as form
+use Rattle.cax64_encoder.specs.declared.visited.Number.{Number}
 use Rattle.cax64_encoder.specs.declared.operands.ImmOperand.{ImmOperand}
 use Rattle.cax64_encoder.specs.declared.operands.ImmOperand.TheVariants.{Imm8, Imm16, Imm32, Simm8, Simm32}
 use Rattle.cax64_encoder.specs.declared.operands.PlaceOperand as place
 use Rattle.cax64_encoder.specs.declared.operands.PlaceOperand.{PlaceOperand}
 use Rattle.cax64_encoder.specs.declared.operands.Operands.{Operands}
+use Rattle.cax64_machine_code.specs.Len.{legacy_len, opcode_len}
 use Rattle.cax64_machine_code.specs.Line.{imm_bytes}
 use Rattle.cax64_machine_code.specs.declared.line.Line.{Line}
 use Rattle.cax64_machine_code.specs.declared.line.LegacySet.{LegacySet}
@@ -81,7 +84,12 @@ imm_fits field (Some operand) = imm_has_size field operand && imm_in_range opera
 
 -- the operands have the row's shape
 abbrev pub fits : {M : Type 0} → Line → Operands M → Bool
-fits line o = tail_fits line.tail o.reg o.place && (vvvv_fits line.prefix o.vvvv && imm_fits line.imm o.imm)
+fits line o = tail_fits line.tail o.reg o.place && (vvvv_fits line.prefix (vvvv_number o.reg o.vvvv) && imm_fits line.imm o.imm)
+
+-- so has the form of an instruction; a nop has no operands
+abbrev pub form_fits : {M : Type 0} → Line → Form M → Bool
+form_fits line (form.Nop nop) = true
+form_fits line (form.Operands o) = fits line o
 
 -- Whether a line can be encoded: a test that is computed over the whole table.
 
@@ -92,19 +100,9 @@ is_plain c = not ((c == 0xF0) || ((c == 0x66) || ((c == 0xF2) || ((c == 0xF3) ||
 abbrev pub first_byte : Opcode → ℕ
 first_byte opcode = if opcode.escape then 0x0F else opcode.byte
 
-abbrev pub opcode_size : Opcode → ℕ
-opcode_size opcode = if opcode.escape then 2 else 1
-
-abbrev pub one_if : Bool → ℕ
-one_if true = 1
-one_if false = 0
-
-abbrev pub set_size : LegacySet → ℕ
-set_size set = one_if set.lock + (one_if set.operand_size + (one_if set.repne + one_if set.rep))
-
 -- how many bytes of prefixes there are at most
 abbrev pub prefix_size : PrefixField → ℕ
-prefix_size (LegacyField set rex) = set_size set + 1
+prefix_size (LegacyField set rex) = legacy_len set + 1
 prefix_size (VexField pp map l vvvv) = 3
 
 abbrev pub tail_size : TailField → ℕ
@@ -150,6 +148,17 @@ uses_8bit_place (Modrm reg Register8OrMemory) = true
 abbrev pub has_8bit : TailField → Bool
 has_8bit tail = uses_8bit_reg tail || uses_8bit_place tail
 
+-- an 8-bit register stands in reg beside memory alone, and an 8-bit place beside a digit alone
+abbrev pub is_8bit_once : TailField → Bool
+is_8bit_once NoTail = true
+is_8bit_once (Modrm (Digit d) field) = true
+is_8bit_once (Modrm Register8 Memory) = true
+is_8bit_once (Modrm Register8 RegisterOrMemory) = false
+is_8bit_once (Modrm Register8 Register8OrMemory) = false
+is_8bit_once (Modrm Register Memory) = true
+is_8bit_once (Modrm Register RegisterOrMemory) = true
+is_8bit_once (Modrm Register Register8OrMemory) = false
+
 abbrev pub is_vex : PrefixField → Bool
 is_vex (LegacyField set rex) = false
 is_vex (VexField pp map l vvvv) = true
@@ -161,5 +170,6 @@ is_line line =
     && (is_w line.w
     && ((has_tail line.tail || is_w0 line.w)
     && (is_digit line.tail
+    && (is_8bit_once line.tail
     && (not (is_vex line.prefix && has_8bit line.tail)
-    && nat_le (prefix_size line.prefix + (opcode_size line.opcode + (tail_size line.tail + imm_bytes line.imm))) 13)))))
+    && nat_le (prefix_size line.prefix + (opcode_len line.opcode + (tail_size line.tail + imm_bytes line.imm))) 13))))))

@@ -1,53 +1,142 @@
-use Rattle.std.specs.Prelude.{ℕ, ◌/◌, ◌^◌, ◌&&◌, ◌==◌, nat_lt, Bool, true, false, if◌then◌else◌, Option, Some, None, ℤ, pos, negsuc, List, [], ◌∷◌}
+use Rattle.std.specs.Prelude.{ℕ, ◌/◌, ◌^◌, ◌&&◌, ◌==◌, nat_lt, Bool, true, false, if◌then◌else◌, Option, Some, None, ℤ, pos, negsuc, ◌+ℤ◌, List, [], ◌∷◌}
 use Rattle.cax64_address.specs.Address as address
+use Rattle.cax64_address.specs.Address.{trap_of}
+use Rattle.cax64_address.specs.Offset.{fits_i32}
+use Rattle.cax64_address.specs.declared.amode.Amode.{Amode}
+use Rattle.cax64_address.specs.declared.amode.Amode.TheVariants.{ImmReg, ImmRegRegShift, RipRelative}
+use Rattle.cax64_address.specs.declared.operand.GprMem as gpr_mem
+use Rattle.cax64_address.specs.declared.operand.GprMem.{GprMem}
+use Rattle.cax64_address.specs.declared.operand.XmmMem as xmm_mem
+use Rattle.cax64_address.specs.declared.operand.XmmMem.{XmmMem}
 use Rattle.cax64_machine_code.specs.declared.reading.Place.{Place}
 use Rattle.cax64_machine_code.specs.declared.reading.Place.TheVariants.{Reg}
 use Rattle.cax64_machine_code.specs.declared.reading.RegView.TheVariants.{Low}
-use Rattle.cax64_encoder.specs.declared.operands.Number.{Number}
-use Rattle.cax64_encoder.specs.declared.operands.Number.TheVariants.{Settled, Unsettled}
-use Rattle.cax64_encoder.specs.declared.operands.FixedNumber.{FixedNumber}
+use Rattle.cax64_sink.specs.declared.TrapCode.{TrapCode}
+use Rattle.cax64_encoder.specs.Visited.{number_of, number_value, is_real_number, all_met, first_unmet}
+use Rattle.cax64_encoder.specs.declared.visited.Fault.{Fault}
+use Rattle.cax64_encoder.specs.declared.visited.Fault.TheVariants.{Unknown, Range}
+use Rattle.cax64_encoder.specs.declared.visited.FixedNumber.{FixedNumber}
+use Rattle.cax64_encoder.specs.declared.visited.Number.{Number}
+use Rattle.cax64_encoder.specs.declared.visited.Visited.{Visited}
+use Rattle.cax64_encoder.specs.declared.visited.Visited.TheVariants.{Plain, Index, Fixed}
 use Rattle.cax64_encoder.specs.declared.operands.ImmOperand.{ImmOperand}
 use Rattle.cax64_encoder.specs.declared.operands.ImmOperand.TheVariants.{Imm8, Imm16, Imm32, Simm8, Simm32}
+use Rattle.cax64_encoder.specs.declared.operands.VvvvOperand as vvvv
+use Rattle.cax64_encoder.specs.declared.operands.VvvvOperand.{VvvvOperand}
+use Rattle.cax64_encoder.specs.declared.operands.VisitOrder.{VisitOrder}
+use Rattle.cax64_encoder.specs.declared.operands.VisitOrder.TheVariants.{PlaceFirst, PlaceLast}
 use Rattle.cax64_encoder.specs.declared.operands.PlaceOperand.{PlaceOperand}
 use Rattle.cax64_encoder.specs.declared.operands.PlaceOperand.TheVariants.{NoPlace, Register, Memory}
 use Rattle.cax64_encoder.specs.declared.operands.Operands.{Operands}
 
--- the number of a register, where it is settled
-abbrev pub number_of : {R : Type 0} → (R → Bool) → (R → ℕ) → R → Number
-number_of settled enc reg = if settled reg then Settled (enc reg) else Unsettled
+-- Operands, with the numbers of their registers.
 
-abbrev pub number_value : Number → ℕ
-number_value (Settled number) = number
-number_value Unsettled = 0
+-- a register or memory
+abbrev pub gpr_mem_place : {R M : Type 0} → (R → Bool) → (R → ℕ) → GprMem R M → PlaceOperand M
+gpr_mem_place settled enc (gpr_mem.TheVariants.Gpr reg) = Register (number_of settled enc reg)
+gpr_mem_place settled enc (gpr_mem.TheVariants.Mem amode) = Memory amode
 
-abbrev pub is_real_number : Number → Bool
-is_real_number (Settled number) = nat_lt number 16
-is_real_number Unsettled = false
+abbrev pub xmm_mem_place : {R M : Type 0} → (R → Bool) → (R → ℕ) → XmmMem R M → PlaceOperand M
+xmm_mem_place settled enc (xmm_mem.TheVariants.Xmm reg) = Register (number_of settled enc reg)
+xmm_mem_place settled enc (xmm_mem.TheVariants.Mem amode) = Memory amode
+
+abbrev pub memory_in : {M : Type 0} → PlaceOperand M → Option (Amode M)
+memory_in NoPlace = None
+memory_in (Register number) = None
+memory_in (Memory amode) = Some amode
+
+-- Visits.
+
+-- the registers of an address, before those that are visited later
+abbrev pub amode_visits : {M : Type 0} → (M → Bool) → (M → ℕ) → Amode M → List Visited → List Visited
+amode_visits settled enc (ImmReg base simm32 trap) later = Plain (number_of settled enc base) ∷ later
+amode_visits settled enc (ImmRegRegShift base index scale simm32 trap) later = Plain (number_of settled enc base) ∷ Index (number_of settled enc index) ∷ later
+amode_visits settled enc (RipRelative target) later = later
+
+abbrev pub place_visits : {M : Type 0} → (M → Bool) → (M → ℕ) → PlaceOperand M → List Visited → List Visited
+place_visits settled enc NoPlace later = later
+place_visits settled enc (Register number) later = Plain number ∷ later
+place_visits settled enc (Memory amode) later = amode_visits settled enc amode later
+
+abbrev pub reg_visits : Option Number → List Visited → List Visited
+reg_visits None later = later
+reg_visits (Some number) later = Plain number ∷ later
+
+abbrev pub vvvv_visits : VvvvOperand → List Visited → List Visited
+vvvv_visits vvvv.TheVariants.NoVvvv later = later
+vvvv_visits (vvvv.TheVariants.Register number) later = Plain number ∷ later
+vvvv_visits vvvv.TheVariants.SameAsReg later = later
+
+-- the register in vvvv, where it has a visit of its own
+abbrev pub vvvv_visited : VvvvOperand → Option Visited
+vvvv_visited vvvv.TheVariants.NoVvvv = None
+vvvv_visited (vvvv.TheVariants.Register number) = Some (Plain number)
+vvvv_visited vvvv.TheVariants.SameAsReg = None
+
+abbrev pub fixed_visits : List (Option FixedNumber) → List Visited
+fixed_visits [] = []
+fixed_visits (None ∷ more) = fixed_visits more
+fixed_visits (Some fixed ∷ more) = Fixed fixed ∷ fixed_visits more
+
+abbrev pub ordered_visits : {M : Type 0} → (M → Bool) → (M → ℕ) → VisitOrder → Operands M → List Visited
+ordered_visits settled enc PlaceFirst o = place_visits settled enc o.place (reg_visits o.reg (vvvv_visits o.vvvv (fixed_visits o.fixed)))
+ordered_visits settled enc PlaceLast o = reg_visits o.reg (vvvv_visits o.vvvv (place_visits settled enc o.place (fixed_visits o.fixed)))
+
+-- the registers in the order of visits
+abbrev pub visited_of : {M : Type 0} → (M → Bool) → (M → ℕ) → Operands M → List Visited
+visited_of settled enc o = ordered_visits settled enc o.order o
+
+-- Late offsets.
+
+abbrev pub known_fault : ℕ → Option ℤ → ℤ → Option Fault
+known_fault key None simm32 = Some (Unknown key)
+known_fault key (Some known) simm32 = if fits_i32 (known +ℤ simm32) then None else Some Range
+
+abbrev pub sum_fault : (ℕ → Option ℤ) → Option ℕ → ℤ → Option Fault
+sum_fault offsets None simm32 = None
+sum_fault offsets (Some key) simm32 = known_fault key (offsets key) simm32
+
+-- the fault of the late offset of a memory operand
+abbrev pub late_fault : {M : Type 0} → (ℕ → Option ℤ) → Option (Amode M) → Option Fault
+late_fault offsets None = None
+late_fault offsets (Some (ImmReg base simm32 trap)) = sum_fault offsets simm32.offset simm32.simm32
+late_fault offsets (Some (ImmRegRegShift base index scale simm32 trap)) = None
+late_fault offsets (Some (RipRelative target)) = None
+
+abbrev pub late_offset_fits : {M : Type 0} → (ℕ → Option ℤ) → Option (Amode M) → Bool
+late_offset_fits offsets None = true
+late_offset_fits offsets (Some amode) = address.offset_fits offsets amode
+
+abbrev pub or_later : Option Fault → Option Fault → Option Fault
+or_later None later = later
+or_later (Some fault) later = Some fault
+
+-- the first fault of registers and of a memory operand
+abbrev pub first_fault : {M : Type 0} → (ℕ → Option ℤ) → List Visited → Option (Amode M) → Option Fault
+first_fault offsets visited memory = or_later (first_unmet 0 visited) (late_fault offsets memory)
+
+-- each register is as it has to be, and the late offset known with a sum that is an i32
+abbrev pub can_encode : {M : Type 0} → (ℕ → Option ℤ) → List Visited → Option (Amode M) → Bool
+can_encode offsets visited memory = all_met visited && late_offset_fits offsets memory
+
+abbrev pub fault_in : {M : Type 0} → (M → Bool) → (M → ℕ) → (ℕ → Option ℤ) → Operands M → Option Fault
+fault_in settled enc offsets o = first_fault offsets (visited_of settled enc o) (memory_in o.place)
+
+-- operands that can be written for a sink that knows these offsets
+abbrev pub are_encodable : {M : Type 0} → (M → Bool) → (M → ℕ) → (ℕ → Option ℤ) → Operands M → Bool
+are_encodable settled enc offsets o = can_encode offsets (visited_of settled enc o) (memory_in o.place)
+
+-- Numbers that bytes hold.
 
 abbrev pub is_absent_or_real : Option Number → Bool
 is_absent_or_real None = true
 is_absent_or_real (Some number) = is_real_number number
 
-abbrev pub is_number : Number → ℕ → Bool
-is_number (Settled number) expected = number == expected
-is_number Unsettled expected = false
-
-abbrev pub is_absent_or_held : Option FixedNumber → Bool
-is_absent_or_held None = true
-is_absent_or_held (Some fixed) = is_number fixed.held fixed.expected
-
-abbrev pub all_held : List (Option FixedNumber) → Bool
-all_held [] = true
-all_held (fixed ∷ more) = is_absent_or_held fixed && all_held more
-
-abbrev pub place_is_encodable : {M : Type 0} → (M → Bool) → (M → ℕ) → (ℕ → Option ℤ) → PlaceOperand M → Bool
-place_is_encodable settled enc offsets NoPlace = true
-place_is_encodable settled enc offsets (Register number) = is_real_number number
-place_is_encodable settled enc offsets (Memory amode) = address.is_addressable settled enc offsets amode
-
--- operands that can be written for a sink that knows these offsets
-abbrev pub are_encodable : {M : Type 0} → (M → Bool) → (M → ℕ) → (ℕ → Option ℤ) → Operands M → Bool
-are_encodable settled enc offsets o = is_absent_or_real o.reg && (is_absent_or_real o.vvvv && (place_is_encodable settled enc offsets o.place && all_held o.fixed))
+-- the number in vvvv
+abbrev pub vvvv_number : Option Number → VvvvOperand → Option Number
+vvvv_number reg vvvv.TheVariants.NoVvvv = None
+vvvv_number reg (vvvv.TheVariants.Register number) = Some number
+vvvv_number reg vvvv.TheVariants.SameAsReg = reg
 
 abbrev pub place_is_real : {M : Type 0} → (M → Bool) → (M → ℕ) → PlaceOperand M → Bool
 place_is_real settled enc NoPlace = true
@@ -56,7 +145,7 @@ place_is_real settled enc (Memory amode) = address.registers_are_real settled en
 
 -- operands whose registers in bytes are real
 abbrev pub are_real : {M : Type 0} → (M → Bool) → (M → ℕ) → Operands M → Bool
-are_real settled enc o = is_absent_or_real o.reg && (is_absent_or_real o.vvvv && place_is_real settled enc o.place)
+are_real settled enc o = is_absent_or_real o.reg && (is_absent_or_real (vvvv_number o.reg o.vvvv) && place_is_real settled enc o.place)
 
 abbrev pub displacement_in : {M : Type 0} → (ℕ → Option ℤ) → PlaceOperand M → ℤ
 displacement_in offsets NoPlace = pos 0
@@ -69,6 +158,10 @@ named_place enc disp at_end NoPlace = None
 named_place enc disp at_end (Register number) = Some (Reg (Low (number_value number)))
 named_place enc disp at_end (Memory amode) = Some (address.displaced_place enc disp at_end amode)
 
+-- the place that an operand names for a sink that knows these offsets
+abbrev pub place_named : {M : Type 0} → (M → ℕ) → (ℕ → Option ℤ) → ℕ → PlaceOperand M → Option Place
+place_named enc offsets at_end operand = named_place enc (displacement_in offsets operand) at_end operand
+
 -- bit 3 of the index and of the register or base, 0 where there is none
 abbrev pub place_x : {M : Type 0} → (M → ℕ) → PlaceOperand M → ℕ
 place_x enc NoPlace = 0
@@ -79,6 +172,8 @@ abbrev pub place_b : {M : Type 0} → (M → ℕ) → PlaceOperand M → ℕ
 place_b enc NoPlace = 0
 place_b enc (Register number) = number_value number / 8
 place_b enc (Memory amode) = address.base_bit enc amode
+
+-- Immediates.
 
 -- the value of an immediate, and how many bytes it has
 abbrev pub imm_value : ImmOperand → ℤ
@@ -107,3 +202,10 @@ imm_in_range (Imm16 v) = nat_lt v (2 ^ 16)
 imm_in_range (Imm32 v) = nat_lt v (2 ^ 32)
 imm_in_range (Simm8 v) = signed_below (2 ^ 7) v
 imm_in_range (Simm32 v) = signed_below (2 ^ 31) v
+
+-- Traps.
+
+abbrev pub trap_in : {M : Type 0} → PlaceOperand M → Option TrapCode
+trap_in NoPlace = None
+trap_in (Register number) = None
+trap_in (Memory amode) = trap_of amode

@@ -1,15 +1,16 @@
 //! The code of an instruction: the sink calls that write it, as a value.
 
-ghost use Rattle.std.specs.Prelude.{◌≡◌};
-ghost use Rattle.cax64_encoder.specs.Code.{code_actions, trap_actions, prefix_actions, set_actions, when, opcode_actions, tail_actions, imm_actions, optional_imm_actions};
-ghost use Rattle.cax64_sink.specs.Sink.{Ran};
+ghost use Rattle.std.specs.Prelude.{◌≡◌, ◌≤◌, length};
+ghost use Rattle.cax64_encoder.specs.Code.{code_actions, line_actions, trap_actions, prefix_actions, set_actions, when, opcode_actions, tail_actions, imm_actions, optional_imm_actions};
+ghost use Rattle.cax64_sink.specs.Sink.{Ran, all_bytes};
 
+use crate::nop::Nop;
 use crate::operands::ImmOperand;
 use cax64_address::tail::TailCode;
 use cax64_machine_code::line::{LegacySet, Opcode};
 use cax64_prefix::rex::RexPrefix;
 use cax64_prefix::vex::VexPrefix;
-use cax64_sink::{CodeSink, SinkError, TrapCode};
+use cax64_sink::{CodeSink, FixedSink, SinkError, TrapCode};
 
 /// What stands before the opcode.
 #[derive(Drop)]
@@ -27,14 +28,21 @@ pub enum TailPart {
     Memory(TailCode),
 }
 
-/// An instruction as it is put: computed whole before anything is put.
+/// An instruction of a line of the table as it is put.
 #[derive(Drop)]
-pub struct Code {
+pub struct LineCode {
     pub trap: Option<TrapCode>,
     pub prefix: PrefixCode,
     pub opcode: Opcode,
     pub tail: TailPart,
     pub imm: Option<ImmOperand>,
+}
+
+/// An instruction as it is put: computed whole before anything is put.
+#[derive(Drop)]
+pub enum Code {
+    Nop(Nop),
+    Line(LineCode),
 }
 
 #[tactic(auto, using(cax64_sink::proofs::Runs::ran_none, cax64_sink::proofs::Runs::ran_one))]
@@ -124,15 +132,36 @@ fn put_imm<S: CodeSink>(sink: &mut S, imm: Option<ImmOperand>) -> Result<(), Sin
     }
 }
 
-impl Code {
+impl LineCode {
     /// The trap is told first; then come the prefixes, the opcode, the tail and the immediate.
-    pub fn put<S: CodeSink>(&self, sink: &mut S) -> Result<(), SinkError>
-        ensures { Ran (code_actions self.now) (S.state sink.old) (S.state sink.new) result }
+    fn put<S: CodeSink>(&self, sink: &mut S) -> Result<(), SinkError>
+        ensures { Ran (line_actions self.now) (S.state sink.old) (S.state sink.new) result }
     {
         put_trap(sink, self.trap)?;
         self.prefix.put(sink)?;
         put_opcode(sink, self.opcode)?;
         self.tail.put(sink)?;
         put_imm(sink, self.imm)
+    }
+}
+
+impl Code {
+    pub fn put<S: CodeSink>(&self, sink: &mut S) -> Result<(), SinkError>
+        ensures { Ran (code_actions self.now) (S.state sink.old) (S.state sink.new) result }
+    {
+        match self {
+            Code::Nop(nop) => nop.put(sink),
+            Code::Line(code) => code.put(sink),
+        }
+    }
+
+    /// The number of bytes, counted in a sink that takes them all.
+    pub fn len(&self) -> u8
+        requires { length (all_bytes (code_actions self.now)) ≤ 13 }
+        ensures { result ≡ length (all_bytes (code_actions self.now)) }
+    {
+        let mut sink = FixedSink::<13>::new();
+        let _ = self.put(&mut sink);
+        sink.bytes().len() as u8
     }
 }

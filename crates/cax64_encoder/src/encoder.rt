@@ -1,18 +1,22 @@
 //! From a line of the table and operands to the code of an instruction.
 
-ghost use Rattle.std.specs.Prelude.{◌≡◌, ◌==◌, ◌<◌, ◌/◌, ◌&&◌, ◌||◌, ◌↔◌, false, IsTrue, IsSome, IfSome, Option, option_map, unwrap_or, pos};
+ghost use Rattle.std.specs.Prelude.{◌≡◌, ◌==◌, ◌<◌, ◌/◌, ◌&&◌, ◌||◌, ◌↔◌, false, IsTrue, IsSome, IfSome, Option, option_map, unwrap_or, pos, length};
 ghost use Rattle.std.specs.Int.{from_bool};
-ghost use Rattle.cax64_encoder.specs.Code.{prefix_actions, tail_actions, code_actions};
-ghost use Rattle.cax64_encoder.specs.Encodes.{reg_number, rex_stands, trap_in, memory_in, operand_parts, TailPartOf, PrefixFor, EncodesAs};
+ghost use Rattle.cax64_encoder.specs.Code.{prefix_actions, tail_actions, line_actions};
+ghost use Rattle.cax64_encoder.specs.Encodes.{reg_number, rex_stands, TailPartOf, PrefixFor, EncodesParts};
 ghost use Rattle.cax64_encoder.specs.Fits.{has_8bit, has_tail, is_w, is_w0, is_no_place, vvvv_fits, is_line, fits};
-ghost use Rattle.cax64_encoder.specs.Operands.{are_real, number_value, place_is_real, is_absent_or_real, place_x, place_b, imm_size};
+ghost use Rattle.cax64_encoder.specs.Operands.{are_real, place_is_real, is_absent_or_real, place_x, place_b, imm_size, named_place, memory_in, trap_in};
+ghost use Rattle.cax64_encoder.specs.Meant.{operand_parts};
+ghost use Rattle.cax64_encoder.specs.Visited.{number_value};
+ghost use Rattle.cax64_machine_code.specs.Len.{is_w1, tail_len, len_of};
 ghost use Rattle.cax64_machine_code.specs.Line.{w_matches};
 ghost use Rattle.cax64_machine_code.specs.Prefix.{rex_bits};
 ghost use Rattle.cax64_machine_code.specs.Rows.{line_of};
 ghost use Rattle.cax64_sink.specs.Sink.{all_bytes};
 
-use crate::code::{Code, PrefixCode, TailPart};
-use crate::operands::{ImmOperand, Number, Operands, PlaceOperand};
+use crate::code::{LineCode, PrefixCode, TailPart};
+use crate::operands::{ImmOperand, Operands, PlaceOperand};
+use crate::visited::Number;
 use cax64_address::amode::Amode;
 use cax64_address::disp::encode_modrm;
 use cax64_address::tail::tail_of;
@@ -105,6 +109,7 @@ fn vvvv_number(vvvv: Option<Number>) -> u8
 /// The bit W of a row; 0 is written where either is read.
 fn w_bit(w: Option<u8>) -> bool
     requires { IsTrue (is_w w) }
+    ensures value { result ≡ is_w1 w }
     ensures matches { IsTrue (w_matches w (from_bool result)) }
     ensures zero { IsTrue (is_w0 w) → result ≡ false }
 {
@@ -155,7 +160,8 @@ fn tail_part<M: AsReg>(
 ) -> TailPart
     requires reg { reg < 16 }
     requires place { IsTrue (place_is_real M.settled M.enc place.now) }
-    ensures { TailPartOf M.enc displacement bytes_at_end reg place.now (tail_actions result) }
+    ensures tail { TailPartOf M.enc displacement bytes_at_end reg place.now (tail_actions result) }
+    ensures length { length (all_bytes (tail_actions result)) ≡ tail_len (named_place M.enc displacement bytes_at_end place.now) }
 {
     match place {
         PlaceOperand::NoPlace => TailPart::NoTail,
@@ -193,17 +199,19 @@ fn trap_of<M: AsReg>(place: &PlaceOperand<M>) -> Option<TrapCode>
 }
 
 /// The code of the instruction of a row with these operands, whose memory operand has this displacement.
-pub fn code_of<M: AsReg>(line: Line, operands: &Operands<M>, displacement: i32) -> Code
+pub fn code_of<M: AsReg>(line: Line, operands: &Operands<M>, displacement: i32) -> LineCode
     requires line { IsTrue (is_line line) }
     requires fits { IsTrue (fits line operands.now) }
     requires real { IsTrue (are_real M.settled M.enc operands.now) }
-    ensures { (row : Row) → line_of row ≡ line
-        → EncodesAs (operand_parts M.enc row displacement operands.now) (memory_in operands.now.place) (code_actions result) }
+    ensures encodes { (row : Row) → line_of row ≡ line
+        → EncodesParts (operand_parts M.enc row displacement operands.now) (memory_in operands.now.place) (line_actions result) }
+    ensures length { (row : Row) → line_of row ≡ line
+        → length (all_bytes (line_actions result)) ≡ len_of (operand_parts M.enc row displacement operands.now) }
 {
     let reg = reg_number(line.tail, operands.reg);
-    Code {
+    LineCode {
         trap: trap_of(&operands.place),
-        prefix: prefix_of(line, reg, operands.vvvv, &operands.place),
+        prefix: prefix_of(line, reg, operands.vvvv_number(), &operands.place),
         opcode: line.opcode,
         tail: tail_part(reg, &operands.place, displacement, imm_size(operands.imm)),
         imm: operands.imm,

@@ -6,5 +6,8 @@
 
 pub mod code;
 pub mod encoder;
+pub mod form;
 pub mod instruction;
+pub mod nop;
 pub mod operands;
+pub mod visited;

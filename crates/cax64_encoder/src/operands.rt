@@ -1,59 +1,15 @@
 //! The operands that every instruction can be seen as.
 
-ghost use Rattle.std.specs.Prelude.{◌≡◌, IsTrue, Some};
-ghost use Rattle.cax64_encoder.specs.Operands.{number_of, number_value, is_real_number, is_absent_or_real, is_absent_or_held, place_is_encodable, are_encodable, displacement_in};
+ghost use Rattle.std.specs.Prelude.{◌≡◌, IsTrue, [], ◌∷◌, option_map};
+ghost use Rattle.cax64_encoder.specs.Operands.{place_visits, visited_of, memory_in, sum_fault, late_fault, vvvv_number, vvvv_visited, are_encodable, fault_in, displacement_in, gpr_mem_place, xmm_mem_place};
+ghost use Rattle.cax64_encoder.specs.Visited.{present};
 
+use crate::visited::{Fault, FixedNumber, Number, Visited, first_unmet};
 use cax64_address::amode::Amode;
+use cax64_address::offset::AmodeOffsetPlusKnownOffset;
+use cax64_address::operand::{GprMem, XmmMem};
 use cax64_register::AsReg;
 use cax64_sink::CodeSink;
-
-/// The hardware number of a register operand.
-#[derive(Clone, Copy, Debug, PartialEq)]
-pub enum Number {
-    /// The register is still virtual.
-    Unsettled,
-    Settled(u8),
-}
-
-impl Number {
-    /// The number of a register.
-    pub fn of<R: AsReg>(reg: R) -> Number
-        ensures { result ≡ number_of R.settled R.enc reg }
-    {
-        if reg.settled() {
-            Number::Settled(reg.enc())
-        } else {
-            Number::Unsettled
-        }
-    }
-
-    /// The number, or 0 of a virtual register.
-    pub fn value(self) -> u8
-        ensures { result ≡ number_value self }
-    {
-        match self {
-            Number::Settled(number) => number,
-            Number::Unsettled => 0,
-        }
-    }
-
-    /// Whether an instruction can hold the register.
-    pub fn is_real(self) -> bool
-        ensures { result ≡ is_real_number self }
-    {
-        match self {
-            Number::Settled(number) => number < 16,
-            Number::Unsettled => false,
-        }
-    }
-}
-
-/// A register that an instruction fixes to a number.
-#[derive(Clone, Copy, Debug, PartialEq)]
-pub struct FixedNumber {
-    pub held: Number,
-    pub expected: u8,
-}
 
 /// An immediate operand.
 #[derive(Clone, Copy, Debug, PartialEq)]
@@ -65,6 +21,15 @@ pub enum ImmOperand {
     Simm32(i32),
 }
 
+/// What vvvv of a VEX prefix names.
+#[derive(Clone, Copy, Debug, PartialEq)]
+pub enum VvvvOperand {
+    NoVvvv,
+    Register(Number),
+    /// The very register in reg, which is visited once.
+    SameAsReg,
+}
+
 /// What the rest of the tail names.
 #[derive(Clone, Copy, Debug, PartialEq)]
 pub enum PlaceOperand<M: AsReg> {
@@ -73,64 +38,164 @@ pub enum PlaceOperand<M: AsReg> {
     Memory(Amode<M>),
 }
 
+/// Whether a visit meets the registers of the place before or after those in reg and vvvv.
+#[derive(Clone, Copy, Debug, PartialEq)]
+pub enum VisitOrder {
+    PlaceFirst,
+    PlaceLast,
+}
+
 /// The operands of an instruction. What it lacks is absent.
 #[derive(Clone, Copy, Debug, PartialEq)]
 pub struct Operands<M: AsReg> {
     /// The register in the reg field of ModR/M.
     pub reg: Option<Number>,
-    /// The register in vvvv.
-    pub vvvv: Option<Number>,
+    pub vvvv: VvvvOperand,
     pub place: PlaceOperand<M>,
     pub imm: Option<ImmOperand>,
-    /// The registers that the instruction fixes, up to four.
+    /// The registers that the instruction fixes, up to four, which a visit meets last.
     pub fixed: [Option<FixedNumber>; 4],
+    pub order: VisitOrder,
 }
 
-/// Whether a register is absent or real.
-fn is_absent_or_real(number: Option<Number>) -> bool
-    ensures { result ≡ is_absent_or_real number }
+/// The fault of a displacement.
+fn sum_fault<S: CodeSink>(simm32: AmodeOffsetPlusKnownOffset, sink: &S) -> Option<Fault>
+    ensures { result ≡ sum_fault (S.state sink.now).offsets simm32.offset simm32.simm32 }
 {
-    match number {
-        Some(number) => number.is_real(),
-        None => true,
+    let key = simm32.offset?;
+    if !sink.knows_offset(key) {
+        return Some(Fault::Unknown(key));
     }
-}
-
-/// Whether a fixed register is absent or holds its number.
-fn is_absent_or_held(fixed: Option<FixedNumber>) -> bool
-    ensures { result ≡ is_absent_or_held fixed }
-{
-    match fixed {
-        Some(fixed) => fixed.held == Number::Settled(fixed.expected),
-        None => true,
+    if simm32.fits(sink) {
+        None
+    } else {
+        Some(Fault::Range)
     }
 }
 
 impl<M: AsReg> PlaceOperand<M> {
-    fn is_encodable<S: CodeSink>(&self, sink: &S) -> bool
-        ensures { result ≡ place_is_encodable M.settled M.enc (S.state sink.now).offsets self.now }
+    /// The place that a general register or memory is.
+    pub fn of_gpr_mem<R: AsReg>(operand: &GprMem<R, M>) -> PlaceOperand<M>
+        ensures { result ≡ gpr_mem_place R.settled R.enc operand.now }
+    {
+        match *operand {
+            GprMem::Gpr(reg) => PlaceOperand::Register(Number::of(reg)),
+            GprMem::Mem(amode) => PlaceOperand::Memory(amode),
+        }
+    }
+
+    /// The place that an XMM register or memory is.
+    pub fn of_xmm_mem<R: AsReg>(operand: &XmmMem<R, M>) -> PlaceOperand<M>
+        ensures { result ≡ xmm_mem_place R.settled R.enc operand.now }
+    {
+        match *operand {
+            XmmMem::Xmm(reg) => PlaceOperand::Register(Number::of(reg)),
+            XmmMem::Mem(amode) => PlaceOperand::Memory(amode),
+        }
+    }
+
+    /// The register, or the base and the index.
+    fn visited(&self) -> (Option<Visited>, Option<Visited>)
+        ensures { present (result.0 ∷ result.1 ∷ []) ≡ place_visits M.settled M.enc self.now [] }
     {
         match *self {
-            PlaceOperand::NoPlace => true,
-            PlaceOperand::Register(number) => number.is_real(),
-            PlaceOperand::Memory(amode) => amode.is_addressable(sink),
+            PlaceOperand::NoPlace => (None, None),
+            PlaceOperand::Register(number) => (Some(Visited::Plain(number)), None),
+            PlaceOperand::Memory(Amode::ImmReg { base, .. }) => {
+                (Some(Visited::Plain(Number::of(base))), None)
+            }
+            PlaceOperand::Memory(Amode::ImmRegRegShift { base, index, .. }) => {
+                let index = Number::of(*index.as_ref());
+                (Some(Visited::Plain(Number::of(base))), Some(Visited::Index(index)))
+            }
+            PlaceOperand::Memory(Amode::RipRelative { .. }) => (None, None),
+        }
+    }
+
+    /// The fault of a late offset.
+    fn late_fault<S: CodeSink>(&self, sink: &S) -> Option<Fault>
+        ensures { result ≡ late_fault (S.state sink.now).offsets (memory_in self.now) }
+    {
+        match *self {
+            PlaceOperand::Memory(Amode::ImmReg { simm32, .. }) => sum_fault(simm32, sink),
+            _ => None,
+        }
+    }
+}
+
+fn plain(number: Option<Number>) -> Option<Visited>
+    ensures { result ≡ option_map Visited.Plain number }
+{
+    match number {
+        Some(number) => Some(Visited::Plain(number)),
+        None => None,
+    }
+}
+
+fn fixed(fixed: Option<FixedNumber>) -> Option<Visited>
+    ensures { result ≡ option_map Visited.Fixed fixed }
+{
+    match fixed {
+        Some(fixed) => Some(Visited::Fixed(fixed)),
+        None => None,
+    }
+}
+
+impl VvvvOperand {
+    /// The register, where it has a visit of its own.
+    fn visited(self) -> Option<Visited>
+        ensures { result ≡ vvvv_visited self }
+    {
+        match self {
+            VvvvOperand::Register(number) => Some(Visited::Plain(number)),
+            VvvvOperand::NoVvvv => None,
+            VvvvOperand::SameAsReg => None,
         }
     }
 }
 
 impl<M: AsReg> Operands<M> {
-    /// Whether every register, base and index is real, every fixed register holds its number, no index is the stack
-    /// pointer, and a late offset is known to the sink with a sum that is an `i32`.
-    pub fn are_encodable<S: CodeSink>(&self, sink: &S) -> bool
-        ensures { result ≡ are_encodable M.settled M.enc (S.state sink.now).offsets self.now }
+    /// The number in vvvv.
+    pub fn vvvv_number(&self) -> Option<Number>
+        ensures { result ≡ vvvv_number self.now.reg self.now.vvvv }
     {
-        is_absent_or_real(self.reg)
-            && is_absent_or_real(self.vvvv)
-            && self.place.is_encodable(sink)
-            && is_absent_or_held(self.fixed[0])
-            && is_absent_or_held(self.fixed[1])
-            && is_absent_or_held(self.fixed[2])
-            && is_absent_or_held(self.fixed[3])
+        match self.vvvv {
+            VvvvOperand::NoVvvv => None,
+            VvvvOperand::Register(number) => Some(number),
+            VvvvOperand::SameAsReg => self.reg,
+        }
+    }
+
+    /// The registers in the order of visits.
+    fn visited(&self) -> [Option<Visited>; 8]
+        ensures { present result ≡ visited_of M.settled M.enc self.now }
+    {
+        let (base, index) = self.place.visited();
+        let reg = plain(self.reg);
+        let vvvv = self.vvvv.visited();
+        let first = fixed(self.fixed[0]);
+        let second = fixed(self.fixed[1]);
+        let third = fixed(self.fixed[2]);
+        let fourth = fixed(self.fixed[3]);
+        match self.order {
+            VisitOrder::PlaceFirst => {
+                [base, index, reg, vvvv, first, second, third, fourth]
+            }
+            VisitOrder::PlaceLast => {
+                [reg, vvvv, base, index, first, second, third, fourth]
+            }
+        }
+    }
+
+    /// Why the instruction can't be encoded for this sink: the first register that isn't as it has to be, or else the
+    /// late offset.
+    pub fn first_fault<S: CodeSink>(&self, sink: &S) -> Option<Fault>
+        ensures { result ≡ fault_in M.settled M.enc (S.state sink.now).offsets self.now }
+    {
+        match first_unmet(&self.visited()) {
+            Some(fault) => Some(fault),
+            None => self.place.late_fault(sink),
+        }
     }
 
     /// The displacement of the memory operand, in bytes, with its late offset; 0 where there is none.

@@ -3,6 +3,6 @@
 
 pub mod evex;
 mod fields;
-mod puts;
+pub mod puts;
 pub mod rex;
 pub mod vex;

@@ -4,9 +4,9 @@ use Rattle.cax64_encoder.proofs.encoder.prefix_of.Goals as goal
 pub returns-in-LegacyField : goal.returns-in-LegacyField
 returns-in-LegacyField g c =
     legacy_for g.M.AsReg.settled g.M.AsReg.enc c.args.line c.args.reg c.args.vvvv c.args.place.now c.in-LegacyField.set c.in-LegacyField.field-1 c.w_bit-w.result c.rex_of.result
-    c.in-LegacyField.is c.requires.line c.requires.reg c.requires.place c.requires.vvvv_fits c.requires.bare c.w_bit-w.ensures.matches c.w_bit-w.ensures.zero c.rex_of.ensures.bits (rw c.has_8bit.ensures at c.rex_of.ensures.stands)
+    c.in-LegacyField.is c.requires.line c.requires.reg c.requires.place c.requires.vvvv_fits c.requires.bare c.w_bit-w.ensures.matches c.w_bit-w.ensures.zero c.w_bit-w.ensures.value c.rex_of.ensures.bits (rw c.has_8bit.ensures at c.rex_of.ensures.stands)
 
 pub returns-in-VexField : goal.returns-in-VexField
 returns-in-VexField g c =
     vex_for g.M.AsReg.enc c.args.line c.args.reg c.args.vvvv c.args.place.now c.in-VexField.pp c.in-VexField.map c.in-VexField.l c.in-VexField.field-3 c.w_bit-w.result c.vvvv_number.result c.operand_registers.result c.three_op.result
-    c.in-VexField.is c.requires.line c.requires.vvvv_fits c.w_bit-w.ensures.matches c.vvvv_number.ensures.number c.operand_registers.ensures.b c.operand_registers.ensures.x c.three_op.ensures.reads
+    c.in-VexField.is c.requires.line c.requires.vvvv_fits c.w_bit-w.ensures.matches c.vvvv_number.ensures.number c.operand_registers.ensures.b c.operand_registers.ensures.x c.w_bit-w.ensures.value c.three_op.ensures.reads c.three_op.ensures.two_bytes

@@ -1,0 +1,69 @@
+use Rattle.std.specs.Prelude.{ℕ, Option, Some, None, pos, List, [], ◌∷◌, ◌++◌}
+use Rattle.std.specs.Int.{to_le_bytes, w16, w32}
+use Rattle.cax64_machine_code.specs.Reading.{Parts}
+use Rattle.cax64_machine_code.specs.declared.reading.Place.{Place}
+use Rattle.cax64_machine_code.specs.declared.reading.Place.TheVariants.{Mem}
+use Rattle.cax64_machine_code.specs.declared.row.Row.{Row}
+use Rattle.cax64_machine_code.specs.declared.row.Row.TheVariants.{nop_1b, nop_2b, nopl_rm, nopw_rm}
+use Rattle.cax64_prefix.specs.Puts.{puts}
+use Rattle.cax64_sink.specs.Sink.{Action, put}
+use Rattle.cax64_encoder.specs.declared.nop.Nop.{Nop}
+use Rattle.cax64_encoder.specs.declared.nop.Nop.TheVariants.{One, Two, Three, Four, Five, Six, Seven, Eight, Nine}
+
+-- The no-operations of one to nine bytes. (Intel SDM, volume 2, NOP, table 4-12.)
+
+abbrev pub nop_bytes : Nop → List ℕ
+nop_bytes One = 0x90 ∷ []
+nop_bytes Two = 0x66 ∷ 0x90 ∷ []
+nop_bytes Three = 0x0F ∷ 0x1F ∷ 0x00 ∷ []
+nop_bytes Four = 0x0F ∷ 0x1F ∷ 0x40 ∷ 0x00 ∷ []
+nop_bytes Five = 0x0F ∷ 0x1F ∷ 0x44 ∷ 0x00 ∷ 0x00 ∷ []
+nop_bytes Six = 0x66 ∷ 0x0F ∷ 0x1F ∷ 0x44 ∷ 0x00 ∷ 0x00 ∷ []
+nop_bytes Seven = 0x0F ∷ 0x1F ∷ 0x80 ∷ 0x00 ∷ 0x00 ∷ 0x00 ∷ 0x00 ∷ []
+nop_bytes Eight = 0x0F ∷ 0x1F ∷ 0x84 ∷ 0x00 ∷ 0x00 ∷ 0x00 ∷ 0x00 ∷ 0x00 ∷ []
+nop_bytes Nine = 0x66 ∷ 0x0F ∷ 0x1F ∷ 0x84 ∷ 0x00 ∷ 0x00 ∷ 0x00 ∷ 0x00 ∷ 0x00 ∷ []
+
+-- several of them share a row
+abbrev pub nop_row : Nop → Row
+nop_row One = nop_1b
+nop_row Two = nop_2b
+nop_row Three = nopl_rm
+nop_row Four = nopl_rm
+nop_row Five = nopl_rm
+nop_row Six = nopw_rm
+nop_row Seven = nopl_rm
+nop_row Eight = nopl_rm
+nop_row Nine = nopw_rm
+
+-- the place of number 0 alone, and that of number 0 plus number 0
+abbrev pub rax_alone : Option Place
+rax_alone = Some (Mem (Some 0) None (pos 0))
+
+abbrev pub rax_twice : Option Place
+rax_twice = Some (Mem (Some 0) (Some (0, 1)) (pos 0))
+
+abbrev pub nop_place : Nop → Option Place
+nop_place One = None
+nop_place Two = None
+nop_place Three = rax_alone
+nop_place Four = rax_alone
+nop_place Five = rax_twice
+nop_place Six = rax_twice
+nop_place Seven = rax_alone
+nop_place Eight = rax_twice
+nop_place Nine = rax_twice
+
+abbrev pub nop_parts : Nop → Parts
+nop_parts nop = record { row = nop_row nop; reg = None; vvvv = None; place = nop_place nop; imm = None }
+
+-- the sink calls: zeros behind SIB or ModR/M are put at once
+abbrev pub nop_actions : Nop → List Action
+nop_actions One = puts (0x90 ∷ [])
+nop_actions Two = puts (0x66 ∷ 0x90 ∷ [])
+nop_actions Three = puts (0x0F ∷ 0x1F ∷ 0x00 ∷ [])
+nop_actions Four = puts (0x0F ∷ 0x1F ∷ 0x40 ∷ 0x00 ∷ [])
+nop_actions Five = puts (0x0F ∷ 0x1F ∷ 0x44 ∷ []) ++ put (to_le_bytes w16 0) ∷ []
+nop_actions Six = puts (0x66 ∷ 0x0F ∷ 0x1F ∷ 0x44 ∷ []) ++ put (to_le_bytes w16 0) ∷ []
+nop_actions Seven = puts (0x0F ∷ 0x1F ∷ 0x80 ∷ []) ++ put (to_le_bytes w32 0) ∷ []
+nop_actions Eight = puts (0x0F ∷ 0x1F ∷ 0x84 ∷ 0x00 ∷ []) ++ put (to_le_bytes w32 0) ∷ []
+nop_actions Nine = puts (0x66 ∷ 0x0F ∷ 0x1F ∷ 0x84 ∷ 0x00 ∷ []) ++ put (to_le_bytes w32 0) ∷ []
