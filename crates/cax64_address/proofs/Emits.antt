@@ -105,7 +105,7 @@ forced_least n v None field false k hb h = let four = disp32_length field (v, []
 forced_least n v (Imm8 q) field t1 k hb h = class_least n v (Imm8 q) field false t1 k hb h
 forced_least n v (Imm32 w) field t1 k hb h = class_least n v (Imm32 w) field false t1 k hb h
 
-differ : (a b : ℕ) → a ≢ b → (a == b) ≡ false
+pub differ : (a b : ℕ) → a ≢ b → (a == b) ≡ false
 differ a b h = grind (arith, nat_tests)
 
 -- what is put for a class where the base's low bits are these

@@ -22,7 +22,7 @@ use Rattle.cax64_address.specs.declared.amode.Amode.TheVariants.{ImmReg, ImmRegR
 use Rattle.cax64_address.specs.declared.amode.Scale.{Scale}
 use Rattle.cax64_address.specs.declared.amode.Scale.TheVariants.{One, Two, Four, Eight}
 use Rattle.cax64_address.specs.Effective.{effective_address, scale_factor, ReadsAddress}
-use Rattle.cax64_address.specs.Emitted.{TailOf, AddsTail, AddsBytes, FitsTail, LeavesTail}
+use Rattle.cax64_address.specs.Emitted.{TailOf, AddsTail, AddsBytes, AddsLength, FitsTail, LeavesTail}
 
 told_same : (records : Bool) (old a b : List Notice) → a ≡ b → (if records then old ++ a else old) ≡ (if records then old ++ b else old)
 told_same records old a b e = rw e refl
@@ -95,6 +95,10 @@ put_by_run {acts} {s} {t} run added e = append_cancel_left s.bytes (all_bytes ac
 pub run_bytes : {acts : List Action} {s t : State} (r : Result (Unit {0}) SinkError) → IsBytes (all_bytes acts) → Ran acts s t r → OnOk r (AddsBytes s t)
 run_bytes (Ok tt) h run = record { are_bytes = λ added e. subst IsBytes (put_by_run run added e) h }
 run_bytes (Err e) h run = tt
+
+pub run_length : {acts : List Action} {s t : State} (count : ℕ) (r : Result (Unit {0}) SinkError) → length (all_bytes acts) ≡ count → Ran acts s t r → OnOk r (AddsLength count s t)
+run_length count (Ok tt) h run = record { has = λ added e. ap length (sym (put_by_run run added e)) ∙ h }
+run_length count (Err e) h run = tt
 
 factor_is : (scale : Scale) → 2 ^ scale_number scale ≡ scale_factor scale
 factor_is One = refl

@@ -45,6 +45,10 @@ pub record AddsTail (x b factor reg : ℕ) (place : Place) (told : ℕ → List 
 pub record AddsBytes (old new : State) : Type 0 where
   pub are_bytes : (added : List ℕ) → new.bytes ≡ old.bytes ++ added → IsBytes added
 
+-- a sink has got this many bytes
+pub record AddsLength (count : ℕ) (old new : State) : Type 0 where
+  pub has : (added : List ℕ) → new.bytes ≡ old.bytes ++ added → length added ≡ count
+
 -- some tail of this reg field and place has no more bytes than these
 pub record FitsTail (x b factor reg : ℕ) (place : Place) (left : ℕ) : Type 0 where
   pub whole : List ℕ

@@ -4,8 +4,9 @@ ghost use Rattle.std.specs.Prelude.{◌≡◌, ◌≢◌, ◌+◌, ◌/◌, ◌%
 ghost use Rattle.cax64_address.specs.Address.{is_addressable, registers_are_real, scale_number, place_of, displaced_place, base_bit, index_bit, target_notices};
 ghost use Rattle.cax64_address.specs.Displacement.{factor_of};
 ghost use Rattle.cax64_address.specs.Effective.{effective_address, ReadsAddress};
-ghost use Rattle.cax64_address.specs.Emitted.{AddsTail, AddsBytes, LeavesTail, TailOf, tail_actions, field_actions, sib_actions};
+ghost use Rattle.cax64_address.specs.Emitted.{AddsTail, AddsBytes, AddsLength, LeavesTail, TailOf, tail_actions, field_actions, sib_actions};
 ghost use Rattle.cax64_machine_code.specs.Fields.{IsBytes};
+ghost use Rattle.cax64_machine_code.specs.Len.{least_tail};
 ghost use Rattle.cax64_machine_code.specs.Tail.{IsTail};
 ghost use Rattle.cax64_sink.specs.Keeps.{Keeps};
 ghost use Rattle.cax64_sink.specs.Room.{HasRoom};
@@ -76,6 +77,7 @@ fn base_tail(reg: u8, base: u8, displacement: i32, evex_scaling: Option<i8>) -> 
     requires factor { IfSome evex_scaling (λ n. pos 1 ≤ℤ n) }
     ensures tail { TailOf 0 (base / 8) (factor_of evex_scaling) reg (Place.Mem (Some base) None displacement) (λ at. []) (tail_actions result) }
     ensures bytes { IsBytes (all_bytes (tail_actions result)) }
+    ensures length { evex_scaling ≡ None → length (all_bytes (tail_actions result)) ≡ least_tail (Place.Mem (Some base) None displacement) }
 {
     let low = base & 7;
     let mut disp = Disp::new(displacement, evex_scaling);
@@ -112,6 +114,7 @@ fn index_tail(
     requires factor { IfSome evex_scaling (λ n. pos 1 ≤ℤ n) }
     ensures tail { TailOf (index / 8) (base / 8) (factor_of evex_scaling) reg (Place.Mem (Some base) (Some (index, 2 ^ scale_number scale)) displacement) (λ at. []) (tail_actions result) }
     ensures bytes { IsBytes (all_bytes (tail_actions result)) }
+    ensures length { evex_scaling ≡ None → length (all_bytes (tail_actions result)) ≡ least_tail (Place.Mem (Some base) (Some (index, 2 ^ scale_number scale)) displacement) }
 {
     let low = base & 7;
     let mut disp = Disp::new(displacement, evex_scaling);
@@ -130,6 +133,7 @@ fn relative_tail(reg: u8, target: DeferredTarget, bytes_at_end: u8) -> TailCode
     requires { reg < 8 }
     ensures tail { (factor : ℕ) → TailOf 0 0 factor reg (Place.Rip (pos 0 -ℤ pos bytes_at_end)) (λ at. Notice.Target (at + 1) target ∷ []) (tail_actions result) }
     ensures bytes { IsBytes (all_bytes (tail_actions result)) }
+    ensures length { length (all_bytes (tail_actions result)) ≡ least_tail (Place.Rip (pos 0 -ℤ pos bytes_at_end)) }
 {
     let field = (-i32::from(bytes_at_end)).cast_unsigned();
     TailCode {
@@ -152,6 +156,7 @@ pub fn tail_of<R: AsReg>(
     requires factor { IfSome evex_scaling (λ n. pos 1 ≤ℤ n) }
     ensures tail { TailOf (index_bit R.enc mem_e.now) (base_bit R.enc mem_e.now) (factor_of evex_scaling) (enc_g % 8) (displaced_place R.enc displacement bytes_at_end mem_e.now) (target_notices mem_e.now) (tail_actions result) }
     ensures bytes { IsBytes (all_bytes (tail_actions result)) }
+    ensures length { evex_scaling ≡ None → length (all_bytes (tail_actions result)) ≡ least_tail (displaced_place R.enc displacement bytes_at_end mem_e.now) }
 {
     let reg = enc_g % 8;
     match *mem_e {
@@ -190,6 +195,7 @@ pub fn emit_modrm_sib_disp<R: AsReg, S: CodeSink>(
     requires factor { IfSome evex_scaling (λ n. pos 1 ≤ℤ n) }
     ensures adds { OnOk result (AddsTail (index_bit R.enc mem_e.now) (base_bit R.enc mem_e.now) (factor_of evex_scaling) (enc_g % 8) (place_of R.enc (S.state sink.old).offsets bytes_at_end mem_e.now) (target_notices mem_e.now) (S.state sink.old) (S.state sink.new)) }
     ensures bytes { OnOk result (AddsBytes (S.state sink.old) (S.state sink.new)) }
+    ensures length { evex_scaling ≡ None → OnOk result (AddsLength (least_tail (place_of R.enc (S.state sink.old).offsets bytes_at_end mem_e.now)) (S.state sink.old) (S.state sink.new)) }
     ensures address { OnOk result (ReadsAddress (index_bit R.enc mem_e.now) (base_bit R.enc mem_e.now) (factor_of evex_scaling) (effective_address R.enc (S.state sink.old).offsets bytes_at_end mem_e.now) (S.state sink.old) (S.state sink.new)) }
     ensures leaves { OnErr result (LeavesTail (index_bit R.enc mem_e.now) (base_bit R.enc mem_e.now) (factor_of evex_scaling) (enc_g % 8) (place_of R.enc (S.state sink.old).offsets bytes_at_end mem_e.now) (target_notices mem_e.now) (S.state sink.old) (S.state sink.new)) }
     ensures error { IfErr result (λ e. (S.state sink.old).answers e ≡ true) }

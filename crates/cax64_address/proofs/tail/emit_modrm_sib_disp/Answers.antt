@@ -4,7 +4,7 @@ use Rattle.cax64_sink.proofs.Ends.{ran_keeps}
 use Rattle.cax64_address.specs.Address.{place_of, index_bit, base_bit, target_notices}
 use Rattle.cax64_address.specs.Displacement.{factor_of}
 use Rattle.cax64_address.specs.Emitted.{TailOf, tail_actions}
-use Rattle.cax64_address.proofs.Emitted.{run_adds, run_bytes, run_address, run_leaves, run_error, run_room, run_enough, one_notice}
+use Rattle.cax64_address.proofs.Emitted.{run_adds, run_bytes, run_length, run_address, run_leaves, run_error, run_room, run_enough, one_notice}
 use Rattle.cax64_address.proofs.tail.emit_modrm_sib_disp.Goals as goal
 
 pub returns : goal.returns
@@ -15,6 +15,7 @@ returns g c =
     record {
       adds = run_adds c.put.result tail c.put.ensures;
       bytes = run_bytes c.put.result c.tail_of-code.ensures.bytes c.put.ensures;
+      length = λ none. run_length _ c.put.result (rw known at c.tail_of-code.ensures.length none) c.put.ensures;
       address = run_address g.R.AsReg.enc (g.S.CodeSink.state c.args.sink.now).offsets c.args.bytes_at_end c.args.mem_e.now c.put.result tail c.put.ensures;
       leaves = run_leaves c.put.result tail c.put.ensures;
       error = run_error c.put.result c.put.ensures;
