@@ -1,4 +1,4 @@
-use Rattle.std.proofs.Common.{◌≡◌, ℕ, ◌+◌, ◌≤◌, arith, refl, List, [], ◌∷◌, ◌++◌, length, Some, None, pos}
+use Rattle.std.proofs.Common.{◌≡◌, ℕ, ◌+◌, ◌≤◌, arith, refl, ap, List, [], ◌∷◌, ◌++◌, length, Some, None, pos}
 use Rattle.cax64_machine_code.specs.Fields.{number_at}
 use Rattle.cax64_machine_code.specs.Line.{after}
 use Rattle.cax64_machine_code.specs.Prefix.{prefix_at, legacy_at, rex_at, vex_at}
@@ -42,3 +42,28 @@ nop_reads Six rest = refl
 nop_reads Seven rest = refl
 nop_reads Eight rest = refl
 nop_reads Nine rest = refl
+
+-- a nop's actions write it
+nop_written : (M : Type 0) (nop : Nop) → all_bytes (nop_actions nop) ≡ nop_bytes nop → ((at : ℕ) → all_notices (nop_actions nop) at ≡ []) → EndsInBytes (nop_actions nop) → 1 ≤ length (nop_bytes nop) → length (nop_bytes nop) ≤ 13 → EncodesAs {M = M} (nop_meant nop) (nop_actions nop)
+unfolding nop_reading
+nop_written M nop e told ends least most = record {
+  written = record {
+    reads = rw e (record { reading = nop_reading nop; reads = nop_reads nop; same = refl; length = refl; least = least; most = most });
+    notices = told;
+    shortest = tt;
+    ends = ends;
+  };
+  length = ap length e;
+  exact = e;
+}
+
+pub nop_encodes : (M : Type 0) (nop : Nop) → EncodesAs {M = M} (nop_meant nop) (nop_actions nop)
+nop_encodes M One = nop_written M One refl (λ at. refl) (omega arith) (omega arith) (omega arith)
+nop_encodes M Two = nop_written M Two refl (λ at. refl) (omega arith) (omega arith) (omega arith)
+nop_encodes M Three = nop_written M Three refl (λ at. refl) (omega arith) (omega arith) (omega arith)
+nop_encodes M Four = nop_written M Four refl (λ at. refl) (omega arith) (omega arith) (omega arith)
+nop_encodes M Five = nop_written M Five refl (λ at. refl) (omega arith) (omega arith) (omega arith)
+nop_encodes M Six = nop_written M Six refl (λ at. refl) (omega arith) (omega arith) (omega arith)
+nop_encodes M Seven = nop_written M Seven refl (λ at. refl) (omega arith) (omega arith) (omega arith)
+nop_encodes M Eight = nop_written M Eight refl (λ at. refl) (omega arith) (omega arith) (omega arith)
+nop_encodes M Nine = nop_written M Nine refl (λ at. refl) (omega arith) (omega arith) (omega arith)

@@ -1,7 +1,7 @@
 use Rattle.std.proofs.Common.{◌≡◌, ℕ, ◌+◌, ◌<◌, ◌≤◌, arith, Bool, true, false, refl, ◌∙◌, ap, sym, Option, Some, None, List, [], ◌∷◌, ◌++◌, length, drop, slice_index_or, get_or, ℤ}
 use Rattle.std.specs.Prelude.{◌&&◌, ◌==◌, not, nat_lt, if◌then◌else◌, ◌↔◌, IsTrue, is_none, option_map, ◌+ℤ◌}
 use Rattle.std.proofs.lemmas.Bool.{and_parts}
-use Rattle.std.proofs.lemmas.List.{at_drop_more}
+use Rattle.std.proofs.lemmas.List.{at_drop_more, at_drop_all}
 use Rattle.cax64_register.specs.Real.{is_real, is_real_non_rsp}
 use Rattle.cax64_address.specs.Address.{registers_are_real, offset_fits, is_addressable}
 use Rattle.cax64_address.specs.Offset.{fits_i32, sum_fits, late_fits}
@@ -17,6 +17,7 @@ use Rattle.cax64_encoder.specs.declared.operands.PlaceOperand as place
 use Rattle.cax64_encoder.specs.declared.operands.PlaceOperand.{PlaceOperand}
 use Rattle.cax64_encoder.specs.declared.operands.Operands.{Operands}
 use Rattle.cax64_encoder.specs.declared.visited.Fault.{Fault}
+use Rattle.cax64_encoder.specs.declared.visited.Fault.TheVariants.{Range}
 use Rattle.cax64_encoder.specs.declared.visited.FixedNumber.{FixedNumber}
 use Rattle.cax64_encoder.specs.declared.visited.Number.{Number}
 use Rattle.cax64_encoder.specs.declared.visited.Visited.{Visited}
@@ -26,17 +27,17 @@ use Rattle.cax64_encoder.specs.declared.visited.Visited.TheVariants.{Plain, Inde
 
 unmet_is : (at : ℕ) (visited : List Visited) → is_none (first_unmet at visited) ≡ all_met visited
 unmet_is at [] = refl
-unmet_is at (v ∷ later) = by_test (is_met v)
+unmet_is at (v ∷ later) = by_test (is_met v) (unmet_is (at + 1) later)
   where
-    by_test : (met : Bool) → is_none (if met then first_unmet (at + 1) later else Some (fault_of at v)) ≡ (met && all_met later)
-    by_test true = unmet_is (at + 1) later
-    by_test false = refl
+    by_test : (met : Bool) → is_none (first_unmet (at + 1) later) ≡ all_met later → is_none (if met then first_unmet (at + 1) later else Some (fault_of at v)) ≡ (met && all_met later)
+    by_test true e = e
+    by_test false e = refl
 
 known_is : (key : ℕ) (known : Option ℤ) (simm32 : ℤ) → is_none (known_fault key known simm32) ≡ late_fits known simm32
 known_is key None simm32 = refl
 known_is key (Some known) simm32 = by_test (fits_i32 (known +ℤ simm32))
   where
-    by_test : (fits : Bool) → is_none (if fits then None else Some Fault.TheVariants.Range) ≡ fits
+    by_test : (fits : Bool) → is_none (if fits then None else Some Range) ≡ fits
     by_test true = refl
     by_test false = refl
 
@@ -191,7 +192,7 @@ step_unmet visits i at v h e m k = sym (k ∙ at_some visits i at v h e ∙ ap (
 
 -- nothing is left at the end
 pub walked : (visits : List (Option Visited)) (at i : ℕ) → length visits ≤ i → first_unmet 0 (present visits) ≡ first_unmet at (present (drop i visits)) → None ≡ first_unmet 0 (present visits)
-walked visits at i h k = sym (k ∙ ap (λ (xs : List (Option Visited)). first_unmet at (present xs)) (drop-length-le visits i h))
+walked visits at i h k = sym (k ∙ at_drop_all (λ xs. first_unmet at (present xs)) visits i h)
 
 four : {A : Type 0} (xs : List A) (d : A) → length xs ≡ 4 → xs ≡ get_or xs 0 d ∷ get_or xs 1 d ∷ get_or xs 2 d ∷ get_or xs 3 d ∷ []
 four [] d h = absurd (omega arith)
@@ -202,7 +203,7 @@ four (a ∷ b ∷ c ∷ e ∷ []) d h = refl
 four (a ∷ b ∷ c ∷ e ∷ f ∷ xs) d h = absurd (omega arith)
 
 present_four : (fixed : List (Option FixedNumber)) → length fixed ≡ 4 → present (option_map Fixed (get_or fixed 0 None) ∷ option_map Fixed (get_or fixed 1 None) ∷ option_map Fixed (get_or fixed 2 None) ∷ option_map Fixed (get_or fixed 3 None) ∷ []) ≡ fixed_visits fixed
-present_four fixed h = present_fixed _ _ _ _ ∙ ap fixed_visits (sym (four fixed None h))
+present_four fixed h = present_fixed (get_or fixed 0 None) (get_or fixed 1 None) (get_or fixed 2 None) (get_or fixed 3 None) ∙ ap fixed_visits (sym (four fixed None h))
 
 pub place_first : {M : Type 0} (settled : M → Bool) (enc : M → ℕ) (o : Operands M) (a b : Option Visited) → length o.fixed ≡ 4 → present (a ∷ b ∷ []) ≡ place_visits settled enc o.place [] → present (a ∷ b ∷ option_map Plain o.reg ∷ vvvv_visited o.vvvv ∷ option_map Fixed (get_or o.fixed 0 None) ∷ option_map Fixed (get_or o.fixed 1 None) ∷ option_map Fixed (get_or o.fixed 2 None) ∷ option_map Fixed (get_or o.fixed 3 None) ∷ []) ≡ ordered_visits settled enc PlaceFirst o
 place_first settled enc o a b h e =

@@ -1,0 +1,107 @@
+use Rattle.std.proofs.Common.{◌≡◌, ◌≢◌, ℕ, ◌+◌, ◌<◌, ◌≤◌, arith, refl, ◌∙◌, ap, List, [], ◌∷◌, ◌++◌, Bool, true, length, Result, Ok, Err, Option, Some, None, ℤ}
+use Rattle.std.specs.Prelude.{if◌then◌else◌, OnOk, OnErr, IfErr, IsOk}
+use Rattle.cax64_machine_code.specs.declared.reading.Reading.{Reading}
+use Rattle.cax64_sink.specs.Room.{HasRoom, FallsBy}
+use Rattle.cax64_sink.specs.Sink.{State, Action, Ran, all_bytes, all_notices, size, notes}
+use Rattle.cax64_sink.specs.declared.SinkError.{SinkError}
+use Rattle.cax64_sink.specs.declared.Notice.{Notice}
+use Rattle.cax64_sink.proofs.Runs.{ran_bytes, ran_notices, ran_error}
+use Rattle.cax64_sink.proofs.Refusals.{ran_refusal}
+use Rattle.cax64_sink.proofs.Rooms.{less_room, ran_succeeds, ran_byte_room, ran_notice_room, size_is_length, notes_is_length}
+use Rattle.cax64_sink.proofs.Ends.{refused_bytes, refused_notices}
+use Rattle.cax64_address.specs.declared.amode.Amode.{Amode}
+use Rattle.cax64_address.specs.declared.amode.Amode.TheVariants.{ImmReg, ImmRegRegShift, RipRelative}
+use Rattle.cax64_encoder.specs.Encodes.{notices_of, EncodesAs}
+use Rattle.cax64_encoder.specs.Instruction.{AddsInstruction, LeavesInstruction}
+use Rattle.cax64_encoder.specs.Meant.{Meant, len, memory_notices, notice_count}
+
+told_same : (records : Bool) (old a b : List Notice) → a ≡ b → (if records then old ++ a else old) ≡ (if records then old ++ b else old)
+told_same records old a b e = rw e refl
+
+-- a run of an instruction's actions that succeeded
+pub run_adds : {M : Type 0} {m : Meant M} {acts : List Action} {s t : State} (r : Result (Unit {0}) SinkError) → EncodesAs m acts → Ran acts s t r → OnOk r (AddsInstruction m s t)
+run_adds {acts = acts} {s} {t} (Ok tt) h run = record {
+  added = all_bytes acts;
+  bytes = ran_bytes run refl;
+  reads = h.written.reads;
+  notices = ran_notices run refl ∙ told_same s.records s.notices _ _ (h.written.notices (length s.bytes));
+  shortest = h.written.shortest;
+  length = h.length;
+  exact = h.exact;
+}
+run_adds (Err e) h run = tt
+
+not_empty : {A : Type 0} (xs : List A) → 0 < length xs → xs ≢ []
+not_empty [] h e = omega arith
+not_empty (x ∷ xs) h e = cc
+
+-- a run of an instruction's actions that was refused
+pub run_leaves : {M : Type 0} {m : Meant M} {acts : List Action} {s t : State} (r : Result (Unit {0}) SinkError) → EncodesAs m acts → Ran acts s t r → OnErr r (LeavesInstruction m s t)
+run_leaves (Ok tt) h run = tt
+run_leaves {acts = acts} {s} {t} (Err e) h run =
+    let left = ran_refusal run refl in
+    let part = refused_bytes left h.written.ends in
+    let told_part = refused_notices left (length s.bytes) in
+    record {
+      left = all_bytes left.done;
+      whole = all_bytes acts;
+      bytes = left.bytes;
+      reads = h.written.reads;
+      exact = h.exact;
+      front = record { rest = part.0; whole = part.1; proper = not_empty part.0 part.2 };
+      told_left = all_notices left.done (length s.bytes);
+      told_later = told_part.0;
+      notices = left.notices;
+      notices_front = told_part.1 ∙ h.written.notices (length s.bytes);
+    }
+
+pub run_error : {acts : List Action} {s t : State} (r : Result (Unit {0}) SinkError) → Ran acts s t r → IfErr r (λ e. s.answers e ≡ true)
+run_error (Ok tt) run = tt
+run_error (Err e) run = ran_error run refl
+
+notices_counted : {M : Type 0} (memory : Option (Amode M)) (at : ℕ) (read : Reading) → length (notices_of memory at read) ≡ memory_notices memory
+notices_counted None at read = refl
+notices_counted (Some (ImmReg base simm32 None)) at read = refl
+notices_counted (Some (ImmReg base simm32 (Some code))) at read = refl
+notices_counted (Some (ImmRegRegShift base index scale simm32 None)) at read = refl
+notices_counted (Some (ImmRegRegShift base index scale simm32 (Some code))) at read = refl
+notices_counted (Some (RipRelative target)) at read = refl
+
+-- an instruction has one notice at most
+one_notice : {M : Type 0} (memory : Option (Amode M)) → memory_notices memory ≤ 1
+one_notice None = omega arith
+one_notice (Some (ImmReg base simm32 None)) = omega arith
+one_notice (Some (ImmReg base simm32 (Some code))) = omega arith
+one_notice (Some (ImmRegRegShift base index scale simm32 None)) = omega arith
+one_notice (Some (ImmRegRegShift base index scale simm32 (Some code))) = omega arith
+one_notice (Some (RipRelative target)) = omega arith
+
+bytes_are : {M : Type 0} {m : Meant M} {acts : List Action} → EncodesAs m acts → size acts ≡ len m
+bytes_are {acts = acts} h = size_is_length acts ∙ h.length
+
+notices_are : {M : Type 0} {m : Meant M} {acts : List Action} → EncodesAs m acts → notes acts ≡ notice_count m
+notices_are {m = m} {acts} h = notes_is_length acts 0 ∙ ap length (h.written.notices 0) ∙ notices_counted m.memory 0 h.written.reads.reading
+
+-- an instruction has one byte at least, and thirteen at most
+pub len_least : {M : Type 0} {m : Meant M} {acts : List Action} → EncodesAs m acts → 1 ≤ len m
+len_least h = omega (arith, h.length, h.written.reads.length, h.written.reads.least)
+
+pub len_most : {M : Type 0} {m : Meant M} {acts : List Action} → EncodesAs m acts → len m ≤ 13
+len_most h = omega (arith, h.length, h.written.reads.length, h.written.reads.most)
+
+-- room for its bytes and its notices is enough
+pub run_room : {M : Type 0} {m : Meant M} {acts : List Action} {s t : State} {r : Result (Unit {0}) SinkError} → EncodesAs m acts → Ran acts s t r → HasRoom s.byte_room (len m) → HasRoom s.notice_room (notice_count m) → IsOk r
+run_room {m = m} {s = s} h run bytes told =
+    ran_succeeds run (rw (bytes_are h) bytes) (rw (notices_are h) told)
+
+-- and so is room for thirteen bytes and a notice
+pub run_enough : {M : Type 0} {m : Meant M} {acts : List Action} {s t : State} {r : Result (Unit {0}) SinkError} → EncodesAs m acts → Ran acts s t r → HasRoom s.byte_room 13 → HasRoom s.notice_room 1 → IsOk r
+run_enough {m = m} {s = s} h run bytes told =
+    run_room h run (less_room s.byte_room 13 (len m) (len_most h) bytes) (less_room s.notice_room 1 (notice_count m) (one_notice m.memory) told)
+
+-- an instruction lowers the rooms by no more than its bytes and its notices
+pub run_bytes_fall : {M : Type 0} {m : Meant M} {acts : List Action} {s t : State} {r : Result (Unit {0}) SinkError} → EncodesAs m acts → Ran acts s t r → FallsBy s.byte_room t.byte_room (len m)
+run_bytes_fall {acts = acts} {s} h run k room = ran_byte_room run k (rw (bytes_are h) room)
+
+pub run_notices_fall : {M : Type 0} {m : Meant M} {acts : List Action} {s t : State} {r : Result (Unit {0}) SinkError} → EncodesAs m acts → Ran acts s t r → FallsBy s.notice_room t.notice_room (notice_count m)
+run_notices_fall {acts = acts} {s} h run k room = ran_notice_room run k (rw (notices_are h) room)
