@@ -31,14 +31,15 @@ use Rattle.cax64_machine_code.specs.declared.line.ImmField.TheVariants.{NoImm, I
 use Rattle.cax64_machine_code.proofs.Bytes.{one_back, two_back, four_back, s8_back, s32_back}
 use Rattle.cax64_machine_code.proofs.Written.{IsImm, BeginsWith, DigitIs}
 use Rattle.cax64_prefix.specs.Rex.{is_special_if_8bit}
-use Rattle.cax64_encoder.specs.Code.{when, trap_actions, opcode_actions, imm_actions, optional_imm_actions}
+use Rattle.cax64_encoder.specs.Code.{when, trap_actions, opcode_actions}
+use Rattle.cax64_encoder.specs.Imm.{imm_actions, optional_imm_actions}
 use Rattle.cax64_encoder.specs.Encodes.{reg_number, trap_notice}
 use Rattle.cax64_encoder.specs.Visited.{number_value}
 use Rattle.cax64_encoder.specs.Fits.{first_byte, is_digit, reg_fits, imm_has_size, is_no_imm, imm_fits, uses_8bit_reg, uses_8bit_place}
-use Rattle.cax64_encoder.specs.Operands.{imm_value, imm_size, imm_in_range, signed_below}
+use Rattle.cax64_encoder.specs.Imm.{imm_value, imm_size, imm_in_range, signed_below}
 use Rattle.cax64_encoder.specs.declared.visited.Number.{Number}
-use Rattle.cax64_encoder.specs.declared.operands.ImmOperand.{ImmOperand}
-use Rattle.cax64_encoder.specs.declared.operands.ImmOperand.TheVariants.{Imm8, Imm16, Imm32, Simm8, Simm32}
+use Rattle.cax64_encoder.specs.declared.imm.ImmOperand.{ImmOperand}
+use Rattle.cax64_encoder.specs.declared.imm.ImmOperand.TheVariants.{Imm8, Imm16, Imm32, Simm8, Simm32}
 
 -- Immediates.
 

@@ -1,4 +1,4 @@
-use Rattle.std.proofs.Common.{◌≡◌, ◌≢◌, ℕ, ◌+◌, ◌<◌, ◌≤◌, arith, refl, ◌∙◌, ap, List, [], ◌∷◌, ◌++◌, Bool, true, length, Result, Ok, Err, Option, Some, None, ℤ}
+use Rattle.std.proofs.Common.{◌≡◌, ◌≢◌, ℕ, ◌<◌, ◌≤◌, arith, refl, ◌∙◌, ap, List, [], ◌∷◌, ◌++◌, Bool, true, length, Result, Ok, Err, Option, Some, None}
 use Rattle.std.specs.Prelude.{if◌then◌else◌, OnOk, OnErr, IfErr, IsOk}
 use Rattle.cax64_machine_code.specs.declared.reading.Reading.{Reading}
 use Rattle.cax64_sink.specs.Room.{HasRoom, FallsBy}

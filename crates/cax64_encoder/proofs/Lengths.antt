@@ -1,21 +1,19 @@
-use Rattle.std.proofs.Common.{◌≡◌, ℕ, ◌+◌, ◌<◌, ◌≤◌, arith, Bool, true, false, refl, ◌∙◌, ap, sym, subst, Option, Some, None, List, length, ℤ}
-use Rattle.std.specs.Prelude.{◌&&◌, ◌||◌, not, ◌==◌, nat_lt, nat_le, if◌then◌else◌, option_map}
+use Rattle.std.proofs.Common.{◌≡◌, ℕ, arith, Bool, true, false, refl, ◌∙◌, ap, sym, Option, Some, None, List, length, ℤ}
+use Rattle.std.specs.Prelude.{◌&&◌, ◌||◌, nat_lt, nat_le, option_map}
 use Rattle.std.proofs.lemmas.Bool.{and_parts}
 use Rattle.std.proofs.lemmas.Bool.Decides.{nat_tests}
 use Rattle.cax64_sink.specs.Sink.{Action, all_bytes}
 use Rattle.cax64_address.specs.Address.{displaced_place}
 use Rattle.cax64_address.specs.declared.amode.Amode.{Amode}
 use Rattle.cax64_address.specs.declared.amode.Amode.TheVariants.{ImmReg, ImmRegRegShift, RipRelative}
-use Rattle.cax64_machine_code.specs.Len.{one_if, is_w1, reg_is_high, place_is_high, reg_is_special, place_is_special, digit_is_special, has_rex_byte, prefix_len, opcode_len, tail_len, line_len, len_of}
+use Rattle.cax64_machine_code.specs.Len.{is_w1, reg_is_high, place_is_high, reg_is_special, place_is_special, digit_is_special, has_rex_byte, prefix_len, opcode_len, tail_len, line_len, len_of}
 use Rattle.cax64_machine_code.specs.Line.{imm_bytes}
-use Rattle.cax64_machine_code.specs.Reading.{Parts}
 use Rattle.cax64_machine_code.specs.Rows.{line_of}
 use Rattle.cax64_machine_code.specs.declared.line.Line.{Line}
 use Rattle.cax64_machine_code.specs.declared.line.PrefixField.{PrefixField}
 use Rattle.cax64_machine_code.specs.declared.line.PrefixField.TheVariants.{LegacyField, VexField}
 use Rattle.cax64_machine_code.specs.declared.line.RegField.{RegField}
 use Rattle.cax64_machine_code.specs.declared.line.RegField.TheVariants.{Digit, Register8, Register}
-use Rattle.cax64_machine_code.specs.declared.line.PlaceField.{PlaceField}
 use Rattle.cax64_machine_code.specs.declared.line.PlaceField.TheVariants.{Memory, RegisterOrMemory, Register8OrMemory}
 use Rattle.cax64_machine_code.specs.declared.line.TailField.{TailField}
 use Rattle.cax64_machine_code.specs.declared.line.TailField.TheVariants.{NoTail, Modrm}
@@ -24,11 +22,13 @@ use Rattle.cax64_machine_code.specs.declared.reading.RegView.{RegView}
 use Rattle.cax64_machine_code.specs.declared.reading.RegView.TheVariants.{Low}
 use Rattle.cax64_machine_code.specs.declared.row.Row.{Row}
 use Rattle.cax64_sink.specs.declared.TrapCode.{TrapCode}
-use Rattle.cax64_encoder.specs.Code.{trap_actions, opcode_actions, optional_imm_actions}
+use Rattle.cax64_encoder.specs.Code.{trap_actions, opcode_actions}
+use Rattle.cax64_encoder.specs.Imm.{optional_imm_actions}
 use Rattle.cax64_encoder.specs.Encodes.{reg_number, amode_high, place_high, place_special, rex_stands, written_prefix_len}
 use Rattle.cax64_encoder.specs.Fits.{is_digit, is_8bit_once, has_8bit, is_line, tail_fits, vvvv_fits, imm_fits, fits}
 use Rattle.cax64_encoder.specs.Meant.{operand_parts}
-use Rattle.cax64_encoder.specs.Operands.{named_place, imm_size, vvvv_number}
+use Rattle.cax64_encoder.specs.Imm.{imm_size}
+use Rattle.cax64_encoder.specs.Operands.{named_place, vvvv_number}
 use Rattle.cax64_encoder.specs.Visited.{number_value}
 use Rattle.cax64_encoder.specs.declared.visited.Number.{Number}
 use Rattle.cax64_encoder.specs.declared.operands.Operands.{Operands}

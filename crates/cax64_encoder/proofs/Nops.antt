@@ -1,17 +1,16 @@
-use Rattle.std.proofs.Common.{◌≡◌, ℕ, ◌+◌, ◌≤◌, arith, refl, ap, List, [], ◌∷◌, ◌++◌, length, Some, None, pos}
+use Rattle.std.proofs.Common.{◌≡◌, ℕ, suc, ◌-◌, ◌≤◌, arith, refl, ap, List, [], ◌++◌, length, Option, Some}
 use Rattle.cax64_machine_code.specs.Fields.{number_at}
 use Rattle.cax64_machine_code.specs.Line.{after}
 use Rattle.cax64_machine_code.specs.Prefix.{prefix_at, legacy_at, rex_at, vex_at}
-use Rattle.cax64_machine_code.specs.Reading.{read, find, row_at, operands_at}
+use Rattle.cax64_machine_code.specs.Reading.{Found, find, row_at, operands_at}
+use Rattle.cax64_machine_code.proofs.Matched.{reads_as}
 use Rattle.cax64_machine_code.specs.Rows.{line_of, all_rows}
-use Rattle.cax64_machine_code.specs.Sequence.{ReadsAs}
 use Rattle.cax64_machine_code.specs.Tail.{read_tail, sib_at, disp_at}
-use Rattle.cax64_machine_code.specs.declared.reading.Reading.{Reading}
 use Rattle.cax64_sink.specs.Sink.{all_bytes, all_notices}
 use Rattle.cax64_sink.specs.Ends.{EndsInBytes}
-use Rattle.cax64_encoder.specs.Encodes.{EncodesParts, EncodesAs}
+use Rattle.cax64_encoder.specs.Encodes.{EncodesAs}
 use Rattle.cax64_encoder.specs.Meant.{nop_meant}
-use Rattle.cax64_encoder.specs.Nop.{nop_bytes, nop_row, nop_place, nop_parts, nop_actions}
+use Rattle.cax64_encoder.specs.Nop.{nop_bytes, nop_parts, nop_actions}
 use Rattle.cax64_encoder.specs.declared.nop.Nop.{Nop}
 use Rattle.cax64_encoder.specs.declared.nop.Nop.TheVariants.{One, Two, Three, Four, Five, Six, Seven, Eight, Nine}
 
@@ -28,27 +27,42 @@ nop_tail Seven = 5
 nop_tail Eight = 6
 nop_tail Nine = 6
 
-nop_reading : Nop → Reading
-nop_reading nop = record { row = nop_row nop; length = length (nop_bytes nop); tail = nop_tail nop; reg = None; vvvv = None; place = nop_place nop; imm = None }
+abbrev nop_found : Nop → List ℕ → ℕ → Option Found
+nop_found nop rest tail = Some (record { parts = nop_parts nop; tail = tail; rest = rest })
 
-nop_reads : (nop : Nop) (rest : List ℕ) → read (nop_bytes nop ++ rest) ≡ Some (nop_reading nop)
-unfolding nop_reading read find row_at operands_at line_of all_rows after prefix_at legacy_at rex_at vex_at read_tail sib_at disp_at number_at
+-- of so many bytes more, so many are left
+one_more : (n : ℕ) → suc n - n ≡ 1
+one_more n = omega arith
+
+two_more : (n : ℕ) → suc (suc n) - n ≡ 2
+two_more n = omega arith
+
+three_more : (n : ℕ) → suc (suc (suc n)) - n ≡ 3
+three_more n = omega arith
+
+five_more : (n : ℕ) → suc (suc (suc (suc (suc n)))) - n ≡ 5
+five_more n = omega arith
+
+six_more : (n : ℕ) → suc (suc (suc (suc (suc (suc n))))) - n ≡ 6
+six_more n = omega arith
+
+nop_reads : (nop : Nop) (rest : List ℕ) → find (nop_bytes nop ++ rest) ≡ nop_found nop rest (nop_tail nop)
+unfolding find row_at operands_at line_of all_rows after prefix_at legacy_at rex_at vex_at read_tail sib_at disp_at number_at
 nop_reads One rest = refl
 nop_reads Two rest = refl
-nop_reads Three rest = refl
-nop_reads Four rest = refl
-nop_reads Five rest = refl
-nop_reads Six rest = refl
-nop_reads Seven rest = refl
-nop_reads Eight rest = refl
-nop_reads Nine rest = refl
+nop_reads Three rest = ap (nop_found Three rest) (one_more (length rest))
+nop_reads Four rest = ap (nop_found Four rest) (two_more (length rest))
+nop_reads Five rest = ap (nop_found Five rest) (three_more (length rest))
+nop_reads Six rest = ap (nop_found Six rest) (three_more (length rest))
+nop_reads Seven rest = ap (nop_found Seven rest) (five_more (length rest))
+nop_reads Eight rest = ap (nop_found Eight rest) (six_more (length rest))
+nop_reads Nine rest = ap (nop_found Nine rest) (six_more (length rest))
 
 -- a nop's actions write it
 nop_written : (M : Type 0) (nop : Nop) → all_bytes (nop_actions nop) ≡ nop_bytes nop → ((at : ℕ) → all_notices (nop_actions nop) at ≡ []) → EndsInBytes (nop_actions nop) → 1 ≤ length (nop_bytes nop) → length (nop_bytes nop) ≤ 13 → EncodesAs {M = M} (nop_meant nop) (nop_actions nop)
-unfolding nop_reading
 nop_written M nop e told ends least most = record {
   written = record {
-    reads = rw e (record { reading = nop_reading nop; reads = nop_reads nop; same = refl; length = refl; least = least; most = most });
+    reads = rw e (reads_as (nop_parts nop) (nop_tail nop) (nop_bytes nop) (nop_reads nop) least most);
     notices = told;
     shortest = tt;
     ends = ends;

@@ -3,12 +3,12 @@ use Rattle.std.specs.Prelude.{◌&&◌, ◌==◌, not, nat_lt, if◌then◌else�
 use Rattle.std.proofs.lemmas.Bool.{and_parts}
 use Rattle.std.proofs.lemmas.List.{at_drop_more, at_drop_all}
 use Rattle.cax64_register.specs.Real.{is_real, is_real_non_rsp}
-use Rattle.cax64_address.specs.Address.{registers_are_real, offset_fits, is_addressable}
+use Rattle.cax64_address.specs.Address.{registers_are_real, is_addressable}
 use Rattle.cax64_address.specs.Offset.{fits_i32, sum_fits, late_fits}
 use Rattle.cax64_address.specs.declared.amode.Amode.{Amode}
 use Rattle.cax64_address.specs.declared.amode.Amode.TheVariants.{ImmReg, ImmRegRegShift, RipRelative}
 use Rattle.cax64_encoder.specs.Operands.{amode_visits, place_visits, reg_visits, vvvv_visits, vvvv_visited, fixed_visits, ordered_visits, visited_of, known_fault, sum_fault, late_fault, late_offset_fits, or_later, first_fault, can_encode, are_encodable, is_absent_or_real, vvvv_number, place_is_real, are_real, memory_in}
-use Rattle.cax64_encoder.specs.Visited.{number_of, is_real_number, is_number, is_met, all_met, fault_of, first_unmet, present}
+use Rattle.cax64_encoder.specs.Visited.{number_of, is_real_number, is_met, all_met, fault_of, first_unmet, present}
 use Rattle.cax64_encoder.specs.declared.operands.VvvvOperand as vvvv
 use Rattle.cax64_encoder.specs.declared.operands.VvvvOperand.{VvvvOperand}
 use Rattle.cax64_encoder.specs.declared.operands.VisitOrder.{VisitOrder}

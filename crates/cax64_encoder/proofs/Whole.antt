@@ -43,16 +43,18 @@ use Rattle.cax64_prefix.proofs.PutRuns.{all_notices-puts}
 use Rattle.cax64_encoder.proofs.PrefixParts.{set_quiet}
 use Rattle.cax64_encoder.specs.declared.code.PrefixCode.{PrefixCode}
 use Rattle.cax64_encoder.specs.declared.code.PrefixCode.TheVariants.{Legacy, Vex}
-use Rattle.cax64_encoder.specs.Code.{set_actions, prefix_actions, trap_actions, opcode_actions, optional_imm_actions}
+use Rattle.cax64_encoder.specs.Code.{set_actions, prefix_actions, trap_actions, opcode_actions}
+use Rattle.cax64_encoder.specs.Imm.{optional_imm_actions}
 use Rattle.cax64_encoder.specs.Encodes.{reg_number, TailPartOf, PrefixFor, trap_notice, notices_of, ShortestFor, EncodesParts}
 use Rattle.cax64_encoder.specs.Meant.{operand_parts}
 use Rattle.cax64_encoder.specs.Visited.{number_value}
 use Rattle.cax64_encoder.specs.Fits.{first_byte, has_tail, is_line, is_digit, fits, tail_fits, reg_fits, place_fits, is_no_place, is_absent, vvvv_fits, imm_fits, tail_size}
-use Rattle.cax64_encoder.specs.Operands.{is_absent_or_real, vvvv_number, place_is_real, are_real, named_place, place_x, place_b, imm_value, imm_size, memory_in, trap_in}
+use Rattle.cax64_encoder.specs.Imm.{imm_value, imm_size}
+use Rattle.cax64_encoder.specs.Operands.{is_absent_or_real, vvvv_number, place_is_real, are_real, named_place, place_x, place_b, memory_in, trap_in}
 use Rattle.cax64_encoder.specs.declared.visited.Number.{Number}
 use Rattle.cax64_encoder.specs.declared.visited.Number.TheVariants.{Settled, Unsettled}
-use Rattle.cax64_encoder.specs.declared.operands.ImmOperand.{ImmOperand}
-use Rattle.cax64_encoder.specs.declared.operands.ImmOperand.TheVariants.{Imm8, Imm16, Imm32, Simm8, Simm32}
+use Rattle.cax64_encoder.specs.declared.imm.ImmOperand.{ImmOperand}
+use Rattle.cax64_encoder.specs.declared.imm.ImmOperand.TheVariants.{Imm8, Imm16, Imm32, Simm8, Simm32}
 use Rattle.cax64_encoder.specs.declared.operands.Operands.{Operands}
 use Rattle.cax64_encoder.specs.declared.operands.PlaceOperand as place
 use Rattle.cax64_encoder.specs.declared.operands.PlaceOperand.{PlaceOperand}

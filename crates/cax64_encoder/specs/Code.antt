@@ -1,5 +1,4 @@
 use Rattle.std.specs.Prelude.{ℕ, Bool, true, false, Option, Some, None, List, [], ◌∷◌, ◌++◌}
-use Rattle.std.specs.Int.{cast_unsigned, to_le_bytes, w8, w16, w32}
 use Rattle.cax64_address.specs.Emitted as address
 use Rattle.cax64_machine_code.specs.declared.line.LegacySet.{LegacySet}
 use Rattle.cax64_machine_code.specs.declared.line.Opcode.{Opcode}
@@ -8,6 +7,7 @@ use Rattle.cax64_prefix.specs.Rex.{rex_bytes}
 use Rattle.cax64_prefix.specs.Vex.{vex_bytes}
 use Rattle.cax64_sink.specs.Sink.{Action, put, trap}
 use Rattle.cax64_sink.specs.declared.TrapCode.{TrapCode}
+use Rattle.cax64_encoder.specs.Imm.{optional_imm_actions}
 use Rattle.cax64_encoder.specs.Nop.{nop_actions}
 use Rattle.cax64_encoder.specs.declared.code.Code.{Code}
 use Rattle.cax64_encoder.specs.declared.code.Code.TheVariants.{Nop, Line}
@@ -16,8 +16,6 @@ use Rattle.cax64_encoder.specs.declared.code.PrefixCode.{PrefixCode}
 use Rattle.cax64_encoder.specs.declared.code.PrefixCode.TheVariants.{Legacy, Vex}
 use Rattle.cax64_encoder.specs.declared.code.TailPart.{TailPart}
 use Rattle.cax64_encoder.specs.declared.code.TailPart.TheVariants.{NoTail, Register, Memory}
-use Rattle.cax64_encoder.specs.declared.operands.ImmOperand.{ImmOperand}
-use Rattle.cax64_encoder.specs.declared.operands.ImmOperand.TheVariants.{Imm8, Imm16, Imm32, Simm8, Simm32}
 
 -- the sink calls that a code stands for
 
@@ -43,17 +41,6 @@ abbrev pub tail_actions : TailPart → List Action
 tail_actions NoTail = []
 tail_actions (Register modrm) = put (modrm ∷ []) ∷ []
 tail_actions (Memory code) = address.tail_actions code
-
-abbrev pub imm_actions : ImmOperand → List Action
-imm_actions (Imm8 v) = put (v ∷ []) ∷ []
-imm_actions (Imm16 v) = put (to_le_bytes w16 v) ∷ []
-imm_actions (Imm32 v) = put (to_le_bytes w32 v) ∷ []
-imm_actions (Simm8 v) = put (cast_unsigned w8 v ∷ []) ∷ []
-imm_actions (Simm32 v) = put (to_le_bytes w32 (cast_unsigned w32 v)) ∷ []
-
-abbrev pub optional_imm_actions : Option ImmOperand → List Action
-optional_imm_actions None = []
-optional_imm_actions (Some imm) = imm_actions imm
 
 abbrev pub line_actions : LineCode → List Action
 line_actions code = trap_actions code.trap ++ (prefix_actions code.prefix ++ (opcode_actions code.opcode ++ (tail_actions code.tail ++ optional_imm_actions code.imm)))

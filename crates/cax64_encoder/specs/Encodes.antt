@@ -1,5 +1,5 @@
 use Rattle.std.specs.Prelude.{◌≡◌, ℕ, ◌+◌, ◌-◌, ◌/◌, ◌%◌, ◌≤◌, Bool, true, false, ◌&&◌, ◌||◌, ◌==◌, not, nat_le, if◌then◌else◌, IfSome, Option, Some, None, option_map, List, [], ◌∷◌, ◌++◌, length, ℤ}
-use Rattle.cax64_address.specs.Address.{index_bit, base_bit, displaced_place, target_notices, trap_of}
+use Rattle.cax64_address.specs.Address.{index_bit, base_bit, displaced_place, target_notices}
 use Rattle.cax64_address.specs.Emitted.{TailOf}
 use Rattle.cax64_address.specs.declared.amode.Amode.{Amode}
 use Rattle.cax64_address.specs.declared.amode.Amode.TheVariants.{ImmReg, ImmRegRegShift, RipRelative}
@@ -19,7 +19,6 @@ use Rattle.cax64_machine_code.specs.declared.line.RegField.TheVariants.{Digit, R
 use Rattle.cax64_machine_code.specs.declared.reading.Place.TheVariants.{Reg}
 use Rattle.cax64_machine_code.specs.declared.reading.Reading.{Reading}
 use Rattle.cax64_machine_code.specs.declared.reading.RegView.TheVariants.{Low}
-use Rattle.cax64_machine_code.specs.declared.row.Row.{Row}
 use Rattle.cax64_prefix.specs.Rex.{is_special_if_8bit}
 use Rattle.cax64_sink.specs.Ends.{EndsInBytes}
 use Rattle.cax64_sink.specs.Sink.{Action, all_bytes, all_notices}
@@ -31,7 +30,6 @@ use Rattle.cax64_encoder.specs.Meant.{Meant, len}
 use Rattle.cax64_encoder.specs.Operands.{place_x, place_b}
 use Rattle.cax64_encoder.specs.Visited.{number_value}
 use Rattle.cax64_encoder.specs.declared.visited.Number.{Number}
-use Rattle.cax64_encoder.specs.declared.operands.Operands.{Operands}
 use Rattle.cax64_encoder.specs.declared.operands.PlaceOperand as place
 use Rattle.cax64_encoder.specs.declared.operands.PlaceOperand.{PlaceOperand}
 

@@ -1,17 +1,17 @@
 use Rattle.std.specs.Prelude.{ℕ, ◌+◌, ◌/◌, Bool, true, false, not, ◌&&◌, ◌||◌, ◌==◌, nat_lt, nat_le, if◌then◌else◌, Option, Some, None}
-use Rattle.cax64_encoder.specs.Operands.{imm_in_range, vvvv_number}
+use Rattle.cax64_encoder.specs.Imm.{imm_in_range}
+use Rattle.cax64_encoder.specs.Operands.{vvvv_number}
 use Rattle.cax64_encoder.specs.declared.form.Form.{Form}
 use Rattle.cax64_encoder.specs.declared.form.Form.TheVariants as form
 use Rattle.cax64_encoder.specs.declared.visited.Number.{Number}
-use Rattle.cax64_encoder.specs.declared.operands.ImmOperand.{ImmOperand}
-use Rattle.cax64_encoder.specs.declared.operands.ImmOperand.TheVariants.{Imm8, Imm16, Imm32, Simm8, Simm32}
+use Rattle.cax64_encoder.specs.declared.imm.ImmOperand.{ImmOperand}
+use Rattle.cax64_encoder.specs.declared.imm.ImmOperand.TheVariants.{Imm8, Imm16, Imm32, Simm8, Simm32}
 use Rattle.cax64_encoder.specs.declared.operands.PlaceOperand as place
 use Rattle.cax64_encoder.specs.declared.operands.PlaceOperand.{PlaceOperand}
 use Rattle.cax64_encoder.specs.declared.operands.Operands.{Operands}
 use Rattle.cax64_machine_code.specs.Len.{legacy_len, opcode_len}
 use Rattle.cax64_machine_code.specs.Line.{imm_bytes}
 use Rattle.cax64_machine_code.specs.declared.line.Line.{Line}
-use Rattle.cax64_machine_code.specs.declared.line.LegacySet.{LegacySet}
 use Rattle.cax64_machine_code.specs.declared.line.Opcode.{Opcode}
 use Rattle.cax64_machine_code.specs.declared.line.VvvvField.TheVariants.{VvvvRegister, Stored1111}
 use Rattle.cax64_machine_code.specs.declared.line.PrefixField.{PrefixField}

@@ -1,4 +1,4 @@
-use Rattle.std.specs.Prelude.{ℕ, ◌+◌, Bool, Option, Some, None, option_map, ℤ, List, [], length}
+use Rattle.std.specs.Prelude.{ℕ, Bool, Option, Some, None, option_map, ℤ, List, [], length}
 use Rattle.cax64_address.specs.declared.amode.Amode.{Amode}
 use Rattle.cax64_address.specs.declared.amode.Amode.TheVariants.{ImmReg, ImmRegRegShift, RipRelative}
 use Rattle.cax64_machine_code.specs.Len.{len_of}
@@ -7,7 +7,8 @@ use Rattle.cax64_machine_code.specs.declared.reading.RegView.TheVariants.{Low}
 use Rattle.cax64_machine_code.specs.declared.row.Row.{Row}
 use Rattle.cax64_sink.specs.declared.TrapCode.{TrapCode}
 use Rattle.cax64_encoder.specs.Nop.{nop_parts, nop_bytes}
-use Rattle.cax64_encoder.specs.Operands.{place_named, named_place, displacement_in, imm_size, imm_value, vvvv_number, memory_in, visited_of, can_encode, first_fault}
+use Rattle.cax64_encoder.specs.Imm.{imm_size, imm_value}
+use Rattle.cax64_encoder.specs.Operands.{named_place, displacement_in, vvvv_number, memory_in, visited_of, can_encode, first_fault}
 use Rattle.cax64_encoder.specs.Visited.{number_value}
 use Rattle.cax64_encoder.specs.declared.form.Form.{Form}
 use Rattle.cax64_encoder.specs.declared.form.Form.TheVariants as form

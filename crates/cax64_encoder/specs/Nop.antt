@@ -1,12 +1,14 @@
 use Rattle.std.specs.Prelude.{ℕ, Option, Some, None, pos, List, [], ◌∷◌, ◌++◌}
-use Rattle.std.specs.Int.{to_le_bytes, w16, w32}
 use Rattle.cax64_machine_code.specs.Reading.{Parts}
 use Rattle.cax64_machine_code.specs.declared.reading.Place.{Place}
 use Rattle.cax64_machine_code.specs.declared.reading.Place.TheVariants.{Mem}
 use Rattle.cax64_machine_code.specs.declared.row.Row.{Row}
 use Rattle.cax64_machine_code.specs.declared.row.Row.TheVariants.{nop_1b, nop_2b, nopl_rm, nopw_rm}
 use Rattle.cax64_prefix.specs.Puts.{puts}
-use Rattle.cax64_sink.specs.Sink.{Action, put}
+use Rattle.cax64_sink.specs.Sink.{Action}
+use Rattle.cax64_encoder.specs.Imm.{optional_imm_actions}
+use Rattle.cax64_encoder.specs.declared.imm.ImmOperand.{ImmOperand}
+use Rattle.cax64_encoder.specs.declared.imm.ImmOperand.TheVariants.{Imm16, Imm32}
 use Rattle.cax64_encoder.specs.declared.nop.Nop.{Nop}
 use Rattle.cax64_encoder.specs.declared.nop.Nop.TheVariants.{One, Two, Three, Four, Five, Six, Seven, Eight, Nine}
 
@@ -56,14 +58,29 @@ nop_place Nine = rax_twice
 abbrev pub nop_parts : Nop → Parts
 nop_parts nop = record { row = nop_row nop; reg = None; vvvv = None; place = nop_place nop; imm = None }
 
--- the sink calls: zeros behind SIB or ModR/M are put at once
+-- The sink calls: bytes that are put each by itself, and zeros behind them that are put at once.
+
+abbrev pub nop_lead : Nop → List ℕ
+nop_lead One = 0x90 ∷ []
+nop_lead Two = 0x66 ∷ 0x90 ∷ []
+nop_lead Three = 0x0F ∷ 0x1F ∷ 0x00 ∷ []
+nop_lead Four = 0x0F ∷ 0x1F ∷ 0x40 ∷ 0x00 ∷ []
+nop_lead Five = 0x0F ∷ 0x1F ∷ 0x44 ∷ []
+nop_lead Six = 0x66 ∷ 0x0F ∷ 0x1F ∷ 0x44 ∷ []
+nop_lead Seven = 0x0F ∷ 0x1F ∷ 0x80 ∷ []
+nop_lead Eight = 0x0F ∷ 0x1F ∷ 0x84 ∷ 0x00 ∷ []
+nop_lead Nine = 0x66 ∷ 0x0F ∷ 0x1F ∷ 0x84 ∷ 0x00 ∷ []
+
+abbrev pub nop_zeros : Nop → Option ImmOperand
+nop_zeros One = None
+nop_zeros Two = None
+nop_zeros Three = None
+nop_zeros Four = None
+nop_zeros Five = Some (Imm16 0)
+nop_zeros Six = Some (Imm16 0)
+nop_zeros Seven = Some (Imm32 0)
+nop_zeros Eight = Some (Imm32 0)
+nop_zeros Nine = Some (Imm32 0)
+
 abbrev pub nop_actions : Nop → List Action
-nop_actions One = puts (0x90 ∷ [])
-nop_actions Two = puts (0x66 ∷ 0x90 ∷ [])
-nop_actions Three = puts (0x0F ∷ 0x1F ∷ 0x00 ∷ [])
-nop_actions Four = puts (0x0F ∷ 0x1F ∷ 0x40 ∷ 0x00 ∷ [])
-nop_actions Five = puts (0x0F ∷ 0x1F ∷ 0x44 ∷ []) ++ put (to_le_bytes w16 0) ∷ []
-nop_actions Six = puts (0x66 ∷ 0x0F ∷ 0x1F ∷ 0x44 ∷ []) ++ put (to_le_bytes w16 0) ∷ []
-nop_actions Seven = puts (0x0F ∷ 0x1F ∷ 0x80 ∷ []) ++ put (to_le_bytes w32 0) ∷ []
-nop_actions Eight = puts (0x0F ∷ 0x1F ∷ 0x84 ∷ 0x00 ∷ []) ++ put (to_le_bytes w32 0) ∷ []
-nop_actions Nine = puts (0x66 ∷ 0x0F ∷ 0x1F ∷ 0x84 ∷ 0x00 ∷ []) ++ put (to_le_bytes w32 0) ∷ []
+nop_actions nop = puts (nop_lead nop) ++ optional_imm_actions (nop_zeros nop)

@@ -1,4 +1,4 @@
-use Rattle.std.specs.Prelude.{ℕ, ◌/◌, ◌^◌, ◌&&◌, ◌==◌, nat_lt, Bool, true, false, if◌then◌else◌, Option, Some, None, ℤ, pos, negsuc, ◌+ℤ◌, List, [], ◌∷◌}
+use Rattle.std.specs.Prelude.{ℕ, ◌/◌, ◌&&◌, Bool, true, if◌then◌else◌, Option, Some, None, ℤ, pos, ◌+ℤ◌, List, [], ◌∷◌}
 use Rattle.cax64_address.specs.Address as address
 use Rattle.cax64_address.specs.Address.{trap_of}
 use Rattle.cax64_address.specs.Offset.{fits_i32}
@@ -19,8 +19,6 @@ use Rattle.cax64_encoder.specs.declared.visited.FixedNumber.{FixedNumber}
 use Rattle.cax64_encoder.specs.declared.visited.Number.{Number}
 use Rattle.cax64_encoder.specs.declared.visited.Visited.{Visited}
 use Rattle.cax64_encoder.specs.declared.visited.Visited.TheVariants.{Plain, Index, Fixed}
-use Rattle.cax64_encoder.specs.declared.operands.ImmOperand.{ImmOperand}
-use Rattle.cax64_encoder.specs.declared.operands.ImmOperand.TheVariants.{Imm8, Imm16, Imm32, Simm8, Simm32}
 use Rattle.cax64_encoder.specs.declared.operands.VvvvOperand as vvvv
 use Rattle.cax64_encoder.specs.declared.operands.VvvvOperand.{VvvvOperand}
 use Rattle.cax64_encoder.specs.declared.operands.VisitOrder.{VisitOrder}
@@ -172,36 +170,6 @@ abbrev pub place_b : {M : Type 0} → (M → ℕ) → PlaceOperand M → ℕ
 place_b enc NoPlace = 0
 place_b enc (Register number) = number_value number / 8
 place_b enc (Memory amode) = address.base_bit enc amode
-
--- Immediates.
-
--- the value of an immediate, and how many bytes it has
-abbrev pub imm_value : ImmOperand → ℤ
-imm_value (Imm8 v) = pos v
-imm_value (Imm16 v) = pos v
-imm_value (Imm32 v) = pos v
-imm_value (Simm8 v) = v
-imm_value (Simm32 v) = v
-
-abbrev pub imm_size : Option ImmOperand → ℕ
-imm_size None = 0
-imm_size (Some (Imm8 v)) = 1
-imm_size (Some (Imm16 v)) = 2
-imm_size (Some (Imm32 v)) = 4
-imm_size (Some (Simm8 v)) = 1
-imm_size (Some (Simm32 v)) = 4
-
--- an immediate within the range of its type
-abbrev pub signed_below : ℕ → ℤ → Bool
-signed_below n (pos v) = nat_lt v n
-signed_below n (negsuc v) = nat_lt v n
-
-abbrev pub imm_in_range : ImmOperand → Bool
-imm_in_range (Imm8 v) = nat_lt v (2 ^ 8)
-imm_in_range (Imm16 v) = nat_lt v (2 ^ 16)
-imm_in_range (Imm32 v) = nat_lt v (2 ^ 32)
-imm_in_range (Simm8 v) = signed_below (2 ^ 7) v
-imm_in_range (Simm32 v) = signed_below (2 ^ 31) v
 
 -- Traps.
 

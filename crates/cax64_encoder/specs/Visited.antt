@@ -1,7 +1,6 @@
 use Rattle.std.specs.Prelude.{ℕ, ◌+◌, ◌&&◌, ◌==◌, not, nat_lt, Bool, true, false, if◌then◌else◌, Option, Some, None, List, [], ◌∷◌}
 use Rattle.cax64_encoder.specs.declared.visited.Fault.{Fault}
 use Rattle.cax64_encoder.specs.declared.visited.Fault.TheVariants as fault
-use Rattle.cax64_encoder.specs.declared.visited.FixedNumber.{FixedNumber}
 use Rattle.cax64_encoder.specs.declared.visited.Number.{Number}
 use Rattle.cax64_encoder.specs.declared.visited.Number.TheVariants.{Settled, Unsettled}
 use Rattle.cax64_encoder.specs.declared.visited.Visited.{Visited}

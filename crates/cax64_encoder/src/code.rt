@@ -1,11 +1,11 @@
 //! The code of an instruction: the sink calls that write it, as a value.
 
 ghost use Rattle.std.specs.Prelude.{◌≡◌, ◌≤◌, length};
-ghost use Rattle.cax64_encoder.specs.Code.{code_actions, line_actions, trap_actions, prefix_actions, set_actions, when, opcode_actions, tail_actions, imm_actions, optional_imm_actions};
+ghost use Rattle.cax64_encoder.specs.Code.{code_actions, line_actions, trap_actions, prefix_actions, set_actions, when, opcode_actions, tail_actions};
 ghost use Rattle.cax64_sink.specs.Sink.{Ran, all_bytes};
 
+use crate::imm::{ImmOperand, put_imm};
 use crate::nop::Nop;
-use crate::operands::ImmOperand;
 use cax64_address::tail::TailCode;
 use cax64_machine_code::line::{LegacySet, Opcode};
 use cax64_prefix::rex::RexPrefix;
@@ -103,32 +103,6 @@ impl TailPart {
             TailPart::Register(modrm) => sink.put1(modrm),
             TailPart::Memory(code) => code.put(sink),
         }
-    }
-}
-
-impl ImmOperand {
-    /// One put of the immediate's size.
-    #[tactic(auto, using(cax64_sink::proofs::Runs::ran_one))]
-    pub fn put<S: CodeSink>(self, sink: &mut S) -> Result<(), SinkError>
-        ensures { Ran (imm_actions self) (S.state sink.old) (S.state sink.new) result }
-    {
-        match self {
-            ImmOperand::Imm8(value) => sink.put1(value),
-            ImmOperand::Imm16(value) => sink.put2(value),
-            ImmOperand::Imm32(value) => sink.put4(value),
-            ImmOperand::Simm8(value) => sink.put1(value.cast_unsigned()),
-            ImmOperand::Simm32(value) => sink.put4(value.cast_unsigned()),
-        }
-    }
-}
-
-#[tactic(auto, using(cax64_sink::proofs::Runs::ran_none))]
-fn put_imm<S: CodeSink>(sink: &mut S, imm: Option<ImmOperand>) -> Result<(), SinkError>
-    ensures { Ran (optional_imm_actions imm) (S.state sink.old) (S.state sink.new) result }
-{
-    match imm {
-        Some(imm) => imm.put(sink),
-        None => Ok(()),
     }
 }
 

@@ -5,7 +5,8 @@ ghost use Rattle.std.specs.Int.{from_bool};
 ghost use Rattle.cax64_encoder.specs.Code.{prefix_actions, tail_actions, line_actions};
 ghost use Rattle.cax64_encoder.specs.Encodes.{reg_number, rex_stands, TailPartOf, PrefixFor, EncodesParts};
 ghost use Rattle.cax64_encoder.specs.Fits.{has_8bit, has_tail, is_w, is_w0, is_no_place, vvvv_fits, is_line, fits};
-ghost use Rattle.cax64_encoder.specs.Operands.{are_real, place_is_real, is_absent_or_real, place_x, place_b, imm_size, named_place, memory_in, trap_in};
+ghost use Rattle.cax64_encoder.specs.Operands.{are_real, place_is_real, is_absent_or_real, place_x, place_b, named_place, memory_in, trap_in};
+ghost use Rattle.cax64_encoder.specs.Imm.{imm_size};
 ghost use Rattle.cax64_encoder.specs.Meant.{operand_parts};
 ghost use Rattle.cax64_encoder.specs.Visited.{number_value};
 ghost use Rattle.cax64_machine_code.specs.Len.{is_w1, tail_len, len_of};
@@ -15,7 +16,8 @@ ghost use Rattle.cax64_machine_code.specs.Rows.{line_of};
 ghost use Rattle.cax64_sink.specs.Sink.{all_bytes};
 
 use crate::code::{LineCode, PrefixCode, TailPart};
-use crate::operands::{ImmOperand, Operands, PlaceOperand};
+use crate::imm::imm_size;
+use crate::operands::{Operands, PlaceOperand};
 use crate::visited::Number;
 use cax64_address::amode::Amode;
 use cax64_address::disp::encode_modrm;
@@ -171,20 +173,6 @@ fn tail_part<M: AsReg>(
         PlaceOperand::Memory(amode) => {
             TailPart::Memory(tail_of(reg, amode, displacement, bytes_at_end, None))
         }
-    }
-}
-
-/// The number of bytes of an immediate.
-fn imm_size(imm: Option<ImmOperand>) -> u8
-    ensures { result ≡ imm_size imm }
-{
-    match imm {
-        None => 0,
-        Some(ImmOperand::Imm8(_)) => 1,
-        Some(ImmOperand::Simm8(_)) => 1,
-        Some(ImmOperand::Imm16(_)) => 2,
-        Some(ImmOperand::Imm32(_)) => 4,
-        Some(ImmOperand::Simm32(_)) => 4,
     }
 }
 

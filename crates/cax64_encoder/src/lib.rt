@@ -7,6 +7,7 @@
 pub mod code;
 pub mod encoder;
 pub mod form;
+pub mod imm;
 pub mod instruction;
 pub mod nop;
 pub mod operands;

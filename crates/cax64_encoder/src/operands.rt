@@ -4,22 +4,13 @@ ghost use Rattle.std.specs.Prelude.{◌≡◌, IsTrue, [], ◌∷◌, option_map
 ghost use Rattle.cax64_encoder.specs.Operands.{place_visits, visited_of, memory_in, sum_fault, late_fault, vvvv_number, vvvv_visited, are_encodable, fault_in, displacement_in, gpr_mem_place, xmm_mem_place};
 ghost use Rattle.cax64_encoder.specs.Visited.{present};
 
+use crate::imm::ImmOperand;
 use crate::visited::{Fault, FixedNumber, Number, Visited, first_unmet};
 use cax64_address::amode::Amode;
 use cax64_address::offset::AmodeOffsetPlusKnownOffset;
 use cax64_address::operand::{GprMem, XmmMem};
 use cax64_register::AsReg;
 use cax64_sink::CodeSink;
-
-/// An immediate operand.
-#[derive(Clone, Copy, Debug, PartialEq)]
-pub enum ImmOperand {
-    Imm8(u8),
-    Imm16(u16),
-    Imm32(u32),
-    Simm8(i8),
-    Simm32(i32),
-}
 
 /// What vvvv of a VEX prefix names.
 #[derive(Clone, Copy, Debug, PartialEq)]
@@ -106,7 +97,10 @@ impl<M: AsReg> PlaceOperand<M> {
             }
             PlaceOperand::Memory(Amode::ImmRegRegShift { base, index, .. }) => {
                 let index = Number::of(*index.as_ref());
-                (Some(Visited::Plain(Number::of(base))), Some(Visited::Index(index)))
+                (
+                    Some(Visited::Plain(Number::of(base))),
+                    Some(Visited::Index(index)),
+                )
             }
             PlaceOperand::Memory(Amode::RipRelative { .. }) => (None, None),
         }
@@ -178,12 +172,8 @@ impl<M: AsReg> Operands<M> {
         let third = fixed(self.fixed[2]);
         let fourth = fixed(self.fixed[3]);
         match self.order {
-            VisitOrder::PlaceFirst => {
-                [base, index, reg, vvvv, first, second, third, fourth]
-            }
-            VisitOrder::PlaceLast => {
-                [reg, vvvv, base, index, first, second, third, fourth]
-            }
+            VisitOrder::PlaceFirst => { [base, index, reg, vvvv, first, second, third, fourth] }
+            VisitOrder::PlaceLast => { [reg, vvvv, base, index, first, second, third, fourth] }
         }
     }
 

@@ -4,7 +4,8 @@ use Rattle.cax64_machine_code.specs.Len.{tail_len}
 use Rattle.cax64_sink.specs.Sink.{all_bytes}
 use Rattle.cax64_encoder.specs.Code.{prefix_actions, tail_actions}
 use Rattle.cax64_encoder.specs.Encodes.{reg_number, PrefixFor, TailPartOf}
-use Rattle.cax64_encoder.specs.Operands.{imm_size, vvvv_number, named_place}
+use Rattle.cax64_encoder.specs.Imm.{imm_size}
+use Rattle.cax64_encoder.specs.Operands.{vvvv_number, named_place}
 use Rattle.cax64_encoder.proofs.Whole.{place_real, vvvv_real, bare_is, vvvv_fit, reg_below, prefix_quiet, line_encodes}
 use Rattle.cax64_encoder.proofs.Lengths.{length_is}
 use Rattle.cax64_encoder.proofs.encoder.code_of.Goals as goal

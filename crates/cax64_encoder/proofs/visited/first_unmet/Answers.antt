@@ -1,5 +1,4 @@
-use Rattle.std.proofs.Common.{◌≡◌, ◌≤◌, ◌+◌, ◌<◌, arith, refl, ◌∙◌, ap, sym, None, Some, length, true, false}
-use Rattle.cax64_encoder.specs.Visited.{is_met}
+use Rattle.std.proofs.Common.{◌≤◌, ◌<◌, arith, refl, ◌∙◌, ap, sym, Some, length}
 use Rattle.cax64_encoder.proofs.Visits.{step_none, step_met, step_unmet, walked}
 use Rattle.cax64_encoder.proofs.visited.first_unmet.Goals as goal
 use Rattle.cax64_encoder.proofs.visited.first_unmet.Goals.{in-Some+else-not-is_met, in_default}

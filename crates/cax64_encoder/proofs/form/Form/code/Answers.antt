@@ -1,23 +1,34 @@
-use Rattle.std.proofs.Common.{rules, ◌≡◌, IsTrue, None, ℕ, ◌+◌, ◌-◌, ◌*◌, ◌<◌, ◌≤◌, length, ◌/◌, ◌%◌, Bool, true, false, nat_eq, nat_lt, List, [], ◌∷◌, ◌++◌, slice_index_or, slice_set, bit_and, bit_or, Fits, w8, w32, w64, Bor, MutBor, ℤ, pos, ◌+ℤ◌, ◌-ℤ◌, ◌*ℤ◌, ◌≤ℤ◌, ◌<ℤ◌, FitsSigned, to_z, of_z}
-use Rattle.cax64_encoder.specs.Code.{code_actions}
-use Rattle.cax64_encoder.specs.Encodes.{EncodesAs}
-use Rattle.cax64_encoder.specs.Fits.{form_fits}
-use Rattle.cax64_encoder.specs.Meant.{form_meant, is_encodable, fault_of_meant}
-use Rattle.cax64_machine_code.specs.Rows.{line_of}
+use Rattle.std.proofs.Common.{◌≡◌, ◌∙◌, sym, true, length, FitsSigned, w32, rules}
+use Rattle.std.proofs.lemmas.Int.{to_z-of_z}
+use Rattle.cax64_machine_code.specs.Len.{len_of}
+use Rattle.cax64_sink.specs.Sink.{all_bytes}
+use Rattle.cax64_encoder.specs.Code.{line_actions}
+use Rattle.cax64_encoder.specs.Encodes.{EncodesParts}
+use Rattle.cax64_encoder.specs.Meant.{operand_parts}
+use Rattle.cax64_encoder.specs.Operands.{are_encodable, memory_in, displacement_in}
+use Rattle.cax64_encoder.proofs.Nops.{nop_encodes}
+use Rattle.cax64_encoder.proofs.Table.{row_is_line}
+use Rattle.cax64_encoder.proofs.Visits.{encodable_real}
 use Rattle.cax64_encoder.proofs.form.Form.code.Goals as goal
 
--- src/form.rt:48:28
 pub code_of-requires-clause-line : goal.code_of-requires-clause-line
-code_of-requires-clause-line g c = ?
+code_of-requires-clause-line g c = rw c.line.ensures (row_is_line c.args.row)
 
--- src/form.rt:48:28
 pub code_of-requires-clause-real : goal.code_of-requires-clause-real
-code_of-requires-clause-real g c = ?
+code_of-requires-clause-real g c =
+    let offsets = (g.S.CodeSink.state c.args.sink.now).offsets in
+    let encodable : are_encodable g.M.AsReg.settled g.M.AsReg.enc offsets c.in-Operands.operands ≡ true = rw c.in-Operands.is at c.requires.encodable in
+    encodable_real g.M.AsReg.settled g.M.AsReg.enc offsets c.in-Operands.operands encodable
 
--- src/form.rt:39:5
 pub returns-in-Nop : goal.returns-in-Nop
-returns-in-Nop g c = ?
+returns-in-Nop g c = rw c.in-Nop.is (nop_encodes g.row.M.Denot c.in-Nop.nop)
 
--- src/form.rt:39:5
 pub returns-in-Operands : goal.returns-in-Operands
-returns-in-Operands g c = ?
+returns-in-Operands g c =
+    let offsets = (g.S.CodeSink.state c.args.sink.now).offsets in
+    let o = c.in-Operands.operands in
+    let fits : FitsSigned w32 c.displacement-displacement.result = search rules in
+    let known = to_z-of_z w32 c.displacement-displacement.result fits ∙ c.displacement-displacement.ensures in
+    let written : EncodesParts (operand_parts g.M.AsReg.enc c.args.row (displacement_in offsets o.place) o) (memory_in o.place) (line_actions c.code_of.result) = rw known at c.code_of.ensures.encodes c.args.row (sym c.line.ensures) in
+    let size : length (all_bytes (line_actions c.code_of.result)) ≡ len_of (operand_parts g.M.AsReg.enc c.args.row (displacement_in offsets o.place) o) = rw known at c.code_of.ensures.length c.args.row (sym c.line.ensures) in
+    rw c.in-Operands.is (record { written = written; length = size; exact = tt })

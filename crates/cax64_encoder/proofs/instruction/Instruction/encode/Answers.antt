@@ -1,42 +1,21 @@
-use Rattle.std.proofs.Common.{rules, ◌≡◌, ◌≤◌, ◌↔◌, ℕ, ℤ, true, Option, None, IsTrue, OnOk, OnErr, IfErr, IsOk, ◌+◌, ◌-◌, ◌*◌, ◌<◌, length, ◌/◌, ◌%◌, Bool, false, nat_eq, nat_lt, List, [], ◌∷◌, ◌++◌, slice_index_or, slice_set, bit_and, bit_or, Fits, w8, w32, w64, Bor, MutBor}
-use Rattle.cax64_encoder.specs.Fits.{form_fits}
-use Rattle.cax64_encoder.specs.Instruction.{AddsInstruction, LeavesInstruction}
-use Rattle.cax64_encoder.specs.Meant.{Meant, form_meant, is_encodable, fault_of_meant, len, notice_count}
-use Rattle.cax64_encoder.specs.declared.form.Form.{Form}
-use Rattle.cax64_machine_code.specs.Rows.{line_of}
-use Rattle.cax64_machine_code.specs.declared.row.Row.{Row}
-use Rattle.cax64_sink.specs.Keeps.{Keeps}
-use Rattle.cax64_sink.specs.Room.{HasRoom, FallsBy}
+use Rattle.cax64_sink.proofs.Ends.{ran_keeps}
+use Rattle.cax64_encoder.specs.Code.{code_actions}
+use Rattle.cax64_encoder.specs.Encodes.{EncodesAs}
+use Rattle.cax64_encoder.proofs.Instructions.{run_adds, run_leaves, run_error, run_enough, run_room, run_bytes_fall, run_notices_fall, len_most}
 use Rattle.cax64_encoder.proofs.instruction.Instruction.encode.Goals as goal
 
--- src/instruction.rt:67:5
-pub returns-clause-adds : goal.returns-clause-adds
-returns-clause-adds g c = ?
-
--- src/instruction.rt:67:5
-pub returns-clause-leaves : goal.returns-clause-leaves
-returns-clause-leaves g c = ?
-
--- src/instruction.rt:67:5
-pub returns-clause-error : goal.returns-clause-error
-returns-clause-error g c = ?
-
--- src/instruction.rt:67:5
-pub returns-clause-keeps : goal.returns-clause-keeps
-returns-clause-keeps g c = ?
-
--- src/instruction.rt:67:5
-pub returns-clause-enough : goal.returns-clause-enough
-returns-clause-enough g c = ?
-
--- src/instruction.rt:67:5
-pub returns-clause-room : goal.returns-clause-room
-returns-clause-room g c = ?
-
--- src/instruction.rt:67:5
-pub returns-clause-byte_room : goal.returns-clause-byte_room
-returns-clause-byte_room g c = ?
-
--- src/instruction.rt:67:5
-pub returns-clause-notice_room : goal.returns-clause-notice_room
-returns-clause-notice_room g c = ?
+pub returns : goal.returns
+returns g c =
+    let offsets = (g.S.CodeSink.state c.args.sink.now).offsets in
+    let meant : EncodesAs (g.Self.Instruction.meant c.args.self.now offsets) (code_actions c.code-code.result) = rw (c.row.ensures, c.form.ensures.value, g.met.Self.Instruction.is_meant c.args.self.now offsets) at c.code-code.ensures in
+    record {
+      adds = run_adds c.put.result meant c.put.ensures;
+      leaves = run_leaves c.put.result meant c.put.ensures;
+      error = run_error c.put.result c.put.ensures;
+      keeps = ran_keeps c.put.ensures;
+      enough = run_enough meant c.put.ensures;
+      room = run_room meant c.put.ensures;
+      byte_room = run_bytes_fall meant c.put.ensures;
+      notice_room = run_notices_fall meant c.put.ensures;
+      most = len_most meant;
+    }

@@ -1,14 +1,12 @@
-use Rattle.std.proofs.Common.{rules, ◌≡◌, ◌≤◌, ◌↔◌, ℕ, ℤ, true, Option, None, IsTrue, OnOk, OnErr, IfErr, IsOk, ◌+◌, ◌-◌, ◌*◌, ◌<◌, length, ◌/◌, ◌%◌, Bool, false, nat_eq, nat_lt, List, [], ◌∷◌, ◌++◌, slice_index_or, slice_set, bit_and, bit_or, Fits, w8, w32, w64, Bor, MutBor}
-use Rattle.cax64_encoder.specs.Fits.{form_fits}
-use Rattle.cax64_encoder.specs.Instruction.{AddsInstruction, LeavesInstruction}
-use Rattle.cax64_encoder.specs.Meant.{Meant, form_meant, is_encodable, fault_of_meant, len, notice_count}
-use Rattle.cax64_encoder.specs.declared.form.Form.{Form}
-use Rattle.cax64_machine_code.specs.Rows.{line_of}
-use Rattle.cax64_machine_code.specs.declared.row.Row.{Row}
-use Rattle.cax64_sink.specs.Keeps.{Keeps}
-use Rattle.cax64_sink.specs.Room.{HasRoom, FallsBy}
+use Rattle.std.proofs.Common.{◌≡◌}
+use Rattle.cax64_encoder.specs.Meant.{fault_of_meant, form_meant, Meant}
+use Rattle.cax64_encoder.proofs.Visits.{no_fault, none_is}
 use Rattle.cax64_encoder.proofs.instruction.Instruction.first_fault.Goals as goal
 
--- src/instruction.rt:41:5
-pub returns-clause-none : goal.returns-clause-none
-returns-clause-none g c = ?
+pub returns : goal.returns
+returns g c =
+    let offsets = (g.S.CodeSink.state c.args.sink.now).offsets in
+    let m : Meant g.row.Self-Base.Denot = g.Self.Instruction.meant c.args.self.now offsets in
+    let before : c.first_fault.result ≡ fault_of_meant offsets (form_meant g.Self.Base.AsReg.settled g.Self.Base.AsReg.enc offsets (g.Self.Instruction.row_of c.args.self.now) c.form.result) = c.first_fault.ensures (g.Self.Instruction.row_of c.args.self.now) in
+    let fault : c.first_fault.result ≡ fault_of_meant offsets m = rw (c.form.ensures.value, g.met.Self.Instruction.is_meant c.args.self.now offsets) at before in
+    record { fault = fault; none = rw fault (none_is (fault_of_meant offsets m) _ (no_fault offsets m.visited m.memory)) }

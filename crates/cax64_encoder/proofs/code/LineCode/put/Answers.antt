@@ -1,7 +1,7 @@
 use Rattle.std.proofs.Common.{◌∙◌, ap, Err}
 use Rattle.std.proofs.lemmas.Result.{err_from_is_err_and}
 use Rattle.cax64_sink.proofs.Runs.{ran_append, ran_refused}
-use Rattle.cax64_encoder.proofs.code.Code.put.Goals as goal
+use Rattle.cax64_encoder.proofs.code.LineCode.put.Goals as goal
 
 pub returns-in_err-put_trap : goal.returns-in_err-put_trap
 returns-in_err-put_trap g c =
