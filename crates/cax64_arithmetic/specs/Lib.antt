@@ -1,2 +1,3 @@
 pub mod Meant
-pub mod Views
+pub mod Forms
+pub mod Laws

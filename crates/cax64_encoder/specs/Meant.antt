@@ -8,7 +8,7 @@ use Rattle.cax64_machine_code.specs.declared.row.Row.{Row}
 use Rattle.cax64_sink.specs.declared.TrapCode.{TrapCode}
 use Rattle.cax64_encoder.specs.Nop.{nop_parts, nop_bytes}
 use Rattle.cax64_encoder.specs.Imm.{imm_size, imm_value}
-use Rattle.cax64_encoder.specs.Operands.{named_place, displacement_in, vvvv_number, memory_in, visited_of, can_encode, first_fault}
+use Rattle.cax64_encoder.specs.Operands.{named_place, displacement_in, vvvv_number, memory_in, visited_of, operands_without_memory, can_encode, first_fault}
 use Rattle.cax64_encoder.specs.Visited.{number_value}
 use Rattle.cax64_encoder.specs.declared.form.Form.{Form}
 use Rattle.cax64_encoder.specs.declared.form.Form.TheVariants as form
@@ -85,3 +85,8 @@ nop_meant nop = record { parts = nop_parts nop; memory = None; visited = []; exa
 abbrev pub form_meant : {M : Type 0} → (M → Bool) → (M → ℕ) → (ℕ → Option ℤ) → Row → Form M → Meant M
 form_meant settled enc offsets row (form.Nop nop) = nop_meant nop
 form_meant settled enc offsets row (form.Operands o) = operands_meant settled enc offsets row o
+
+-- the same form over other registers, without memory
+abbrev pub form_without_memory : {M N : Type 0} → Form M → Form N
+form_without_memory (form.Nop nop) = form.Nop nop
+form_without_memory (form.Operands o) = form.Operands (operands_without_memory o)

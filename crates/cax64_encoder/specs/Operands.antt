@@ -43,6 +43,15 @@ memory_in NoPlace = None
 memory_in (Register number) = None
 memory_in (Memory amode) = Some amode
 
+-- the same over other registers, without memory
+abbrev pub place_without_memory : {M N : Type 0} → PlaceOperand M → PlaceOperand N
+place_without_memory NoPlace = NoPlace
+place_without_memory (Register number) = Register number
+place_without_memory (Memory amode) = NoPlace
+
+abbrev pub operands_without_memory : {M N : Type 0} → Operands M → Operands N
+operands_without_memory o = record { reg = o.reg; vvvv = o.vvvv; place = place_without_memory o.place; imm = o.imm; fixed = o.fixed; order = o.order }
+
 -- Visits.
 
 -- the registers of an address, before those that are visited later

@@ -4,7 +4,7 @@ ghost use Rattle.std.specs.Prelude.{◌≡◌, ℕ, ℤ, Option, IsTrue, None};
 ghost use Rattle.cax64_encoder.specs.Code.{code_actions};
 ghost use Rattle.cax64_encoder.specs.Encodes.{EncodesAs};
 ghost use Rattle.cax64_encoder.specs.Fits.{form_fits};
-ghost use Rattle.cax64_encoder.specs.Meant.{form_meant, is_encodable, fault_of_meant, notice_count};
+ghost use Rattle.cax64_encoder.specs.Meant.{form_meant, form_without_memory, is_encodable, fault_of_meant, notice_count};
 ghost use Rattle.cax64_machine_code.specs.Rows.{line_of};
 ghost use Rattle.cax64_machine_code.specs.declared.row.Row.{Row};
 
@@ -43,6 +43,16 @@ impl<M: AsReg> Form<M> {
         match self {
             Form::Nop(_) => 0,
             Form::Operands(operands) => operands.place.notice_count(),
+        }
+    }
+
+    /// The same form over other registers, for an instruction without a memory operand; one would be left out.
+    pub fn without_memory<N: AsReg>(&self) -> Form<N>
+        ensures { result ≡ form_without_memory self.now }
+    {
+        match self {
+            Form::Nop(nop) => Form::Nop(*nop),
+            Form::Operands(operands) => Form::Operands(operands.without_memory()),
         }
     }
 

@@ -2,7 +2,7 @@
 
 ghost use Rattle.std.specs.Prelude.{◌≡◌, IsTrue, [], ◌∷◌, option_map};
 ghost use Rattle.cax64_encoder.specs.Meant.{memory_notices};
-ghost use Rattle.cax64_encoder.specs.Operands.{place_visits, visited_of, memory_in, sum_fault, late_fault, vvvv_number, vvvv_visited, are_encodable, fault_in, displacement_in, gpr_mem_place, xmm_mem_place};
+ghost use Rattle.cax64_encoder.specs.Operands.{place_visits, visited_of, memory_in, sum_fault, late_fault, vvvv_number, vvvv_visited, operands_without_memory, are_encodable, fault_in, displacement_in, gpr_mem_place, xmm_mem_place};
 ghost use Rattle.cax64_encoder.specs.Visited.{present};
 
 use crate::imm::ImmOperand;
@@ -197,6 +197,24 @@ impl<M: AsReg> Operands<M> {
         match first_unmet(&self.visited()) {
             Some(fault) => Some(fault),
             None => self.place.late_fault(sink),
+        }
+    }
+
+    /// The same operands over other registers. A memory operand is left out.
+    pub fn without_memory<N: AsReg>(&self) -> Operands<N>
+        ensures { result ≡ operands_without_memory self.now }
+    {
+        let place = match self.place {
+            PlaceOperand::Register(number) => PlaceOperand::Register(number),
+            _ => PlaceOperand::NoPlace,
+        };
+        Operands {
+            reg: self.reg,
+            vvvv: self.vvvv,
+            place,
+            imm: self.imm,
+            fixed: self.fixed,
+            order: self.order,
         }
     }
 

@@ -1,23 +1,44 @@
-use Rattle.std.proofs.Common.{◌≡◌, ℕ, ℤ, Bool, true, refl, Option}
+use Rattle.std.proofs.Common.{◌≡◌, ℕ, ℤ, true, refl, Option}
+use Rattle.cax64_arithmetic.specs.Laws.{mulx_is_meant}
+use Rattle.cax64_encoder.specs.Meant.{form_meant}
 use Rattle.cax64_machine_code.specs.declared.row.Row.TheVariants as row
-use Rattle.cax64_encoder.specs.Encodes.{operand_parts, memory_in}
-use Rattle.cax64_encoder.specs.Operands.{are_encodable, displacement_in}
-use Rattle.cax64_encoder.proofs.Numbers.{reg_memory_meant, reg_memory_encodable, fixed_encodable}
-use Rattle.cax64_inst.specs.Meant.{row_of, meant, encodable, memory}
-use Rattle.cax64_inst.specs.Views.{operands_of}
+use Rattle.cax64_inst.specs.Forms.{row_of, form_of}
+use Rattle.cax64_inst.specs.Meant.{meant}
+use Rattle.cax64_inst.specs.Families.{Families}
 use Rattle.cax64_inst.specs.declared.Inst.{Inst}
-use Rattle.cax64_inst.specs.declared.Inst.TheVariants.{andb_i, lock_addl_mr}
+use Rattle.cax64_inst.specs.declared.Inst.TheVariants.{jmp_d8, je_d32, nop_1b, nop_2b, nop_3b, nop_4b, nop_5b, nop_6b, nop_7b, nop_8b, nop_9b, lock_addb_mr, lock_addl_mr, lock_addw_mi, lock_addl_mi, lock_addl_mi_sxb, lock_addq_mi_sxl, lock_xaddl_mr, lock_cmpxchgl_mr, lock_cmpxchg16b_m, andb_i, xchgb_rm, shlb_m1, mulxl_rvm, mulxq_rvm, callq_m, jmpq_m, andps_a, cmpps_a, cmpss_a, vcmpps_b, vcvtpd2ps_a}
 
--- what an instruction is seen as is what is meant
-
-pub is_meant : {R A B C D E F : Type 0} (settled : A → Bool) (enc : A → ℕ) (settled_rw : B → Bool) (enc_rw : B → ℕ) (offsets : ℕ → Option ℤ) (i : Inst R A B C D E F) → encodable settled enc settled_rw enc_rw offsets i ≡ true → operand_parts enc (row_of i) (displacement_in offsets (operands_of settled enc settled_rw enc_rw i).place) (operands_of settled enc settled_rw enc_rw i) ≡ meant enc offsets i
-is_meant settled enc settled_rw enc_rw offsets (andb_i i) h = refl
-is_meant settled enc settled_rw enc_rw offsets (lock_addl_mr i) h = reg_memory_meant settled enc row.lock_addl_mr offsets i.m32 i.r32 h
-
-pub is_encodable_as : {R A B C D E F : Type 0} (settled : A → Bool) (enc : A → ℕ) (settled_rw : B → Bool) (enc_rw : B → ℕ) (offsets : ℕ → Option ℤ) (i : Inst R A B C D E F) → are_encodable settled enc offsets (operands_of settled enc settled_rw enc_rw i) ≡ encodable settled enc settled_rw enc_rw offsets i
-is_encodable_as settled enc settled_rw enc_rw offsets (andb_i i) = fixed_encodable settled_rw enc_rw i.al.0 0
-is_encodable_as settled enc settled_rw enc_rw offsets (lock_addl_mr i) = reg_memory_encodable settled enc offsets i.m32 i.r32
-
-pub is_memory : {R A B C D E F : Type 0} (settled : A → Bool) (enc : A → ℕ) (settled_rw : B → Bool) (enc_rw : B → ℕ) (i : Inst R A B C D E F) → memory_in (operands_of settled enc settled_rw enc_rw i).place ≡ memory i
-is_memory settled enc settled_rw enc_rw (andb_i i) = refl
-is_memory settled enc settled_rw enc_rw (lock_addl_mr i) = refl
+-- what an instruction is seen as is what it means
+pub is_meant : {R A B C D E F : Type 0} (f : Families A B C D E F) → ((a b : C) → f.same_write_gpr a b ≡ true → a ≡ b) → (i : Inst R A B C D E F) (offsets : ℕ → Option ℤ) → form_meant f.read_gpr.settled f.read_gpr.enc offsets (row_of i) (form_of f i) ≡ meant f i offsets
+is_meant f same (jmp_d8 i) offsets = refl
+is_meant f same (je_d32 i) offsets = refl
+is_meant f same (nop_1b i) offsets = refl
+is_meant f same (nop_2b i) offsets = refl
+is_meant f same (nop_3b i) offsets = refl
+is_meant f same (nop_4b i) offsets = refl
+is_meant f same (nop_5b i) offsets = refl
+is_meant f same (nop_6b i) offsets = refl
+is_meant f same (nop_7b i) offsets = refl
+is_meant f same (nop_8b i) offsets = refl
+is_meant f same (nop_9b i) offsets = refl
+is_meant f same (lock_addb_mr i) offsets = refl
+is_meant f same (lock_addl_mr i) offsets = refl
+is_meant f same (lock_addw_mi i) offsets = refl
+is_meant f same (lock_addl_mi i) offsets = refl
+is_meant f same (lock_addl_mi_sxb i) offsets = refl
+is_meant f same (lock_addq_mi_sxl i) offsets = refl
+is_meant f same (lock_xaddl_mr i) offsets = refl
+is_meant f same (lock_cmpxchgl_mr i) offsets = refl
+is_meant f same (lock_cmpxchg16b_m i) offsets = refl
+is_meant f same (andb_i i) offsets = refl
+is_meant f same (xchgb_rm i) offsets = refl
+is_meant f same (shlb_m1 i) offsets = refl
+is_meant f same (mulxl_rvm i) offsets = mulx_is_meant f.read_gpr f.write_gpr row.mulxl_rvm offsets i.r32a i.r32b i.rm32 i.edx.0 (f.same_write_gpr i.r32a i.r32b) (same i.r32a i.r32b)
+is_meant f same (mulxq_rvm i) offsets = mulx_is_meant f.read_gpr f.write_gpr row.mulxq_rvm offsets i.r64a i.r64b i.rm64 i.rdx.0 (f.same_write_gpr i.r64a i.r64b) (same i.r64a i.r64b)
+is_meant f same (callq_m i) offsets = refl
+is_meant f same (jmpq_m i) offsets = refl
+is_meant f same (andps_a i) offsets = refl
+is_meant f same (cmpps_a i) offsets = refl
+is_meant f same (cmpss_a i) offsets = refl
+is_meant f same (vcmpps_b i) offsets = refl
+is_meant f same (vcvtpd2ps_a i) offsets = refl

@@ -1,3 +1,4 @@
+pub mod Families
 pub mod Meant
-pub mod Views
+pub mod Forms
 pub mod Laws

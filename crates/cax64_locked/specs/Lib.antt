@@ -1,2 +1,2 @@
 pub mod Meant
-pub mod Views
+pub mod Forms

@@ -8,7 +8,8 @@ pub use cax64_address::offset::{AmodeOffset, AmodeOffsetPlusKnownOffset};
 pub use cax64_address::operand::{GprMem, XmmMem};
 pub use cax64_address::tail::emit_modrm_sib_disp;
 pub use cax64_encoder::instruction::Instruction;
-pub use cax64_immediate::Imm8;
+pub use cax64_encoder::visited::Fault;
+pub use cax64_immediate::{Imm8, Imm16, Imm32, Imm64, OutOfRange, Simm8, Simm16, Simm32};
 pub use cax64_inst::Inst;
 pub use cax64_machine_code::row::Row;
 pub use cax64_prefix::rex::RexPrefix;
@@ -33,9 +34,15 @@ pub mod xmm {
 
 /// The instructions, and the enumeration of them all.
 pub mod inst {
-    pub use cax64_arithmetic::andb_i;
+    pub use cax64_arithmetic::{andb_i, mulxl_rvm, mulxq_rvm, shlb_m1, xchgb_rm};
+    pub use cax64_branch::{callq_m, je_d32, jmp_d8, jmpq_m};
     pub use cax64_inst::Inst;
-    pub use cax64_locked::lock_addl_mr;
+    pub use cax64_locked::{
+        lock_addb_mr, lock_addl_mi, lock_addl_mi_sxb, lock_addl_mr, lock_addq_mi_sxl, lock_addw_mi,
+        lock_cmpxchg16b_m, lock_cmpxchgl_mr, lock_xaddl_mr,
+    };
+    pub use cax64_nop::{nop_1b, nop_2b, nop_3b, nop_4b, nop_5b, nop_6b, nop_7b, nop_8b, nop_9b};
+    pub use cax64_vector::{andps_a, cmpps_a, cmpss_a, vcmpps_b, vcvtpd2ps_a};
 }
 
 /// REX prefixes and displacements.
