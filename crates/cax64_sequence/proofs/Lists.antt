@@ -1,4 +1,4 @@
-use Rattle.std.proofs.Common.{◌≡◌, ℕ, zero, suc, ◌+◌, ◌-◌, ◌*◌, ◌<◌, ◌≤◌, ◌↔◌, ◌⊎◌, inl, inr, arith, List, [], ◌∷◌, ◌++◌, Bool, true, false, refl, ◌∙◌, ap, sym, subst, ℤ, Option, Some, None, Result, Ok, Err, append_assoc, append-nil, take, drop, map, length, get_or, slice_get}
+use Rattle.std.proofs.Common.{◌≡◌, ℕ, zero, suc, ◌+◌, ◌-◌, ◌<◌, ◌≤◌, ◌↔◌, inl, inr, arith, List, [], ◌∷◌, ◌++◌, Bool, true, false, refl, ◌∙◌, ap, sym, subst, ℤ, Option, Some, None, Result, Ok, Err, append_assoc, append-nil, take, drop, map, length, get_or, slice_get}
 use Rattle.std.specs.Prelude.{option_map, option_and_then, if◌then◌else◌, IfSome, IfErr, OnOk, OnErr, IsOk}
 use Rattle.std.proofs.Math.Seq.{drop-append_seam, take-length}
 use Rattle.std.proofs.lemmas.Bool.{cases_lt}
@@ -12,10 +12,15 @@ use Rattle.cax64_machine_code.specs.Sequence.{Same, EachSame, read_all, total_le
 use Rattle.cax64_machine_code.specs.declared.reading.Reading.{Reading}
 use Rattle.cax64_sequence.specs.List.{each_notices, EachShortest, EachExact, total_len, total_notices, AddsAll, LeavesAll}
 use Rattle.cax64_sequence.specs.declared.sequence.Refused.{Refused}
+use Rattle.cax64_encoder.proofs.Instructions.{taken_fits}
+use Rattle.cax64_sink.specs.FixedSink.{fixed_sink_state}
 use Rattle.cax64_sink.specs.Keeps.{Keeps}
 use Rattle.cax64_sink.specs.Room.{Room, HasRoom, FallsBy}
-use Rattle.cax64_sink.specs.Sink.{State}
+use Rattle.cax64_sink.specs.Sink.{State, is_full}
 use Rattle.cax64_sink.specs.declared.Notice.{Notice}
+use Rattle.cax64_sink.specs.declared.SinkError.{SinkError}
+use Rattle.cax64_sink.specs.declared.SinkError.TheVariants.{NoMemory, Full}
+use Rattle.cax64_sink.specs.declared.fixed_sink.FixedSink.{FixedSink}
 use Rattle.cax64_sink.proofs.Runs.{told_next}
 use Rattle.cax64_sink.proofs.Rooms.{less_room}
 
@@ -249,12 +254,12 @@ refused_late meant xs i j x old now within e bytes notices refused byte_room not
     let all_len : total_len (take (i + 1) ms) ≡ total_len (map meant (take i xs)) + len (meant x) = ap total_len one_more ∙ len_more (map meant (take i xs)) (meant x) in
     let all_notices : total_notices (take (i + 1) ms) ≡ total_notices (map meant (take i xs)) + notice_count (meant x) = ap total_notices one_more ∙ notice_count_more (map meant (take i xs)) (meant x) in
     elim (cases_lt i j) [
-      inl h ↦
-        let next : i + 1 ≤ j = omega arith in
-        absurd (refused
-        (room_left old.byte_room now.byte_room (total_len (map meant (take i xs))) (len (meant x)) (total_len (take j ms)) (omega (arith, all_len, len_of_fewer ms (i + 1) j next)) bytes byte_room)
-        (room_left old.notice_room now.notice_room (total_notices (map meant (take i xs))) (notice_count (meant x)) (total_notices (take j ms)) (omega (arith, all_notices, notices_of_fewer ms (i + 1) j next)) notices notice_room))
-    | inr h ↦ h
+      | inl h ↦
+          let next : i + 1 ≤ j = omega arith in
+          absurd (refused
+          (room_left old.byte_room now.byte_room (total_len (map meant (take i xs))) (len (meant x)) (total_len (take j ms)) (omega (arith, all_len, len_of_fewer ms (i + 1) j next)) bytes byte_room)
+          (room_left old.notice_room now.notice_room (total_notices (map meant (take i xs))) (notice_count (meant x)) (total_notices (take j ms)) (omega (arith, all_notices, notices_of_fewer ms (i + 1) j next)) notices notice_room))
+      | inr h ↦ h
     ]
 
 -- a list that stopped at an instruction
@@ -285,16 +290,16 @@ all_taken meant xs old now s t r e bytes notices leaves room =
     whole_or_stopped ms (length xs) s t r (length-map xs (λ i. meant i now)) leaves
     (room (length xs) (omega arith) (subst (λ z. HasRoom s.byte_room (total_len z)) whole bytes) (subst (λ z. HasRoom s.notice_room (total_notices z)) whole notices))
 
+from_ok : {P : Type 0} (r : Result (Unit {0}) Refused) → IsOk r → OnOk r P → P
+from_ok (Ok u) ok h = h
+from_ok (Err e) ok h = absurd (err_is_no_ok e ok)
+
 -- A list that a state has room for, which has all else from an earlier state: it is taken, as from the earlier state.
 pub whole_list : {A M : Type 0} (meant : A → (ℕ → Option ℤ) → Meant M) (xs : List A) (s u t : State) (r : Result (Unit {0}) Refused) → u.bytes ≡ s.bytes → u.notices ≡ s.notices → u.records ≡ s.records → u.offsets ≡ s.offsets → HasRoom u.byte_room (total_len (map (λ i. meant i s.offsets) xs)) → HasRoom u.notice_room (total_notices (map (λ i. meant i s.offsets) xs)) → OnOk r (AddsAll (map (λ i. meant i u.offsets) xs) u t) → IfErr r (λ e. LeavesAll (map (λ i. meant i u.offsets) xs) e.whole u t) → ((j : ℕ) → j ≤ length xs → HasRoom u.byte_room (total_len (take j (map (λ i. meant i u.offsets) xs))) → HasRoom u.notice_room (total_notices (take j (map (λ i. meant i u.offsets) xs))) → IfErr r (λ e. j ≤ e.whole)) → IsOk r × AddsAll (map (λ i. meant i s.offsets) xs) s t
 whole_list meant xs s u t r bytes notices records offsets byte_room notice_room adds leaves room =
     let ok = all_taken meant xs s.offsets u.offsets u t r offsets byte_room notice_room leaves room in
     let added : AddsAll (map (λ i. meant i u.offsets) xs) s t = adds_from s u t bytes notices records (from_ok r ok adds) in
     (ok, subst (λ o. AddsAll (map (λ i. meant i o) xs) s t) offsets added)
-  where
-    from_ok : {P : Type 0} (r : Result (Unit {0}) Refused) → IsOk r → OnOk r P → P
-    from_ok (Ok u) ok h = h
-    from_ok (Err e) ok h = absurd (err_is_no_ok e ok)
 
 -- what is said of an Ok and of an Err, where there is an Ok
 pub on_ok : {E P : Type 0} (r : Result (Unit {0}) E) → P → OnOk r P
@@ -308,3 +313,33 @@ no_err P (Err e) ok = absurd (err_is_no_ok e ok)
 pub never_err : {E : Type 0} (P : E → Type 0) (r : Result (Unit {0}) E) → IsOk r → IfErr r P
 never_err P (Ok u) ok = tt
 never_err P (Err e) ok = absurd (err_is_no_ok e ok)
+
+-- Sinks of fixed size.
+
+-- a list that a fixed sink has got, with perhaps more behind it, fitted in what was left
+front_fits : {M : Type 0} {N : ℕ} (ms : List (Meant M)) (s t : FixedSink N) (u : State) (left : List ℕ) → AddsAll ms (fixed_sink_state s) u → (fixed_sink_state t).bytes ≡ u.bytes ++ left → total_len ms ≤ N - length (fixed_sink_state s).bytes
+front_fits ms s t u left h e =
+    let old = (fixed_sink_state s).bytes in
+    let fit = taken_fits s t (h.added ++ left) (total_len ms + length left) (e ∙ ap (λ x. x ++ left) h.bytes ∙ append_assoc old h.added left) (length-append h.added left ∙ ap (λ n. n + length left) h.length) in
+    omega (arith, fit)
+
+-- a fixed sink takes a list exactly where its bytes fit in what is left
+pub fixed_takes_all : {A M : Type 0} {N : ℕ} (meant : A → Meant M) (xs : List A) (s t : FixedSink N) (r : Result (Unit {0}) Refused) → OnOk r (AddsAll (map meant xs) (fixed_sink_state s) (fixed_sink_state t)) → IfErr r (λ e. LeavesAll (map meant xs) e.whole (fixed_sink_state s) (fixed_sink_state t)) → ((j : ℕ) → j ≤ length xs → HasRoom (fixed_sink_state s).byte_room (total_len (take j (map meant xs))) → HasRoom (fixed_sink_state s).notice_room (total_notices (take j (map meant xs))) → IfErr r (λ e. j ≤ e.whole)) → IsOk r ↔ (total_len (map meant xs) ≤ N - length (fixed_sink_state s).bytes)
+fixed_takes_all meant xs s t r adds leaves room =
+    (λ ok. let h = from_ok r ok adds in taken_fits s t h.added (total_len (map meant xs)) h.bytes h.length, λ fit. all_taken (λ i o. meant i) xs (λ n. None) (λ n. None) (fixed_sink_state s) (fixed_sink_state t) r refl fit tt leaves room)
+
+-- and where they don't, of the fronts of the list exactly those that fit are whole
+pub fixed_takes_front : {A M : Type 0} {N : ℕ} (meant : A → Meant M) (xs : List A) (s t : FixedSink N) (r : Result (Unit {0}) Refused) → IfErr r (λ e. LeavesAll (map meant xs) e.whole (fixed_sink_state s) (fixed_sink_state t)) → ((j : ℕ) → j ≤ length xs → HasRoom (fixed_sink_state s).byte_room (total_len (take j (map meant xs))) → HasRoom (fixed_sink_state s).notice_room (total_notices (take j (map meant xs))) → IfErr r (λ e. j ≤ e.whole)) → IfErr r (λ e. (j : ℕ) → j ≤ length xs → (j ≤ e.whole) ↔ (total_len (take j (map meant xs)) ≤ N - length (fixed_sink_state s).bytes))
+fixed_takes_front meant xs s t (Ok u) leaves room = tt
+fixed_takes_front {N = N} meant xs s t (Err e) leaves room =
+    let fit = front_fits (take e.whole (map meant xs)) s t leaves.between leaves.leaves.left leaves.adds leaves.leaves.bytes in
+    λ j within. (λ h. omega (arith, fit, len_of_fewer (map meant xs) j e.whole h), λ enough. room j within enough tt)
+
+full_is : (e : SinkError) → is_full e ≡ true → e ≡ Full
+full_is NoMemory h = cc
+full_is Full h = refl
+
+-- the error of a sink that can answer `Full` alone
+pub full_error : (r : Result (Unit {0}) Refused) → IfErr r (λ e. is_full e.error ≡ true) → IfErr r (λ e. e.error ≡ Full)
+full_error (Ok u) h = tt
+full_error (Err e) h = full_is e.error h

@@ -2,7 +2,8 @@
 #![tactic(auto)]
 
 pub mod laws;
-pub mod sequence;
-pub mod whole;
+mod sequence;
+mod whole;
 
-pub use sequence::{Refused};
+pub use sequence::{Refused, encode_all};
+pub use whole::encode_all_whole;
