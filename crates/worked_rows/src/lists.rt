@@ -2,10 +2,11 @@ use crate::Numbers;
 use crate::operands::{add, based, relative};
 use cax64_sink_refusals::RefusingSink;
 use cranelift_assembler_x64::inst::{andb_i, callq_m, nop_1b, nop_9b};
+use cranelift_assembler_x64::laws::{encode_all_to_fixed_sink, encode_to_fixed_sink};
 use cranelift_assembler_x64::reader::read_inst;
 use cranelift_assembler_x64::{
     CodeSink, Fixed, FixedSink, GprMem, Imm8, Inst, Instruction, Notice, Recorder, Refused, Row,
-    SinkError, TrapCode, encode_all,
+    SinkError, TrapCode, encode_all, encode_all_whole,
 };
 use std::num::NonZeroU8;
 use std::process::Abort;
@@ -108,6 +109,11 @@ fn a_list_reads_back_in_turn(rt: HostRuntime) -> Result<(), Fail> {
     assert_eq!(rt; (first.row, first.length), (Row::nopw_rm, 9));
     let second = read_inst(&sink.bytes()[9..]).ok_or("no second reading")?;
     assert_eq!(rt; (second.row, second.length), (Row::andb_i, 2));
+    let mut whole = Recorder::new(rt.alloc());
+    assert!(rt; insts.iter().all(|i| i.is_encodable(&whole)));
+    assert_eq!(rt; encode_all_whole(&insts, &mut whole), Ok(()));
+    assert_eq!(rt; whole.bytes(), bytes.as_slice());
+    assert!(rt; whole.notices().is_empty());
     Ok(())
 }
 
@@ -151,4 +157,27 @@ fn the_fourth_call_of_a_list_is_refused(rt: HostRuntime) -> Result<(), Fail> {
     assert_eq!(rt; recorder.bytes(), [0x90, 0xF0].as_slice());
     assert_eq!(rt; recorder.notices(), [Notice::Trap(1, code)].as_slice());
     Ok(())
+}
+
+/// The laws hold of these very calls.
+#[test]
+fn a_sink_of_fixed_size_takes_what_fits(rt: HostRuntime) {
+    let insts = [and(0xAA), nop_1b::new().into()];
+    let mut three = FixedSink::<3>::new();
+    assert!(rt; insts.iter().all(|i| i.is_encodable(&three)));
+    assert_eq!(rt; encode_all_to_fixed_sink(&insts, &mut three), Ok(()));
+    assert_eq!(rt; three.bytes(), [0x24, 0xAA, 0x90].as_slice());
+    assert!(rt; insts[1].is_encodable(&three));
+    assert_eq!(rt;
+        encode_to_fixed_sink(&insts[1], &mut three),
+        Err(SinkError::Full)
+    );
+    let mut two = FixedSink::<2>::new();
+    assert!(rt; insts.iter().all(|i| i.is_encodable(&two)));
+    let refused = Refused {
+        whole: 1,
+        error: SinkError::Full,
+    };
+    assert_eq!(rt; encode_all_to_fixed_sink(&insts, &mut two), Err(refused));
+    assert_eq!(rt; two.bytes(), [0x24, 0xAA].as_slice());
 }
