@@ -28,9 +28,10 @@ pub trait Instruction {
     // What the instruction means, for the offsets that a sink knows.
     ghost meant: { Self → (ℕ → Option ℤ) → Meant Self.Base };
 
-    /// The row of the table.
+    /// The row of the table, as a reading of the bytes has it.
     fn row(&self) -> Row
-        ensures { result ≡ row_of self.now };
+        ensures value { result ≡ row_of self.now }
+        ensures meant { (offsets : ℕ → Option ℤ) → result ≡ (meant self.now offsets).parts.row };
 
     fn form(&self) -> Form<Self::Base>
         ensures value { result ≡ form_of self.now }

@@ -7,7 +7,7 @@ use Rattle.cax64_encoder.proofs.instruction.Instruction.encode.Goals as goal
 pub returns : goal.returns
 returns g c =
     let offsets = (g.S.CodeSink.state c.args.sink.now).offsets in
-    let meant : EncodesAs (g.Self.Instruction.meant c.args.self.now offsets) (code_actions c.code-code.result) = rw (c.row.ensures, c.form.ensures.value, g.met.Self.Instruction.is_meant c.args.self.now offsets) at c.code-code.ensures in
+    let meant : EncodesAs (g.Self.Instruction.meant c.args.self.now offsets) (code_actions c.code-code.result) = rw (c.row.ensures.value, c.form.ensures.value, g.met.Self.Instruction.is_meant c.args.self.now offsets) at c.code-code.ensures in
     record {
       adds = run_adds c.put.result meant c.put.ensures;
       leaves = run_leaves c.put.result meant c.put.ensures;
