@@ -86,31 +86,28 @@ fn fixed_registers(rt: HostRuntime) {
     );
 }
 
-fn multiply(high: u8, low: u8, source: u8, other: u8) -> Inst<Numbers> {
-    mulxq_rvm::new(
-        Gpr::new(high),
-        Gpr::new(low),
-        GprMem::Gpr(source),
-        Fixed(other),
-    )
-    .into()
+fn check_multiply(rt: &impl Abort, sink: &Vec<u8>, numbers: [u8; 4], fault: Option<Fault>) {
+    let source: GprMem<u8, u8> = GprMem::from(numbers[2]);
+    let inst = mulxq_rvm::<Numbers>::new(
+        Gpr::new(numbers[0]),
+        Gpr::new(numbers[1]),
+        source,
+        Fixed(numbers[3]),
+    );
+    assert_eq!(rt; inst.first_fault(sink), fault);
+    assert_eq!(rt; inst.is_encodable(sink), fault.is_none());
 }
 
 #[test]
 fn equal_destinations_are_counted_once(rt: HostRuntime) {
     let sink: Vec<u8> = Vec::new(rt.alloc());
-    check(&rt, &sink, &multiply(1, 1, 99, 2), Some(Fault::Register(1)));
-    check(&rt, &sink, &multiply(1, 2, 99, 2), Some(Fault::Register(2)));
-    check(&rt, &sink, &multiply(1, 99, 8, 2), Some(Fault::Register(1)));
-    check(
-        &rt,
-        &sink,
-        &multiply(99, 99, 8, 2),
-        Some(Fault::Register(0)),
-    );
-    check(&rt, &sink, &multiply(1, 1, 8, 3), Some(Fault::Fixed(2)));
-    check(&rt, &sink, &multiply(1, 2, 8, 3), Some(Fault::Fixed(3)));
-    check(&rt, &sink, &multiply(1, 2, 8, 2), None);
+    check_multiply(&rt, &sink, [1, 1, 99, 2], Some(Fault::Register(1)));
+    check_multiply(&rt, &sink, [1, 2, 99, 2], Some(Fault::Register(2)));
+    check_multiply(&rt, &sink, [1, 99, 8, 2], Some(Fault::Register(1)));
+    check_multiply(&rt, &sink, [99, 99, 8, 2], Some(Fault::Register(0)));
+    check_multiply(&rt, &sink, [1, 1, 8, 3], Some(Fault::Fixed(2)));
+    check_multiply(&rt, &sink, [1, 2, 8, 3], Some(Fault::Fixed(3)));
+    check_multiply(&rt, &sink, [1, 2, 8, 2], None);
 }
 
 #[test]

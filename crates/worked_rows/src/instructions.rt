@@ -206,20 +206,26 @@ fn nops(rt: HostRuntime) {
     );
 }
 
+fn check_len<I: Instruction>(rt: &impl Abort, inst: &I, sink: &Vec<u8>, len: u8) {
+    assert!(rt; inst.is_encodable(sink));
+    assert_eq!(rt; inst.encoded_len(sink), len);
+}
+
 #[test]
 fn lengths(rt: HostRuntime) {
     let sink: Vec<u8> = Vec::new(rt.alloc());
-    assert_eq!(rt; long_add().encoded_len(&sink), 13);
+    check_len(&rt, &long_add(), &sink, 13);
+    check_len(&rt, &nop_7b::new(), &sink, 7);
     let shift: shlb_m1<Numbers> = shlb_m1::new(GprMem::Gpr(0));
-    assert_eq!(rt; shift.encoded_len(&sink), 3);
-    assert_eq!(rt; nop_7b::new().encoded_len(&sink), 7);
+    check_len(&rt, &shift, &sink, 3);
 }
 
 #[test]
 fn the_target_is_told_before_its_bytes(rt: HostRuntime) {
+    let compare = relative_compare();
     let mut sink = Recorder::new(rt.alloc());
-    assert!(rt; relative_compare().is_encodable(&sink));
-    assert_eq!(rt; relative_compare().encode(&mut sink), Ok(()));
+    assert!(rt; compare.is_encodable(&sink));
+    assert_eq!(rt; compare.encode(&mut sink), Ok(()));
     let target = DeferredTarget::Constant(Constant(3));
     assert_eq!(rt; sink.notices(), [Notice::Target(3, target)].as_slice());
 }

@@ -8,6 +8,7 @@ use cranelift_assembler_x64::{
     CodeSink, Fixed, FixedSink, GprMem, Imm8, Inst, Instruction, Notice, Recorder, Refused, Row,
     SinkError, TrapCode, encode_all, encode_all_whole,
 };
+use std::alloc::Allocator;
 use std::num::NonZeroU8;
 use std::process::Abort;
 use std::test::Fail;
@@ -110,8 +111,7 @@ fn a_list_reads_back_in_turn(rt: HostRuntime) -> Result<(), Fail> {
     let second = read_inst(&sink.bytes()[9..]).ok_or("no second reading")?;
     assert_eq!(rt; (second.row, second.length), (Row::andb_i, 2));
     let mut whole = Recorder::new(rt.alloc());
-    assert!(rt; insts.iter().all(|i| i.is_encodable(&whole)));
-    assert_eq!(rt; encode_all_whole(&insts, &mut whole), Ok(()));
+    assert_eq!(rt; put_all_whole(&rt, &insts, &mut whole), Ok(()));
     assert_eq!(rt; whole.bytes(), bytes.as_slice());
     assert!(rt; whole.notices().is_empty());
     Ok(())
@@ -159,25 +159,49 @@ fn the_fourth_call_of_a_list_is_refused(rt: HostRuntime) -> Result<(), Fail> {
     Ok(())
 }
 
-/// The laws hold of these very calls.
+/// Encodes a list whole, each instruction of which has to be encodable.
+fn put_all_whole<A: Allocator>(
+    rt: &impl Abort,
+    insts: &[Inst<Numbers>],
+    recorder: &mut Recorder<A>,
+) -> Result<(), SinkError> {
+    assert!(rt; insts.iter().all(|i| i.is_encodable(recorder)));
+    assert!(rt; insts.len() <= usize::MAX / 13);
+    encode_all_whole(insts, recorder)
+}
+
+/// The same into a sink of fixed size, where the call has a law of its own.
+fn put_all_fixed<const N: usize>(
+    rt: &impl Abort,
+    insts: &[Inst<Numbers>],
+    sink: &mut FixedSink<N>,
+) -> Result<(), Refused> {
+    assert!(rt; insts.iter().all(|i| i.is_encodable(sink)));
+    encode_all_to_fixed_sink(insts, sink)
+}
+
 #[test]
 fn a_sink_of_fixed_size_takes_what_fits(rt: HostRuntime) {
     let insts = [and(0xAA), nop_1b::new().into()];
     let mut three = FixedSink::<3>::new();
-    assert!(rt; insts.iter().all(|i| i.is_encodable(&three)));
-    assert_eq!(rt; encode_all_to_fixed_sink(&insts, &mut three), Ok(()));
+    assert_eq!(rt; put_all_fixed(&rt, &insts, &mut three), Ok(()));
     assert_eq!(rt; three.bytes(), [0x24, 0xAA, 0x90].as_slice());
-    assert!(rt; insts[1].is_encodable(&three));
-    assert_eq!(rt;
-        encode_to_fixed_sink(&insts[1], &mut three),
-        Err(SinkError::Full)
-    );
     let mut two = FixedSink::<2>::new();
-    assert!(rt; insts.iter().all(|i| i.is_encodable(&two)));
     let refused = Refused {
         whole: 1,
         error: SinkError::Full,
     };
-    assert_eq!(rt; encode_all_to_fixed_sink(&insts, &mut two), Err(refused));
+    assert_eq!(rt; put_all_fixed(&rt, &insts, &mut two), Err(refused));
     assert_eq!(rt; two.bytes(), [0x24, 0xAA].as_slice());
+}
+
+#[test]
+fn a_full_sink_refuses_an_instruction(rt: HostRuntime) {
+    let nop = nop_1b::new();
+    let mut one = FixedSink::<1>::new();
+    assert!(rt; nop.is_encodable(&one));
+    assert_eq!(rt; encode_to_fixed_sink(&nop, &mut one), Ok(()));
+    assert!(rt; nop.is_encodable(&one));
+    assert_eq!(rt; encode_to_fixed_sink(&nop, &mut one), Err(SinkError::Full));
+    assert_eq!(rt; one.bytes(), [0x90].as_slice());
 }
