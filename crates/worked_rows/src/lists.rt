@@ -170,11 +170,11 @@ fn put_all_whole<A: Allocator>(
     encode_all_whole(insts, recorder)
 }
 
-/// The same into a sink of fixed size, where the call has a law of its own.
-fn put_all_fixed<const N: usize>(
+/// The same into a sink of three bytes, where the call has a law of its own.
+fn put_all_in_three(
     rt: &impl Abort,
     insts: &[Inst<Numbers>],
-    sink: &mut FixedSink<N>,
+    sink: &mut FixedSink<3>,
 ) -> Result<(), Refused> {
     assert!(rt; insts.iter().all(|i| i.is_encodable(sink)));
     encode_all_to_fixed_sink(insts, sink)
@@ -182,17 +182,18 @@ fn put_all_fixed<const N: usize>(
 
 #[test]
 fn a_sink_of_fixed_size_takes_what_fits(rt: HostRuntime) {
-    let insts = [and(0xAA), nop_1b::new().into()];
-    let mut three = FixedSink::<3>::new();
-    assert_eq!(rt; put_all_fixed(&rt, &insts, &mut three), Ok(()));
-    assert_eq!(rt; three.bytes(), [0x24, 0xAA, 0x90].as_slice());
-    let mut two = FixedSink::<2>::new();
+    let fits = [and(0xAA), nop_1b::new().into()];
+    let mut sink = FixedSink::<3>::new();
+    assert_eq!(rt; put_all_in_three(&rt, &fits, &mut sink), Ok(()));
+    assert_eq!(rt; sink.bytes(), [0x24, 0xAA, 0x90].as_slice());
+    let longer = [nop_1b::new().into(), and(0xAA), nop_1b::new().into()];
+    let mut sink = FixedSink::<3>::new();
     let refused = Refused {
-        whole: 1,
+        whole: 2,
         error: SinkError::Full,
     };
-    assert_eq!(rt; put_all_fixed(&rt, &insts, &mut two), Err(refused));
-    assert_eq!(rt; two.bytes(), [0x24, 0xAA].as_slice());
+    assert_eq!(rt; put_all_in_three(&rt, &longer, &mut sink), Err(refused));
+    assert_eq!(rt; sink.bytes(), [0x90, 0x24, 0xAA].as_slice());
 }
 
 #[test]
