@@ -1,13 +1,15 @@
-use Rattle.std.proofs.Common.{◌≡◌, ◌≢◌, ℕ, ◌<◌, ◌≤◌, arith, refl, ◌∙◌, ap, List, [], ◌∷◌, ◌++◌, Bool, true, length, Result, Ok, Err, Option, Some, None}
+use Rattle.std.proofs.Common.{◌≡◌, ◌≢◌, ◌↔◌, ℕ, ◌+◌, ◌-◌, ◌<◌, ◌≤◌, arith, length-append, refl, ◌∙◌, ap, List, [], ◌∷◌, ◌++◌, Bool, true, length, Result, Ok, Err, Option, Some, None}
 use Rattle.std.specs.Prelude.{if◌then◌else◌, OnOk, OnErr, IfErr, IsOk}
 use Rattle.cax64_machine_code.specs.declared.reading.Reading.{Reading}
+use Rattle.cax64_sink.specs.FixedSink.{fixed_sink_state}
 use Rattle.cax64_sink.specs.Room.{HasRoom, FallsBy}
 use Rattle.cax64_sink.specs.Sink.{State, Action, Ran, all_bytes, all_notices, size, notes}
 use Rattle.cax64_sink.specs.declared.SinkError.{SinkError}
+use Rattle.cax64_sink.specs.declared.fixed_sink.FixedSink.{FixedSink}
 use Rattle.cax64_sink.specs.declared.Notice.{Notice}
 use Rattle.cax64_sink.proofs.Runs.{ran_bytes, ran_notices, ran_error}
 use Rattle.cax64_sink.proofs.Refusals.{ran_refusal}
-use Rattle.cax64_sink.proofs.Rooms.{less_room, ran_succeeds, ran_byte_room, ran_notice_room, size_is_length, notes_is_length}
+use Rattle.cax64_sink.proofs.Rooms.{less_room, ran_succeeds, ran_byte_room, ran_notice_room, size_is_length, notes_is_length, bytes_fit}
 use Rattle.cax64_sink.proofs.Ends.{refused_bytes, refused_notices}
 use Rattle.cax64_address.specs.declared.amode.Amode.{Amode}
 use Rattle.cax64_address.specs.declared.amode.Amode.TheVariants.{ImmReg, ImmRegRegShift, RipRelative}
@@ -68,7 +70,7 @@ notices_counted (Some (ImmRegRegShift base index scale simm32 (Some code))) at r
 notices_counted (Some (RipRelative target)) at read = refl
 
 -- an instruction has one notice at most
-one_notice : {M : Type 0} (memory : Option (Amode M)) → memory_notices memory ≤ 1
+pub one_notice : {M : Type 0} (memory : Option (Amode M)) → memory_notices memory ≤ 1
 one_notice None = omega arith
 one_notice (Some (ImmReg base simm32 None)) = omega arith
 one_notice (Some (ImmReg base simm32 (Some code))) = omega arith
@@ -105,3 +107,17 @@ run_bytes_fall {acts = acts} {s} h run k room = ran_byte_room run k (rw (bytes_a
 
 pub run_notices_fall : {M : Type 0} {m : Meant M} {acts : List Action} {s t : State} {r : Result (Unit {0}) SinkError} → EncodesAs m acts → Ran acts s t r → FallsBy s.notice_room t.notice_room (notice_count m)
 run_notices_fall {acts = acts} {s} h run k room = ran_notice_room run k (rw (notices_are h) room)
+
+-- what a fixed sink took fitted in what was left
+pub taken_fits : {N : ℕ} (s t : FixedSink N) (added : List ℕ) (n : ℕ) → (fixed_sink_state t).bytes ≡ (fixed_sink_state s).bytes ++ added → length added ≡ n → n ≤ N - length (fixed_sink_state s).bytes
+taken_fits {N = N} s t added n e h =
+    let old : List ℕ = (fixed_sink_state s).bytes in
+    let new : List ℕ = (fixed_sink_state t).bytes in
+    let sum : length new ≡ length old + length added = ap length e ∙ length-append old added in
+    let fit : length new ≤ N = bytes_fit t in
+    omega arith
+
+-- a fixed sink takes an instruction exactly where its bytes fit in what is left
+pub fixed_takes : {M : Type 0} {N : ℕ} (m : Meant M) (s t : FixedSink N) (r : Result (Unit {0}) SinkError) → OnOk r (AddsInstruction m (fixed_sink_state s) (fixed_sink_state t)) → (HasRoom (fixed_sink_state s).byte_room (len m) → HasRoom (fixed_sink_state s).notice_room (notice_count m) → IsOk r) → IsOk r ↔ (len m ≤ N - length (fixed_sink_state s).bytes)
+fixed_takes m s t (Ok tt) h room = (λ _. taken_fits s t h.added (len m) h.bytes h.length, λ _. refl)
+fixed_takes m s t (Err e) h room = (λ (bad : IsOk {T = Unit {0}} (Err e)). cc, λ fit. room fit tt)

@@ -1,11 +1,12 @@
 //! What an instruction is put from.
 
-ghost use Rattle.std.specs.Prelude.{◌≡◌, IsTrue, None};
+ghost use Rattle.std.specs.Prelude.{◌≡◌, ℕ, ℤ, Option, IsTrue, None};
 ghost use Rattle.cax64_encoder.specs.Code.{code_actions};
 ghost use Rattle.cax64_encoder.specs.Encodes.{EncodesAs};
 ghost use Rattle.cax64_encoder.specs.Fits.{form_fits};
-ghost use Rattle.cax64_encoder.specs.Meant.{form_meant, form_without_memory, is_encodable, fault_of_meant};
+ghost use Rattle.cax64_encoder.specs.Meant.{form_meant, form_without_memory, is_encodable, fault_of_meant, notice_count};
 ghost use Rattle.cax64_machine_code.specs.Rows.{line_of};
+ghost use Rattle.cax64_machine_code.specs.declared.row.Row.{Row};
 
 use crate::code::Code;
 use crate::encoder::code_of;
@@ -32,6 +33,16 @@ impl<M: AsReg> Form<M> {
         match self {
             Form::Nop(_) => None,
             Form::Operands(operands) => operands.first_fault(sink),
+        }
+    }
+
+    /// How many notices the instruction has.
+    pub fn notice_count(&self) -> u8
+        ensures { (row : Row) (offsets : ℕ → Option ℤ) → result ≡ notice_count (form_meant M.settled M.enc offsets row self.now) }
+    {
+        match self {
+            Form::Nop(_) => 0,
+            Form::Operands(operands) => operands.place.notice_count(),
         }
     }
 

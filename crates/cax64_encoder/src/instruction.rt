@@ -63,6 +63,13 @@ pub trait Instruction {
         self.form().code(self.row(), sink).len()
     }
 
+    /// The number of notices that `encode` tells the sink of, 0 or 1: of a trap, or of a target.
+    final fn notice_count(&self) -> u8
+        ensures { (offsets : ℕ → Option ℤ) → result ≡ notice_count (meant self.now offsets) }
+    {
+        self.form().notice_count()
+    }
+
     /// Puts the machine code, and tells the sink of a trap or a target.
     final fn encode<S: CodeSink>(&self, sink: &mut S) -> Result<(), SinkError>
         requires { IsTrue (is_encodable (S.state sink.old).offsets (meant self.now (S.state sink.old).offsets)) }

@@ -9,6 +9,7 @@ pub mod encoder;
 pub mod form;
 pub mod imm;
 pub mod instruction;
+pub mod laws;
 pub mod nop;
 pub mod operands;
 pub mod visited;

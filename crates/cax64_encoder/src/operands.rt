@@ -1,6 +1,7 @@
 //! The operands that every instruction can be seen as.
 
 ghost use Rattle.std.specs.Prelude.{◌≡◌, IsTrue, [], ◌∷◌, option_map};
+ghost use Rattle.cax64_encoder.specs.Meant.{memory_notices};
 ghost use Rattle.cax64_encoder.specs.Operands.{place_visits, visited_of, memory_in, sum_fault, late_fault, vvvv_number, vvvv_visited, operands_without_memory, are_encodable, fault_in, displacement_in, gpr_mem_place, xmm_mem_place};
 ghost use Rattle.cax64_encoder.specs.Visited.{present};
 
@@ -103,6 +104,17 @@ impl<M: AsReg> PlaceOperand<M> {
                 )
             }
             PlaceOperand::Memory(Amode::RipRelative { .. }) => (None, None),
+        }
+    }
+
+    /// How many notices an instruction with this place has: of a trap, or of a target.
+    pub fn notice_count(&self) -> u8
+        ensures { result ≡ memory_notices (memory_in self.now) }
+    {
+        match *self {
+            PlaceOperand::Memory(Amode::RipRelative { .. }) => 1,
+            PlaceOperand::Memory(amode) => u8::from(amode.trap_code().is_some()),
+            _ => 0,
         }
     }
 

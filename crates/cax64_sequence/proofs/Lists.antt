@@ -1,20 +1,26 @@
-use Rattle.std.proofs.Common.{◌≡◌, ℕ, zero, suc, ◌+◌, ◌*◌, ◌<◌, ◌≤◌, arith, List, [], ◌∷◌, ◌++◌, Bool, true, false, refl, ◌∙◌, ap, sym, Option, Some, None, append_assoc, append-nil, take, drop, map, length, get_or, slice_get}
-use Rattle.std.specs.Prelude.{option_map, option_and_then, if◌then◌else◌}
+use Rattle.std.proofs.Common.{◌≡◌, ℕ, zero, suc, ◌+◌, ◌-◌, ◌<◌, ◌≤◌, ◌↔◌, inl, inr, arith, List, [], ◌∷◌, ◌++◌, Bool, true, false, refl, ◌∙◌, ap, sym, subst, ℤ, Option, Some, None, Result, Ok, Err, append_assoc, append-nil, take, drop, map, length, get_or, slice_get}
+use Rattle.std.specs.Prelude.{option_map, option_and_then, if◌then◌else◌, IfSome, IfErr, OnOk, OnErr, IsOk}
 use Rattle.std.proofs.Math.Seq.{drop-append_seam, take-length}
-use Rattle.std.proofs.Math.Nat.{mul-le-mul_left}
+use Rattle.std.proofs.lemmas.Bool.{cases_lt}
 use Rattle.std.proofs.lemmas.List.{take_more, map-append, length-append, length-map, take-append-le, drop-append-le, length-drop}
 use Rattle.std.proofs.lemmas.Option.{slice_get_read, slice_get-map}
-use Rattle.cax64_address.specs.declared.amode.Amode.{Amode}
 use Rattle.cax64_encoder.specs.Encodes.{notices_of, ShortestFor}
 use Rattle.cax64_encoder.specs.Instruction.{AddsInstruction, LeavesInstruction}
+use Rattle.cax64_encoder.specs.Meant.{Meant, len, notice_count}
 use Rattle.cax64_machine_code.specs.Reading.{Parts, read}
 use Rattle.cax64_machine_code.specs.Sequence.{Same, EachSame, read_all, total_length, ReadsAs, ReadsAllAs}
 use Rattle.cax64_machine_code.specs.declared.reading.Reading.{Reading}
-use Rattle.cax64_sequence.specs.List.{each_notices, EachShortest, AddsAll, LeavesAll}
+use Rattle.cax64_sequence.specs.List.{each_notices, EachShortest, EachExact, total_len, total_notices, AddsAll, LeavesAll}
+use Rattle.cax64_sequence.specs.declared.sequence.Refused.{Refused}
+use Rattle.cax64_encoder.proofs.Instructions.{taken_fits}
+use Rattle.cax64_sink.specs.FixedSink.{fixed_sink_state}
 use Rattle.cax64_sink.specs.Keeps.{Keeps}
 use Rattle.cax64_sink.specs.Room.{Room, HasRoom, FallsBy}
-use Rattle.cax64_sink.specs.Sink.{State}
+use Rattle.cax64_sink.specs.Sink.{State, is_full}
 use Rattle.cax64_sink.specs.declared.Notice.{Notice}
+use Rattle.cax64_sink.specs.declared.SinkError.{SinkError}
+use Rattle.cax64_sink.specs.declared.SinkError.TheVariants.{NoMemory, Full}
+use Rattle.cax64_sink.specs.declared.fixed_sink.FixedSink.{FixedSink}
 use Rattle.cax64_sink.proofs.Runs.{told_next}
 use Rattle.cax64_sink.proofs.Rooms.{less_room}
 
@@ -69,53 +75,98 @@ total_more : (rs : List Reading) (r : Reading) → total_length (rs ++ r ∷ [])
 total_more [] r = omega arith
 total_more (q ∷ rs) r = omega (arith, total_more rs r)
 
-reads_more : (ms : List Parts) (m : Parts) (a b : List ℕ) → (h : ReadsAllAs ms a) → (k : ReadsAs m b) → ReadsAllAs (ms ++ m ∷ []) (a ++ b)
-reads_more ms m a b h k = record {
-  readings = h.readings ++ k.reading ∷ [];
-  lengths = length-append a b ∙ omega (arith, h.lengths, k.length, total_more h.readings k.reading);
-  reads = λ rest.
-      let more : read_all (a ++ (b ++ rest)) (length ms + 1) ≡ Some (h.readings ++ k.reading ∷ [], rest) = read_all_more (length ms) (a ++ (b ++ rest)) (b ++ rest) rest h.readings k.reading (h.reads (b ++ rest)) (k.reads rest) (rw k.length (drop-append_seam b rest)) in
-      rw (append_assoc a b rest, length-append ms (m ∷ [])) more;
-  same = same_more h.readings ms k.reading m h.same k.same k.least k.most;
-}
+parts_more : {M : Type 0} (ms : List (Meant M)) (m : Meant M) → map (λ (n : Meant M). n.parts) (ms ++ m ∷ []) ≡ map (λ (n : Meant M). n.parts) ms ++ m.parts ∷ []
+parts_more ms m = map-append (λ n. n.parts) ms (m ∷ [])
+
+reads_more : {M : Type 0} (ms : List (Meant M)) (m : Meant M) (a b : List ℕ) → (h : ReadsAllAs (map (λ (n : Meant M). n.parts) ms) a) → (k : ReadsAs m.parts b) → ReadsAllAs (map (λ (n : Meant M). n.parts) (ms ++ m ∷ [])) (a ++ b)
+reads_more ms m a b h k =
+    let parts = map (λ n. n.parts) ms in
+    record {
+      readings = h.readings ++ k.reading ∷ [];
+      lengths = length-append a b ∙ omega (arith, h.lengths, k.length, total_more h.readings k.reading);
+      reads = λ rest.
+          let more : read_all (a ++ (b ++ rest)) (length parts + 1) ≡ Some (h.readings ++ k.reading ∷ [], rest) = read_all_more (length parts) (a ++ (b ++ rest)) (b ++ rest) rest h.readings k.reading (h.reads (b ++ rest)) (k.reads rest) (rw k.length (drop-append_seam b rest)) in
+          rw (append_assoc a b rest, parts_more ms m, length-append parts (m.parts ∷ [])) more;
+      same = rw (parts_more ms m) (same_more h.readings parts k.reading m.parts h.same k.same k.least k.most);
+    }
 
 -- Notices.
 
-notices_more : {M : Type 0} (mems : List (Option (Amode M))) (mem : Option (Amode M)) (at : ℕ) (rs : List Reading) (r : Reading) → length mems ≡ length rs → each_notices (mems ++ mem ∷ []) at (rs ++ r ∷ []) ≡ each_notices mems at rs ++ notices_of mem (at + total_length rs) r
-notices_more [] mem at [] r e =
+notices_more : {M : Type 0} (ms : List (Meant M)) (m : Meant M) (at : ℕ) (rs : List Reading) (r : Reading) → length ms ≡ length rs → each_notices (ms ++ m ∷ []) at (rs ++ r ∷ []) ≡ each_notices ms at rs ++ notices_of m.memory (at + total_length rs) r
+notices_more [] m at [] r e =
     let zero_more : at + 0 ≡ at = omega arith in
-    rw zero_more (append-nil (notices_of mem at r))
-notices_more [] mem at (q ∷ rs) r e = absurd (omega arith)
-notices_more (n ∷ mems) mem at [] r e = absurd (omega arith)
-notices_more (n ∷ mems) mem at (q ∷ rs) r e =
-    let shorter : length mems ≡ length rs = omega arith in
+    rw zero_more (append-nil (notices_of m.memory at r))
+notices_more [] m at (q ∷ rs) r e = absurd (omega arith)
+notices_more (n ∷ ms) m at [] r e = absurd (omega arith)
+notices_more (n ∷ ms) m at (q ∷ rs) r e =
+    let shorter : length ms ≡ length rs = omega arith in
     let place : at + q.length + total_length rs ≡ at + (q.length + total_length rs) = omega arith in
-    ap (λ (x : List Notice). notices_of n at q ++ x) (notices_more mems mem (at + q.length) rs r shorter)
-    ∙ sym (append_assoc (notices_of n at q) (each_notices mems (at + q.length) rs) (notices_of mem (at + q.length + total_length rs) r))
-    ∙ ap (λ (p : ℕ). (notices_of n at q ++ each_notices mems (at + q.length) rs) ++ notices_of mem p r) place
+    ap (λ (x : List Notice). notices_of n.memory at q ++ x) (notices_more ms m (at + q.length) rs r shorter)
+    ∙ sym (append_assoc (notices_of n.memory at q) (each_notices ms (at + q.length) rs) (notices_of m.memory (at + q.length + total_length rs) r))
+    ∙ ap (λ (p : ℕ). (notices_of n.memory at q ++ each_notices ms (at + q.length) rs) ++ notices_of m.memory p r) place
 
--- Shortest tails.
+-- Shortest tails and very bytes.
 
 no_length : (bytes : List ℕ) → length bytes ≡ 0 → bytes ≡ []
 no_length [] h = refl
 no_length (c ∷ bytes) h = absurd (omega arith)
 
-shortest_more : {M : Type 0} (mems : List (Option (Amode M))) (mem : Option (Amode M)) (a b : List ℕ) (rs : List Reading) (r : Reading) → length mems ≡ length rs → length a ≡ total_length rs → r.length ≡ length b → EachShortest mems a rs → ShortestFor mem b r → EachShortest (mems ++ mem ∷ []) (a ++ b) (rs ++ r ∷ [])
-shortest_more [] mem a b [] r e la lb h k =
+shortest_more : {M : Type 0} (ms : List (Meant M)) (m : Meant M) (a b : List ℕ) (rs : List Reading) (r : Reading) → length ms ≡ length rs → length a ≡ total_length rs → r.length ≡ length b → EachShortest ms a rs → ShortestFor m.memory b r → EachShortest (ms ++ m ∷ []) (a ++ b) (rs ++ r ∷ [])
+shortest_more [] m a b [] r e la lb h k =
     let whole : take r.length b ≡ b = ap (λ (n : ℕ). take n b) lb ∙ take-length b in
     rw (no_length a la, whole) (k, tt)
-shortest_more [] mem a b (q ∷ rs) r e la lb h k = absurd (omega arith)
-shortest_more (n ∷ mems) mem a b [] r e la lb h k = absurd h
-shortest_more (n ∷ mems) mem a b (q ∷ rs) r e la lb h k =
+shortest_more [] m a b (q ∷ rs) r e la lb h k = absurd (omega arith)
+shortest_more (n ∷ ms) m a b [] r e la lb h k = absurd h
+shortest_more (n ∷ ms) m a b (q ∷ rs) r e la lb h k =
     let within : q.length ≤ length a = omega arith in
-    let shorter : length mems ≡ length rs = omega arith in
+    let shorter : length ms ≡ length rs = omega arith in
     let rest : length (drop q.length a) ≡ total_length rs = length-drop q.length a ∙ omega arith in
     rw (take-append-le q.length a b within, drop-append-le q.length a b within)
-    (h.0, shortest_more mems mem (drop q.length a) b rs r shorter rest lb h.1 k)
+    (h.0, shortest_more ms m (drop q.length a) b rs r shorter rest lb h.1 k)
+
+exact_more : {M : Type 0} (ms : List (Meant M)) (m : Meant M) (a b : List ℕ) (rs : List Reading) (r : Reading) → length ms ≡ length rs → length a ≡ total_length rs → r.length ≡ length b → EachExact ms a rs → IfSome m.exact (λ very. b ≡ very) → EachExact (ms ++ m ∷ []) (a ++ b) (rs ++ r ∷ [])
+exact_more [] m a b [] r e la lb h k =
+    let whole : take r.length b ≡ b = ap (λ (n : ℕ). take n b) lb ∙ take-length b in
+    rw (no_length a la, whole) (k, tt)
+exact_more [] m a b (q ∷ rs) r e la lb h k = absurd (omega arith)
+exact_more (n ∷ ms) m a b [] r e la lb h k = absurd h
+exact_more (n ∷ ms) m a b (q ∷ rs) r e la lb h k =
+    let within : q.length ≤ length a = omega arith in
+    let shorter : length ms ≡ length rs = omega arith in
+    let rest : length (drop q.length a) ≡ total_length rs = length-drop q.length a ∙ omega arith in
+    rw (take-append-le q.length a b within, drop-append-le q.length a b within)
+    (h.0, exact_more ms m (drop q.length a) b rs r shorter rest lb h.1 k)
+
+-- Sums.
+
+pub len_more : {M : Type 0} (ms : List (Meant M)) (m : Meant M) → total_len (ms ++ m ∷ []) ≡ total_len ms + len m
+len_more [] m = omega arith
+len_more (n ∷ ms) m = omega (arith, len_more ms m)
+
+pub notice_count_more : {M : Type 0} (ms : List (Meant M)) (m : Meant M) → total_notices (ms ++ m ∷ []) ≡ total_notices ms + notice_count m
+notice_count_more [] m = omega arith
+notice_count_more (n ∷ ms) m = omega (arith, notice_count_more ms m)
+
+-- fewer instructions have no more bytes and notices
+len_of_fewer : {M : Type 0} (ms : List (Meant M)) (i j : ℕ) → i ≤ j → total_len (take i ms) ≤ total_len (take j ms)
+len_of_fewer [] zero j h = omega arith
+len_of_fewer [] (suc i) zero h = omega arith
+len_of_fewer [] (suc i) (suc j) h = omega arith
+len_of_fewer (m ∷ ms) zero j h = omega arith
+len_of_fewer (m ∷ ms) (suc i) zero h = absurd (omega arith)
+len_of_fewer (m ∷ ms) (suc i) (suc j) h = omega (arith, len_of_fewer ms i j (omega arith))
+
+notices_of_fewer : {M : Type 0} (ms : List (Meant M)) (i j : ℕ) → i ≤ j → total_notices (take i ms) ≤ total_notices (take j ms)
+notices_of_fewer [] zero j h = omega arith
+notices_of_fewer [] (suc i) zero h = omega arith
+notices_of_fewer [] (suc i) (suc j) h = omega arith
+notices_of_fewer (m ∷ ms) zero j h = omega arith
+notices_of_fewer (m ∷ ms) (suc i) zero h = absurd (omega arith)
+notices_of_fewer (m ∷ ms) (suc i) (suc j) h = omega (arith, notices_of_fewer ms i j (omega arith))
 
 -- One instruction more.
 
-pub adds_none : {M : Type 0} (s : State) → AddsAll {M = M} [] [] s s
+pub adds_none : {M : Type 0} (s : State) → AddsAll {M = M} [] s s
 unfolding read_all
 adds_none s = record {
   added = [];
@@ -123,27 +174,44 @@ adds_none s = record {
   reads = record { readings = []; lengths = refl; reads = λ rest. refl; same = tt };
   notices = no_notices s.records s.notices;
   shortest = tt;
+  exact = tt;
+  length = refl;
 }
   where
     no_notices : (records : Bool) (old : List Notice) → old ≡ (if records then old ++ [] else old)
     no_notices true old = sym (append-nil old)
     no_notices false old = refl
 
-pub adds_more : {M : Type 0} (ms : List Parts) (m : Parts) (mems : List (Option (Amode M))) (mem : Option (Amode M)) (s u t : State) → length mems ≡ length ms → AddsAll ms mems s u → Keeps s u → AddsInstruction m mem u t → AddsAll (ms ++ m ∷ []) (mems ++ mem ∷ []) s t
+pub adds_more : {M : Type 0} (ms : List (Meant M)) (m : Meant M) (s u t : State) → AddsAll ms s u → Keeps s u → AddsInstruction m u t → AddsAll (ms ++ m ∷ []) s t
 unfolding reads_more
-adds_more ms m mems mem s u t e h keeps k =
+adds_more ms m s u t h keeps k =
     let rs = h.reads.readings in
-    let mems_length : length mems ≡ length rs = e ∙ sym (same_length rs ms h.reads.same) in
+    let parts = map (λ n. n.parts) ms in
+    let same_count : length ms ≡ length rs = sym (length-map ms (λ n. n.parts)) ∙ sym (same_length rs parts h.reads.same) in
     let place : length u.bytes ≡ length s.bytes + total_length rs = ap length h.bytes ∙ length-append s.bytes h.added ∙ ap (λ (n : ℕ). length s.bytes + n) h.reads.lengths in
-    let told : t.notices ≡ (if s.records then s.notices ++ (each_notices mems (length s.bytes) rs ++ notices_of mem (length s.bytes + total_length rs) k.reads.reading) else s.notices) =
-    told_next s.records s.notices u.notices t.notices (each_notices mems (length s.bytes) rs) (notices_of mem (length s.bytes + total_length rs) k.reads.reading) h.notices (k.notices ∙ rw (keeps.records, place) refl) in
+    let told : t.notices ≡ (if s.records then s.notices ++ (each_notices ms (length s.bytes) rs ++ notices_of m.memory (length s.bytes + total_length rs) k.reads.reading) else s.notices) =
+    told_next s.records s.notices u.notices t.notices (each_notices ms (length s.bytes) rs) (notices_of m.memory (length s.bytes + total_length rs) k.reads.reading) h.notices (k.notices ∙ rw (keeps.records, place) refl) in
     record {
       added = h.added ++ k.added;
       bytes = k.bytes ∙ ap (λ (x : List ℕ). x ++ k.added) h.bytes ∙ append_assoc s.bytes h.added k.added;
       reads = reads_more ms m h.added k.added h.reads k.reads;
-      notices = told ∙ rw (notices_more mems mem (length s.bytes) rs k.reads.reading mems_length) refl;
-      shortest = shortest_more mems mem h.added k.added rs k.reads.reading mems_length h.reads.lengths k.reads.length h.shortest k.shortest;
+      notices = told ∙ rw (notices_more ms m (length s.bytes) rs k.reads.reading same_count) refl;
+      shortest = shortest_more ms m h.added k.added rs k.reads.reading same_count h.reads.lengths k.reads.length h.shortest k.shortest;
+      exact = exact_more ms m h.added k.added rs k.reads.reading same_count h.reads.lengths k.reads.length h.exact k.exact;
+      length = length-append h.added k.added ∙ omega (arith, h.length, k.length, len_more ms m);
     }
+
+-- the bytes and notices of a state are all that counts before
+pub adds_from : {M : Type 0} {ms : List (Meant M)} (s u t : State) → u.bytes ≡ s.bytes → u.notices ≡ s.notices → u.records ≡ s.records → AddsAll ms u t → AddsAll ms s t
+adds_from {ms = ms} s u t bytes notices records h = record {
+  added = h.added;
+  bytes = rw bytes at h.bytes;
+  reads = h.reads;
+  notices = rw (bytes, notices, records) at h.notices;
+  shortest = h.shortest;
+  exact = h.exact;
+  length = h.length;
+}
 
 -- The loop.
 
@@ -156,53 +224,122 @@ take_map f [] (suc i) = refl
 take_map f (x ∷ xs) zero = refl
 take_map f (x ∷ xs) (suc i) = ap (λ z. f x ∷ z) (take_map f xs i)
 
-pub two_maps : {A B C : Type 0} (f : A → B) (g : A → C) (xs : List A) → length (map f xs) ≡ length (map g xs)
-two_maps f g xs = length-map xs f ∙ sym (length-map xs g)
-
 pub keeps_on : {s u t : State} → Keeps s u → Keeps u t → Keeps s t
 keeps_on h k = record { offsets = k.offsets ∙ h.offsets; records = k.records ∙ h.records; answers = k.answers ∙ h.answers }
 
 pub keeps_self : (s : State) → Keeps s s
 keeps_self s = record { offsets = refl; records = refl; answers = refl }
 
--- one more call that lowers a room by so much
-pub falls_more : (old mid new : Room) (n i : ℕ) → FallsBy old mid (n * i) → FallsBy mid new n → FallsBy old new (n * (i + 1))
-falls_more old mid new n i h k count room =
-    let more : count + n * (i + 1) ≡ (count + n) + n * i = omega arith in
-    k count (h (count + n) (rw more at room))
-
-pub falls_none : (room : Room) (n : ℕ) → FallsBy room room (n * 0)
-falls_none room n count h = less_room room (count + n * 0) count (omega arith) h
-
-pub falls_one : (old mid new : Room) (i : ℕ) → FallsBy old mid i → FallsBy mid new 1 → FallsBy old new (i + 1)
-falls_one old mid new i h k count room =
-    let more : count + (i + 1) ≡ (count + 1) + i = omega arith in
-    k count (h (count + 1) (rw more at room))
+-- a call behind others lowers a room by its own part more
+pub falls_on : (old mid new : Room) (n m both : ℕ) → both ≡ n + m → FallsBy old mid n → FallsBy mid new m → FallsBy old new both
+falls_on old mid new n m both e h k count room =
+    let more : count + both ≡ (count + m) + n = omega arith in
+    k count (h (count + m) (rw more at room))
 
 pub falls_zero : (room : Room) → FallsBy room room 0
 falls_zero room count h = less_room room (count + 0) count (omega arith) h
 
--- what is left of a room for a list
-pub room_left : (old now : Room) (n i total : ℕ) → i < total → FallsBy old now (n * i) → HasRoom old (n * total) → HasRoom now n
-room_left old now n i total h falls room =
-    let next : i + 1 ≤ total = omega arith in
-    let enough : n + n * i ≤ n * total = omega (arith, mul-le-mul_left n next) in
-    falls n (less_room old (n * total) (n + n * i) enough room)
+-- what is left of a room for more than has been taken
+pub room_left : (old now : Room) (taken more all : ℕ) → taken + more ≤ all → FallsBy old now taken → HasRoom old all → HasRoom now more
+room_left old now taken more all h falls room = falls more (less_room old all (more + taken) (omega arith) room)
 
-pub room_left_one : (old now : Room) (i total : ℕ) → i < total → FallsBy old now i → HasRoom old total → HasRoom now 1
-room_left_one old now i total h falls room = falls 1 (less_room old total (1 + i) (omega arith) room)
+pub err_is_no_ok : {E : Type 0} (e : E) → IsOk {T = Unit {0}} (Err e) → ⊥
+err_is_no_ok e h = cc
+
+-- an instruction that is refused comes no earlier than those that there is room for
+pub refused_late : {A M : Type 0} (meant : A → Meant M) (xs : List A) (i j : ℕ) (x : A) (old now : State) → i < length xs → x ≡ get_or xs i x → FallsBy old.byte_room now.byte_room (total_len (map meant (take i xs))) → FallsBy old.notice_room now.notice_room (total_notices (map meant (take i xs))) → (HasRoom now.byte_room (len (meant x)) → HasRoom now.notice_room (notice_count (meant x)) → ⊥) → HasRoom old.byte_room (total_len (take j (map meant xs))) → HasRoom old.notice_room (total_notices (take j (map meant xs))) → j ≤ i
+refused_late meant xs i j x old now within e bytes notices refused byte_room notice_room =
+    let ms = map meant xs in
+    let one_more : take (i + 1) ms ≡ map meant (take i xs) ++ meant x ∷ [] = take_map meant xs (i + 1) ∙ map_more meant xs i x within e in
+    let all_len : total_len (take (i + 1) ms) ≡ total_len (map meant (take i xs)) + len (meant x) = ap total_len one_more ∙ len_more (map meant (take i xs)) (meant x) in
+    let all_notices : total_notices (take (i + 1) ms) ≡ total_notices (map meant (take i xs)) + notice_count (meant x) = ap total_notices one_more ∙ notice_count_more (map meant (take i xs)) (meant x) in
+    elim (cases_lt i j) [
+      | inl h ↦
+          let next : i + 1 ≤ j = omega arith in
+          absurd (refused
+          (room_left old.byte_room now.byte_room (total_len (map meant (take i xs))) (len (meant x)) (total_len (take j ms)) (omega (arith, all_len, len_of_fewer ms (i + 1) j next)) bytes byte_room)
+          (room_left old.notice_room now.notice_room (total_notices (map meant (take i xs))) (notice_count (meant x)) (total_notices (take j ms)) (omega (arith, all_notices, notices_of_fewer ms (i + 1) j next)) notices notice_room))
+      | inr h ↦ h
+    ]
 
 -- a list that stopped at an instruction
-pub leaves_at : {A M : Type 0} (meant : A → Parts) (memory : A → Option (Amode M)) (xs : List A) (i : ℕ) (x : A) (s u t : State) → i < length xs → x ≡ get_or xs i x → AddsAll (map meant (take i xs)) (map memory (take i xs)) s u → LeavesInstruction (meant x) (memory x) u t → LeavesAll (map meant xs) (map memory xs) i s t
-leaves_at meant memory xs i x s u t h e adds leaves =
+pub leaves_at : {A M : Type 0} (meant : A → Meant M) (xs : List A) (i : ℕ) (x : A) (s u t : State) → i < length xs → x ≡ get_or xs i x → AddsAll (map meant (take i xs)) s u → LeavesInstruction (meant x) u t → LeavesAll (map meant xs) i s t
+leaves_at meant xs i x s u t h e adds leaves =
     let found : slice_get xs i ≡ Some x = slice_get_read xs (length xs) i x refl h e in
     record {
       within = rw (length-map xs meant) h;
       between = u;
-      adds = rw (take_map meant xs i, take_map memory xs i) adds;
+      adds = rw (take_map meant xs i) adds;
       next = meant x;
-      next_memory = memory x;
       next_is = slice_get-map meant xs i ∙ ap (option_map meant) found;
-      next_memory_is = slice_get-map memory xs i ∙ ap (option_map memory) found;
       leaves = leaves;
     }
+
+-- Lists that a sink has room for.
+
+-- a list that stopped, but not before its end, didn't stop
+whole_or_stopped : {M : Type 0} (ms : List (Meant M)) (count : ℕ) (s t : State) (r : Result (Unit {0}) Refused) → length ms ≡ count → IfErr r (λ e. LeavesAll ms e.whole s t) → IfErr r (λ e. count ≤ e.whole) → IsOk r
+whole_or_stopped ms count s t (Ok tt) all leaves late = refl
+whole_or_stopped ms count s t (Err e) all leaves late = absurd (omega (arith, leaves.within, late))
+
+-- a list is taken where there is room for it; the offsets are said twice, since they may be known as those of an earlier state
+pub all_taken : {A M : Type 0} (meant : A → (ℕ → Option ℤ) → Meant M) (xs : List A) (old now : ℕ → Option ℤ) (s t : State) (r : Result (Unit {0}) Refused) → now ≡ old → HasRoom s.byte_room (total_len (map (λ i. meant i old) xs)) → HasRoom s.notice_room (total_notices (map (λ i. meant i old) xs)) → IfErr r (λ e. LeavesAll (map (λ i. meant i now) xs) e.whole s t) → ((j : ℕ) → j ≤ length xs → HasRoom s.byte_room (total_len (take j (map (λ i. meant i now) xs))) → HasRoom s.notice_room (total_notices (take j (map (λ i. meant i now) xs))) → IfErr r (λ e. j ≤ e.whole)) → IsOk r
+all_taken meant xs old now s t r e bytes notices leaves room =
+    let ms = map (λ i. meant i now) xs in
+    let whole : map (λ i. meant i old) xs ≡ take (length xs) ms = ap (λ o. map (λ i. meant i o) xs) (sym e) ∙ ap (map (λ i. meant i now)) (sym (take-length xs)) ∙ sym (take_map (λ i. meant i now) xs (length xs)) in
+    whole_or_stopped ms (length xs) s t r (length-map xs (λ i. meant i now)) leaves
+    (room (length xs) (omega arith) (subst (λ z. HasRoom s.byte_room (total_len z)) whole bytes) (subst (λ z. HasRoom s.notice_room (total_notices z)) whole notices))
+
+from_ok : {P : Type 0} (r : Result (Unit {0}) Refused) → IsOk r → OnOk r P → P
+from_ok (Ok u) ok h = h
+from_ok (Err e) ok h = absurd (err_is_no_ok e ok)
+
+-- A list that a state has room for, which has all else from an earlier state: it is taken, as from the earlier state.
+pub whole_list : {A M : Type 0} (meant : A → (ℕ → Option ℤ) → Meant M) (xs : List A) (s u t : State) (r : Result (Unit {0}) Refused) → u.bytes ≡ s.bytes → u.notices ≡ s.notices → u.records ≡ s.records → u.offsets ≡ s.offsets → HasRoom u.byte_room (total_len (map (λ i. meant i s.offsets) xs)) → HasRoom u.notice_room (total_notices (map (λ i. meant i s.offsets) xs)) → OnOk r (AddsAll (map (λ i. meant i u.offsets) xs) u t) → IfErr r (λ e. LeavesAll (map (λ i. meant i u.offsets) xs) e.whole u t) → ((j : ℕ) → j ≤ length xs → HasRoom u.byte_room (total_len (take j (map (λ i. meant i u.offsets) xs))) → HasRoom u.notice_room (total_notices (take j (map (λ i. meant i u.offsets) xs))) → IfErr r (λ e. j ≤ e.whole)) → IsOk r × AddsAll (map (λ i. meant i s.offsets) xs) s t
+whole_list meant xs s u t r bytes notices records offsets byte_room notice_room adds leaves room =
+    let ok = all_taken meant xs s.offsets u.offsets u t r offsets byte_room notice_room leaves room in
+    let added : AddsAll (map (λ i. meant i u.offsets) xs) s t = adds_from s u t bytes notices records (from_ok r ok adds) in
+    (ok, subst (λ o. AddsAll (map (λ i. meant i o) xs) s t) offsets added)
+
+-- what is said of an Ok and of an Err, where there is an Ok
+pub on_ok : {E P : Type 0} (r : Result (Unit {0}) E) → P → OnOk r P
+on_ok (Ok u) h = h
+on_ok (Err e) h = tt
+
+pub no_err : {E : Type 0} (P : Type 0) (r : Result (Unit {0}) E) → IsOk r → OnErr r P
+no_err P (Ok u) ok = tt
+no_err P (Err e) ok = absurd (err_is_no_ok e ok)
+
+pub never_err : {E : Type 0} (P : E → Type 0) (r : Result (Unit {0}) E) → IsOk r → IfErr r P
+never_err P (Ok u) ok = tt
+never_err P (Err e) ok = absurd (err_is_no_ok e ok)
+
+-- Sinks of fixed size.
+
+-- a list that a fixed sink has got, with perhaps more behind it, fitted in what was left
+front_fits : {M : Type 0} {N : ℕ} (ms : List (Meant M)) (s t : FixedSink N) (u : State) (left : List ℕ) → AddsAll ms (fixed_sink_state s) u → (fixed_sink_state t).bytes ≡ u.bytes ++ left → total_len ms ≤ N - length (fixed_sink_state s).bytes
+front_fits ms s t u left h e =
+    let old = (fixed_sink_state s).bytes in
+    let fit = taken_fits s t (h.added ++ left) (total_len ms + length left) (e ∙ ap (λ x. x ++ left) h.bytes ∙ append_assoc old h.added left) (length-append h.added left ∙ ap (λ n. n + length left) h.length) in
+    omega (arith, fit)
+
+-- a fixed sink takes a list exactly where its bytes fit in what is left
+pub fixed_takes_all : {A M : Type 0} {N : ℕ} (meant : A → Meant M) (xs : List A) (s t : FixedSink N) (r : Result (Unit {0}) Refused) → OnOk r (AddsAll (map meant xs) (fixed_sink_state s) (fixed_sink_state t)) → IfErr r (λ e. LeavesAll (map meant xs) e.whole (fixed_sink_state s) (fixed_sink_state t)) → ((j : ℕ) → j ≤ length xs → HasRoom (fixed_sink_state s).byte_room (total_len (take j (map meant xs))) → HasRoom (fixed_sink_state s).notice_room (total_notices (take j (map meant xs))) → IfErr r (λ e. j ≤ e.whole)) → IsOk r ↔ (total_len (map meant xs) ≤ N - length (fixed_sink_state s).bytes)
+fixed_takes_all meant xs s t r adds leaves room =
+    (λ ok. let h = from_ok r ok adds in taken_fits s t h.added (total_len (map meant xs)) h.bytes h.length, λ fit. all_taken (λ i o. meant i) xs (λ n. None) (λ n. None) (fixed_sink_state s) (fixed_sink_state t) r refl fit tt leaves room)
+
+-- and where they don't, of the fronts of the list exactly those that fit are whole
+pub fixed_takes_front : {A M : Type 0} {N : ℕ} (meant : A → Meant M) (xs : List A) (s t : FixedSink N) (r : Result (Unit {0}) Refused) → IfErr r (λ e. LeavesAll (map meant xs) e.whole (fixed_sink_state s) (fixed_sink_state t)) → ((j : ℕ) → j ≤ length xs → HasRoom (fixed_sink_state s).byte_room (total_len (take j (map meant xs))) → HasRoom (fixed_sink_state s).notice_room (total_notices (take j (map meant xs))) → IfErr r (λ e. j ≤ e.whole)) → IfErr r (λ e. (j : ℕ) → j ≤ length xs → (j ≤ e.whole) ↔ (total_len (take j (map meant xs)) ≤ N - length (fixed_sink_state s).bytes))
+fixed_takes_front meant xs s t (Ok u) leaves room = tt
+fixed_takes_front {N = N} meant xs s t (Err e) leaves room =
+    let fit = front_fits (take e.whole (map meant xs)) s t leaves.between leaves.leaves.left leaves.adds leaves.leaves.bytes in
+    λ j within. (λ h. omega (arith, fit, len_of_fewer (map meant xs) j e.whole h), λ enough. room j within enough tt)
+
+full_is : (e : SinkError) → is_full e ≡ true → e ≡ Full
+full_is NoMemory h = cc
+full_is Full h = refl
+
+-- the error of a sink that can answer `Full` alone
+pub full_error : (r : Result (Unit {0}) Refused) → IfErr r (λ e. is_full e.error ≡ true) → IfErr r (λ e. e.error ≡ Full)
+full_error (Ok u) h = tt
+full_error (Err e) h = full_is e.error h

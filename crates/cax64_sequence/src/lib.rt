@@ -1,53 +1,9 @@
 //! Lists of instructions.
 #![tactic(auto)]
 
-ghost use Rattle.std.specs.Prelude.{◌≡◌, ◌*◌, ℕ, true, IsTrue, All, OnOk, IfErr, IsOk, map, length};
-ghost use Rattle.cax64_inst.specs.Meant.{meant, encodable, memory};
-ghost use Rattle.cax64_sequence.specs.List.{AddsAll, LeavesAll};
-ghost use Rattle.cax64_sink.specs.Keeps.{Keeps};
-ghost use Rattle.cax64_sink.specs.Room.{HasRoom};
+pub mod laws;
+mod sequence;
+mod whole;
 
-use cax64_encoder::instruction::Instruction;
-use cax64_inst::Inst;
-use cax64_register::Registers;
-use cax64_sink::{CodeSink, SinkError};
-
-/// A list of instructions that a sink didn't take to its end.
-#[derive(Clone, Copy, Debug, PartialEq)]
-pub struct Refused {
-    /// The number of instructions that are whole.
-    pub whole: usize,
-    /// Why the next one isn't.
-    pub error: SinkError,
-}
-
-/// Puts instructions one behind the other.
-fn encode_each<I: Instruction, S: CodeSink>(insts: &[I], sink: &mut S) -> Result<(), Refused>
-    requires { All (λ i. IsTrue (I.encodable i (S.state sink.old).offsets)) insts.now }
-    ensures adds { OnOk result (AddsAll (map (λ i. I.meant i (S.state sink.old).offsets) insts.now) (map I.memory insts.now) (S.state sink.old) (S.state sink.new)) }
-    ensures leaves { IfErr result (λ e. LeavesAll (map (λ i. I.meant i (S.state sink.old).offsets) insts.now) (map I.memory insts.now) e.whole (S.state sink.old) (S.state sink.new)) }
-    ensures error { IfErr result (λ e. (S.state sink.old).answers e.error ≡ true) }
-    ensures keeps { Keeps (S.state sink.old) (S.state sink.new) }
-    ensures room { HasRoom (S.state sink.old).byte_room (13 * length insts.now) → HasRoom (S.state sink.old).notice_room (length insts.now) → IsOk result }
-{
-    for (whole, inst) in insts.iter().enumerate() {
-        if let Err(error) = inst.encode(sink) {
-            return Err(Refused { whole, error });
-        }
-    }
-    Ok(())
-}
-
-/// Puts instructions one behind the other, and tells the sink of their traps and targets.
-///
-/// A refusal says how many instructions are whole.
-pub fn encode_all<R: Registers, S: CodeSink>(insts: &[Inst<R>], sink: &mut S) -> Result<(), Refused>
-    requires { All (λ i. IsTrue (encodable R.ReadGpr.settled R.ReadGpr.enc R.ReadWriteGpr.settled R.ReadWriteGpr.enc (S.state sink.old).offsets i)) insts.now }
-    ensures adds { OnOk result (AddsAll (map (meant R.ReadGpr.enc (S.state sink.old).offsets) insts.now) (map memory insts.now) (S.state sink.old) (S.state sink.new)) }
-    ensures leaves { IfErr result (λ e. LeavesAll (map (meant R.ReadGpr.enc (S.state sink.old).offsets) insts.now) (map memory insts.now) e.whole (S.state sink.old) (S.state sink.new)) }
-    ensures error { IfErr result (λ e. (S.state sink.old).answers e.error ≡ true) }
-    ensures keeps { Keeps (S.state sink.old) (S.state sink.new) }
-    ensures room { HasRoom (S.state sink.old).byte_room (13 * length insts.now) → HasRoom (S.state sink.old).notice_room (length insts.now) → IsOk result }
-{
-    encode_each(insts, sink)
-}
+pub use sequence::{Refused, encode_all};
+pub use whole::encode_all_whole;

@@ -1,0 +1,27 @@
+use Rattle.std.proofs.Common.{◌≡◌, ◌∙◌, subst, refl, map, IsOk}
+use Rattle.cax64_sequence.specs.List.{total_len, total_notices}
+use Rattle.cax64_sequence.proofs.Lists.{whole_list, on_ok, no_err, never_err, keeps_on}
+use Rattle.cax64_sink.specs.Keeps.{Keeps}
+use Rattle.cax64_sink.specs.Recorder.{recorder_state}
+use Rattle.cax64_sink.specs.Room.{HasRoom}
+use Rattle.cax64_sink.specs.declared.SinkError.TheVariants.{NoMemory}
+use Rattle.cax64_sequence.proofs.whole.encode_each_whole.Goals as goal
+
+pub returns : goal.returns
+returns g c =
+    let s = recorder_state c.args.recorder.now in
+    let u = recorder_state c.reserve.new.self in
+    let t = recorder_state c.encode_each.new.sink in
+    let kept = c.in_ok-reserve.ensures in
+    let byte_room : HasRoom u.byte_room (total_len (map (λ i. g.I.Instruction.meant i s.offsets) c.args.insts.now)) = subst (HasRoom u.byte_room) c.measure-bytes.ensures.bytes kept.room_for_bytes in
+    let notice_room : HasRoom u.notice_room (total_notices (map (λ i. g.I.Instruction.meant i s.offsets) c.args.insts.now)) = subst (HasRoom u.notice_room) c.measure-bytes.ensures.notices kept.room_for_notices in
+    let all = whole_list g.I.Instruction.meant c.args.insts.now s u t c.encode_each.result kept.bytes kept.notices refl kept.offsets byte_room notice_room c.encode_each.ensures.adds c.encode_each.ensures.leaves c.encode_each.ensures.room in
+    let ok : IsOk c.map_err.result = c.map_err.ensures.variant ∙ all.0 in
+    let same : Keeps s u = record { offsets = kept.offsets; records = refl; answers = refl } in
+    record {
+      adds = on_ok c.map_err.result all.1;
+      unchanged = no_err ((t.bytes ≡ s.bytes) × (t.notices ≡ s.notices)) c.map_err.result ok;
+      error = never_err (λ e. e ≡ NoMemory) c.map_err.result ok;
+      keeps = keeps_on same c.encode_each.ensures.keeps;
+      room = λ b n. ok;
+    }

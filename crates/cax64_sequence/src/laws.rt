@@ -1,0 +1,28 @@
+//! Laws of the items here. The functions do no more than the call that they speak of.
+
+ghost use Rattle.std.specs.Prelude.{◌≡◌, ◌≤◌, ◌-◌, ◌↔◌, ℕ, IsTrue, All, IsOk, OnOk, IfErr, map, take, length};
+ghost use Rattle.cax64_encoder.specs.Meant.{is_encodable};
+ghost use Rattle.cax64_sequence.specs.List.{AddsAll, LeavesAll, total_len};
+ghost use Rattle.cax64_sink.specs.FixedSink.{fixed_sink_state};
+
+use crate::sequence::{Refused, encode_all};
+use cax64_encoder::instruction::Instruction;
+use cax64_inst::Inst;
+use cax64_register::Registers;
+use cax64_sink::{FixedSink, SinkError};
+
+/// Over a sink of fixed size [`encode_all`] succeeds exactly where the bytes of all instructions fit in what is left, and
+/// of those that don't it puts as many as do.
+pub fn encode_all_to_fixed_sink<R: Registers, const N: usize>(
+    insts: &[Inst<R>],
+    sink: &mut FixedSink<N>,
+) -> Result<(), Refused>
+    requires { All (λ i. IsTrue (is_encodable (fixed_sink_state sink.old).offsets (⟦<Inst<R> as Instruction>⟧.meant i (fixed_sink_state sink.old).offsets))) insts.now }
+    ensures fits { IsOk result ↔ (total_len (map (λ i. ⟦<Inst<R> as Instruction>⟧.meant i (fixed_sink_state sink.old).offsets) insts.now) ≤ N - length (fixed_sink_state sink.old).bytes) }
+    ensures whole { let ms = map (λ i. ⟦<Inst<R> as Instruction>⟧.meant i (fixed_sink_state sink.old).offsets) insts.now in IfErr result (λ e. (j : ℕ) → j ≤ length insts.now → (j ≤ e.whole) ↔ (total_len (take j ms) ≤ N - length (fixed_sink_state sink.old).bytes)) }
+    ensures adds { OnOk result (AddsAll (map (λ i. ⟦<Inst<R> as Instruction>⟧.meant i (fixed_sink_state sink.old).offsets) insts.now) (fixed_sink_state sink.old) (fixed_sink_state sink.new)) }
+    ensures leaves { IfErr result (λ e. LeavesAll (map (λ i. ⟦<Inst<R> as Instruction>⟧.meant i (fixed_sink_state sink.old).offsets) insts.now) e.whole (fixed_sink_state sink.old) (fixed_sink_state sink.new)) }
+    ensures error { IfErr result (λ e. e.error ≡ SinkError.Full) }
+{
+    encode_all(insts, sink)
+}
