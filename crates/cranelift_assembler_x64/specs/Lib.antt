@@ -6,4 +6,7 @@ pub use Rattle.cax64_sink.specs.FixedSink
 pub use Rattle.cax64_sink.specs.Recorder
 pub use Rattle.cax64_sink.specs.Room
 pub use Rattle.cax64_sink.specs.Sink
-pub use Rattle.cax64_inst.specs.Meant
+pub use Rattle.cax64_encoder.specs.Instruction
+pub use Rattle.cax64_encoder.specs.Meant
+pub use Rattle.cax64_machine_code.specs.Reading
+pub use Rattle.cax64_machine_code.specs.Sequence

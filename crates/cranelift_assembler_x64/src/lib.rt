@@ -14,7 +14,7 @@ pub use cax64_inst::Inst;
 pub use cax64_machine_code::row::Row;
 pub use cax64_prefix::rex::RexPrefix;
 pub use cax64_register::{AsReg, Fixed, Gpr, NonRspGpr, Registers, Size, Xmm};
-pub use cax64_sequence::{Refused, encode_all};
+pub use cax64_sequence::{Refused, encode_all, encode_all_whole};
 pub use cax64_sink::{
     CodeSink, Constant, DeferredTarget, FixedSink, KnownOffset, Label, Notice, Recorder, SinkError,
     TrapCode,
@@ -59,6 +59,13 @@ pub mod vex {
 /// EVEX prefixes.
 pub mod evex {
     pub use cax64_prefix::evex::EvexPrefix;
+}
+
+/// Over a sink of fixed size calls succeed exactly where their bytes fit.
+pub mod laws {
+    pub use cax64_address::laws::emit_to_fixed_sink;
+    pub use cax64_encoder::laws::encode_to_fixed_sink;
+    pub use cax64_sequence::laws::encode_all_to_fixed_sink;
 }
 
 /// The reading of machine code.

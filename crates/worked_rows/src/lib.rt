@@ -21,7 +21,13 @@ impl Registers for Numbers {
 }
 
 #[cfg(test)]
+mod faults;
+#[cfg(test)]
+mod instructions;
+#[cfg(test)]
 mod lists;
+#[cfg(test)]
+mod operands;
 #[cfg(test)]
 mod readme;
 #[cfg(test)]

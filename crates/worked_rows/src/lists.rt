@@ -1,10 +1,12 @@
 use crate::Numbers;
-use crate::single::{add, based};
+use crate::operands::{add, based, relative};
 use cax64_sink_refusals::RefusingSink;
-use cranelift_assembler_x64::inst::andb_i;
+use cranelift_assembler_x64::inst::{andb_i, callq_m, nop_1b, nop_9b};
+use cranelift_assembler_x64::laws::{encode_all_to_fixed_sink, encode_to_fixed_sink};
+use cranelift_assembler_x64::reader::read_inst;
 use cranelift_assembler_x64::{
-    CodeSink, Fixed, FixedSink, Imm8, Inst, Instruction, Notice, Recorder, Refused, SinkError,
-    TrapCode, encode_all,
+    CodeSink, Fixed, FixedSink, GprMem, Imm8, Inst, Instruction, Notice, Recorder, Refused, Row,
+    SinkError, TrapCode, encode_all, encode_all_whole,
 };
 use std::num::NonZeroU8;
 use std::process::Abort;
@@ -90,4 +92,92 @@ fn each_call_of_a_list_is_refused(rt: HostRuntime) -> Result<(), Fail> {
         assert_eq!(rt; recorder.notices().len(), if calls < 3 { 0 } else { 1 });
     }
     Ok(())
+}
+
+fn relative_call() -> Inst<Numbers> {
+    callq_m::new(GprMem::Mem(relative())).into()
+}
+
+#[test]
+fn a_list_reads_back_in_turn(rt: HostRuntime) -> Result<(), Fail> {
+    let insts = [nop_9b::new().into(), and(0xAA)];
+    let bytes = [0x66, 0x0F, 0x1F, 0x84, 0x00, 0, 0, 0, 0, 0x24, 0xAA];
+    let mut sink = Recorder::new(rt.alloc());
+    assert_eq!(rt; put_all(&rt, &insts, &mut sink), Ok(()));
+    assert_eq!(rt; sink.bytes(), bytes.as_slice());
+    let first = read_inst(sink.bytes()).ok_or("no first reading")?;
+    assert_eq!(rt; (first.row, first.length), (Row::nopw_rm, 9));
+    let second = read_inst(&sink.bytes()[9..]).ok_or("no second reading")?;
+    assert_eq!(rt; (second.row, second.length), (Row::andb_i, 2));
+    let mut whole = Recorder::new(rt.alloc());
+    assert!(rt; insts.iter().all(|i| i.is_encodable(&whole)));
+    assert_eq!(rt; encode_all_whole(&insts, &mut whole), Ok(()));
+    assert_eq!(rt; whole.bytes(), bytes.as_slice());
+    assert!(rt; whole.notices().is_empty());
+    Ok(())
+}
+
+#[test]
+fn as_many_instructions_as_fit_are_whole(rt: HostRuntime) {
+    let insts = [and(0xAA), nop_1b::new().into(), relative_call()];
+    let mut sink = FixedSink::<5>::new();
+    let refused = Refused {
+        whole: 2,
+        error: SinkError::Full,
+    };
+    assert_eq!(rt; put_all(&rt, &insts, &mut sink), Err(refused));
+    assert_eq!(rt; sink.bytes(), [0x24, 0xAA, 0x90, 0xFF, 0x15].as_slice());
+}
+
+#[test]
+fn a_sink_of_no_bytes_takes_an_empty_list(rt: HostRuntime) {
+    let none: [Inst<Numbers>; 0] = [];
+    let mut sink = FixedSink::<0>::new();
+    assert_eq!(rt; put_all(&rt, &none, &mut sink), Ok(()));
+    let nop = nop_1b::new();
+    assert!(rt; nop.is_encodable(&sink));
+    assert_eq!(rt; nop.encode(&mut sink), Err(SinkError::Full));
+    assert!(rt; sink.bytes().is_empty());
+}
+
+#[test]
+fn the_fourth_call_of_a_list_is_refused(rt: HostRuntime) -> Result<(), Fail> {
+    let code = TrapCode(NonZeroU8::new(5).ok_or("no code")?);
+    let insts = [
+        nop_1b::new().into(),
+        add(based(0, 0, None, Some(code)), 1).into(),
+    ];
+    let mut sink = RefusingSink::new(Recorder::new(rt.alloc()), 3);
+    let refused = Refused {
+        whole: 1,
+        error: SinkError::NoMemory,
+    };
+    assert_eq!(rt; put_all(&rt, &insts, &mut sink), Err(refused));
+    let recorder = sink.into_recorder();
+    assert_eq!(rt; recorder.bytes(), [0x90, 0xF0].as_slice());
+    assert_eq!(rt; recorder.notices(), [Notice::Trap(1, code)].as_slice());
+    Ok(())
+}
+
+/// The laws hold of these very calls.
+#[test]
+fn a_sink_of_fixed_size_takes_what_fits(rt: HostRuntime) {
+    let insts = [and(0xAA), nop_1b::new().into()];
+    let mut three = FixedSink::<3>::new();
+    assert!(rt; insts.iter().all(|i| i.is_encodable(&three)));
+    assert_eq!(rt; encode_all_to_fixed_sink(&insts, &mut three), Ok(()));
+    assert_eq!(rt; three.bytes(), [0x24, 0xAA, 0x90].as_slice());
+    assert!(rt; insts[1].is_encodable(&three));
+    assert_eq!(rt;
+        encode_to_fixed_sink(&insts[1], &mut three),
+        Err(SinkError::Full)
+    );
+    let mut two = FixedSink::<2>::new();
+    assert!(rt; insts.iter().all(|i| i.is_encodable(&two)));
+    let refused = Refused {
+        whole: 1,
+        error: SinkError::Full,
+    };
+    assert_eq!(rt; encode_all_to_fixed_sink(&insts, &mut two), Err(refused));
+    assert_eq!(rt; two.bytes(), [0x24, 0xAA].as_slice());
 }

@@ -1,34 +1,13 @@
 use crate::Numbers;
+use crate::operands::{add, based, indexed, trap};
 use cax64_sink_refusals::RefusingSink;
-use cranelift_assembler_x64::inst::{andb_i, lock_addl_mr};
+use cranelift_assembler_x64::inst::andb_i;
 use cranelift_assembler_x64::{
-    Amode, AmodeOffset, AmodeOffsetPlusKnownOffset, CodeSink, Constant, DeferredTarget, Fixed, Gpr,
-    Imm8, Instruction, KnownOffset, Label, NonRspGpr, Notice, Recorder, Scale, SinkError, TrapCode,
+    Amode, CodeSink, Constant, DeferredTarget, Fixed, Imm8, Instruction, Label, Notice, Recorder,
+    Scale, SinkError,
 };
-use std::num::NonZeroU8;
 use std::process::Abort;
 use std::test::Fail;
-
-/// A base, a displacement and a late offset.
-pub fn based(
-    base: u8,
-    simm32: i32,
-    offset: Option<KnownOffset>,
-    trap: Option<TrapCode>,
-) -> Amode<u8> {
-    Amode::ImmReg {
-        base,
-        simm32: AmodeOffsetPlusKnownOffset {
-            simm32: AmodeOffset::new(simm32),
-            offset,
-        },
-        trap,
-    }
-}
-
-pub fn add(m32: Amode<u8>, r32: u8) -> lock_addl_mr<Numbers> {
-    lock_addl_mr::new(m32, Gpr::new(r32))
-}
 
 /// Encodes an instruction, which has to be encodable.
 fn put<I: Instruction, S: CodeSink>(
@@ -66,10 +45,6 @@ fn bytes(rt: HostRuntime) -> Result<(), Fail> {
     assert_eq!(rt; put(&rt, &and, &mut sink), Ok(()));
     assert_eq!(rt; sink.as_slice(), [0x24, 0xAA].as_slice());
     Ok(())
-}
-
-fn trap(code: u8) -> Option<TrapCode> {
-    NonZeroU8::new(code).map(TrapCode)
 }
 
 #[test]
@@ -131,28 +106,18 @@ fn virtual_registers_are_not_encodable(rt: HostRuntime) {
     assert!(rt; andb_i::<Numbers>::new(Fixed(0), Imm8::new(0)).is_encodable(&sink));
 }
 
-fn indexed(base: u8, index: u8, scale: Scale) -> Amode<u8> {
-    Amode::ImmRegRegShift {
-        base,
-        index: NonRspGpr::new(index),
-        scale,
-        simm32: AmodeOffset::ZERO,
-        trap: None,
-    }
-}
-
 #[test]
 fn an_index_is_scaled(rt: HostRuntime) -> Result<(), Fail> {
     let mut sink = Vec::new(rt.alloc());
     assert_eq!(rt;
-        put(&rt, &add(indexed(13, 12, Scale::Two), 15), &mut sink),
+        put(&rt, &add(indexed(13, 12, Scale::Two, 0), 15), &mut sink),
         Ok(())
     );
     assert_eq!(rt;
         sink.as_slice(),
         [0xF0, 0x47, 0x01, 0x7C, 0x65, 0x00].as_slice()
     );
-    assert!(rt; !add(indexed(13, 4, Scale::One), 1).is_encodable(&sink));
+    assert!(rt; !add(indexed(13, 4, Scale::One, 0), 1).is_encodable(&sink));
     Ok(())
 }
 

@@ -3,5 +3,4 @@ pub mod Address
 pub mod Fault
 pub mod Status
 pub mod Tail
-pub mod Rows
 pub mod Command

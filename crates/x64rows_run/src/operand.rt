@@ -2,7 +2,9 @@
 
 ghost use Rattle.std.specs.Prelude.{◌≡◌, None};
 
-use cranelift_assembler_x64::{Amode, AmodeOffset, AmodeOffsetPlusKnownOffset};
+use cranelift_assembler_x64::{
+    Amode, AmodeOffset, AmodeOffsetPlusKnownOffset, NonRspGpr, Scale,
+};
 
 /// A base and a displacement, with no late offset and no trap.
 pub fn base_and_displacement(base: u8, displacement: i32) -> Amode<u8>
@@ -15,6 +17,19 @@ pub fn base_and_displacement(base: u8, displacement: i32) -> Amode<u8>
     Amode::ImmReg {
         base,
         simm32,
+        trap: None,
+    }
+}
+
+/// A base, an index times a scale, and a displacement, with no trap.
+pub fn base_and_index(base: u8, index: u8, scale: Scale, displacement: i32) -> Amode<u8>
+    ensures { result ≡ Amode.ImmRegRegShift base index scale displacement None }
+{
+    Amode::ImmRegRegShift {
+        base,
+        index: NonRspGpr::new(index),
+        scale,
+        simm32: AmodeOffset::new(displacement),
         trap: None,
     }
 }
