@@ -3,9 +3,9 @@
 use crate::call_recorder::CallRecorder;
 use crate::columns::{write_calls, write_fault};
 use crate::fields::{Fault, Fields, parsed};
-use crate::instruction::instruction_of;
+use crate::instruction::{Numbers, instructions_of};
 use cranelift_assembler_x64::reader::read_inst;
-use cranelift_assembler_x64::{Instruction, Recorder, Row};
+use cranelift_assembler_x64::{Inst, Instruction, Recorder, Row};
 use std::alloc::Global;
 
 /// An empty recorder that knows the offsets of a column.
@@ -36,14 +36,22 @@ fn write_row(came: &mut String, bytes: &[u8], row: Row) -> Result<(), Fault> {
     Ok(())
 }
 
-pub fn answer_instruction(
-    alloc: Global,
-    fields: &mut Fields<'_>,
-    came: &mut String,
-) -> Result<(), Fault> {
+/// The two columns of an instruction as a list of one: the toolchain proves no function here that holds an `Inst` itself.
+fn text_of(alloc: Global, fields: &mut Fields<'_>) -> Result<String, Fault> {
     let name = fields.text()?;
-    let inst = instruction_of(name, fields.text()?)?;
-    let mut sink = CallRecorder::new(alloc, recorder_of(alloc, fields.text()?)?);
+    let values = fields.text()?;
+    Ok(format!(in alloc; "{name} {values}")?)
+}
+
+/// The instruction has to be encodable.
+fn write_encoding(
+    came: &mut String,
+    insts: &[Inst<Numbers>],
+    mut sink: CallRecorder,
+) -> Result<(), Fault> {
+    let [inst] = insts else {
+        return Err(Fault::Malformed);
+    };
     if !inst.is_encodable(&sink) {
         return Err(Fault::Malformed);
     }
@@ -54,19 +62,39 @@ pub fn answer_instruction(
     write_row(came, sink.bytes(), inst.row())
 }
 
-pub fn answer_fault(
+pub fn answer_instruction(
     alloc: Global,
     fields: &mut Fields<'_>,
     came: &mut String,
 ) -> Result<(), Fault> {
-    let name = fields.text()?;
-    let inst = instruction_of(name, fields.text()?)?;
-    let sink = recorder_of(alloc, fields.text()?)?;
-    let fault = inst.first_fault(&sink);
-    let is_encodable = inst.is_encodable(&sink);
+    let text = text_of(alloc, fields)?;
+    let sink = CallRecorder::new(alloc, recorder_of(alloc, fields.text()?)?);
+    write_encoding(came, &instructions_of(alloc, text.as_str())?, sink)
+}
+
+fn write_first_fault(
+    came: &mut String,
+    insts: &[Inst<Numbers>],
+    sink: &Recorder<Global>,
+) -> Result<(), Fault> {
+    let [inst] = insts else {
+        return Err(Fault::Malformed);
+    };
+    let fault = inst.first_fault(sink);
+    let is_encodable = inst.is_encodable(sink);
     write_fault(came, fault)?;
     if is_encodable != fault.is_none() {
         write!(came, " but is_encodable gives {is_encodable}")?;
     }
     Ok(())
+}
+
+pub fn answer_fault(
+    alloc: Global,
+    fields: &mut Fields<'_>,
+    came: &mut String,
+) -> Result<(), Fault> {
+    let text = text_of(alloc, fields)?;
+    let sink = recorder_of(alloc, fields.text()?)?;
+    write_first_fault(came, &instructions_of(alloc, text.as_str())?, &sink)
 }

@@ -11,6 +11,7 @@ use cranelift_assembler_x64::inst::{
 use cranelift_assembler_x64::{
     Amode, Fixed, Gpr, GprMem, Imm8, Imm16, Imm32, Inst, Registers, Simm8, Simm32, Xmm, XmmMem,
 };
+use std::alloc::Global;
 
 /// Registers by their numbers alone.
 pub struct Numbers;
@@ -100,7 +101,7 @@ impl<'a> Values<'a> {
 }
 
 /// The instruction of this name. `PassedOver` where there is no such struct.
-pub fn instruction_of(name: &str, fields: &str) -> Result<Inst<Numbers>, Fault> {
+fn instruction_of(name: &str, fields: &str) -> Result<Inst<Numbers>, Fault> {
     let mut values = Values {
         rest: Fields::list(fields, ' '),
     };
@@ -174,4 +175,15 @@ fn read_instruction(name: &str, v: &mut Values<'_>) -> Result<Inst<Numbers>, Fau
         "nop_9b" => nop_9b::new().into(),
         _ => return Err(Fault::PassedOver),
     })
+}
+
+/// The instruction of a name, a space and its fields.
+fn listed_instruction(text: &str) -> Result<Inst<Numbers>, Fault> {
+    let (name, fields) = text.split_once(' ').ok_or(Fault::Malformed)?;
+    instruction_of(name, fields)
+}
+
+/// The instructions of a list, with ` | ` between them.
+pub fn instructions_of(alloc: Global, list: &str) -> Result<Vec<Inst<Numbers>>, Fault> {
+    list.split(" | ").map(listed_instruction).try_collect(alloc)
 }

@@ -3,25 +3,13 @@
 use crate::columns::{write_bytes, write_notices};
 use crate::encoding::recorder_of;
 use crate::fields::{Fault, Fields, parsed};
-use crate::instruction::{Numbers, instruction_of};
+use crate::instruction::{Numbers, instructions_of};
 use cax64_sink_refusals::RefusingSink;
 use cranelift_assembler_x64::{CodeSink, FixedSink, Inst, Instruction, Recorder, encode_all};
 use std::alloc::Global;
 
 /// The size of the fixed sink.
 const SIZE: usize = 64;
-
-/// The instructions of a list, each a name, a space and its fields, with ` | ` between them.
-fn instructions_of(alloc: Global, list: &str) -> Result<Vec<Inst<Numbers>>, Fault> {
-    let mut insts = Vec::new(alloc);
-    for text in list.split(" | ") {
-        let (name, fields) = text.split_once(' ').ok_or(Fault::Malformed)?;
-        insts
-            .push(instruction_of(name, fields)?)
-            .map_err(|_| Fault::NoMemory)?;
-    }
-    Ok(insts)
-}
 
 /// Encodes a list, and writes whether the sink took it.
 fn write_outcome<S: CodeSink>(
@@ -43,7 +31,7 @@ fn write_outcome<S: CodeSink>(
 }
 
 /// A fixed sink that is full but for so many bytes.
-fn answer_room(came: &mut String, insts: &[Inst<Numbers>], room: usize) -> Result<(), Fault> {
+fn write_room(came: &mut String, insts: &[Inst<Numbers>], room: usize) -> Result<(), Fault> {
     let mut sink = FixedSink::<SIZE>::new();
     for _ in room..SIZE {
         let _ = sink.put1(0);
@@ -56,7 +44,7 @@ fn answer_room(came: &mut String, insts: &[Inst<Numbers>], room: usize) -> Resul
 }
 
 /// A recorder that takes so many calls.
-fn answer_calls(
+fn write_refused_call(
     came: &mut String,
     insts: &[Inst<Numbers>],
     recorder: Recorder<Global>,
@@ -70,22 +58,38 @@ fn answer_calls(
     write_notices(came, recorder.notices())
 }
 
+fn write_refusal(
+    came: &mut String,
+    insts: &[Inst<Numbers>],
+    recorder: Recorder<Global>,
+    limit: &str,
+    number: usize,
+) -> Result<(), Fault> {
+    match limit {
+        "room" if number <= SIZE => write_room(came, insts, number),
+        "call" if number > 0 => write_refused_call(came, insts, recorder, number - 1),
+        _ => Err(Fault::Malformed),
+    }
+}
+
 /// The second of two stages tells of machine code that isn't made yet.
 pub fn answer_refusal(
     alloc: Global,
     fields: &mut Fields<'_>,
     came: &mut String,
 ) -> Result<(), Fault> {
-    let insts = instructions_of(alloc, fields.text()?)?;
+    let list = fields.text()?;
     let recorder = recorder_of(alloc, fields.text()?)?;
     if fields.text()? == "2" {
         return Err(Fault::PassedOver);
     }
     let limit = fields.text()?;
     let number: usize = parsed(fields.text()?)?;
-    match limit {
-        "room" if number <= SIZE => answer_room(came, &insts, number),
-        "call" if number > 0 => answer_calls(came, &insts, recorder, number - 1),
-        _ => Err(Fault::Malformed),
-    }
+    write_refusal(
+        came,
+        &instructions_of(alloc, list)?,
+        recorder,
+        limit,
+        number,
+    )
 }

@@ -71,13 +71,14 @@ fn columns_but(alloc: Global, left_out: &[&str], names: &str, line: &str) -> Res
         return Err(Fault::Malformed);
     }
     let mut columns = String::new(alloc);
-    let mut separator = "";
     for (name, column) in names.split('\t').zip(line.split('\t')) {
-        if !left_out.iter().any(|left| *left == name) {
-            columns.push_str(separator)?;
-            columns.push_str(column)?;
-            separator = "\t";
+        if left_out.iter().any(|left| *left == name) {
+            continue;
         }
+        if !columns.is_empty() {
+            columns.push('\t')?;
+        }
+        columns.push_str(column)?;
     }
     Ok(columns)
 }
@@ -91,17 +92,14 @@ fn answer_of(alloc: Global, kind: Kind, names: &str, line: &str) -> Result<Answe
     Ok(Answer { wanted, came })
 }
 
-/// Compares each line of a file but that which names the columns behind a `#`.
+/// Compares each line of a file but the first, which names the columns behind a `#`.
 pub fn report_of(alloc: Global, kind: Kind, text: &str) -> Result<Report, AllocError> {
     let mut report = Report::new();
-    let mut names = "";
-    let mut number = 0usize;
-    for line in text.lines() {
+    let (header, cases) = text.split_once('\n').unwrap_or((text, ""));
+    let names = header.strip_prefix('#').unwrap_or(header);
+    let mut number = 1usize;
+    for line in cases.lines() {
         number = number.saturating_add(1);
-        if let Some(header) = line.strip_prefix('#') {
-            names = header;
-            continue;
-        }
         report.lines = report.lines.saturating_add(1);
         match answer_of(alloc, kind, names, line) {
             Ok(answer) => report.compare(number, answer),
