@@ -13,9 +13,10 @@ pub struct CallRecorder {
 }
 
 impl CallRecorder {
-    pub fn new(alloc: Global) -> Self {
+    /// Over `recorder`, with no calls yet.
+    pub fn new(alloc: Global, recorder: Recorder<Global>) -> Self {
         CallRecorder {
-            recorder: Recorder::new(alloc),
+            recorder,
             calls: String::new(alloc),
         }
     }

@@ -1,6 +1,8 @@
 //! Columns as they came.
 
+use crate::call_recorder::CallRecorder;
 use crate::fields::Fault;
+use cranelift_assembler_x64 as assembler;
 use cranelift_assembler_x64::{DeferredTarget, Notice};
 
 /// Hexadecimal pairs.
@@ -53,6 +55,27 @@ pub fn write_notices(came: &mut String, notices: &[Notice]) -> Result<(), Fault>
         came.push_str(separator)?;
         write_notice(came, *notice)?;
         separator = ";";
+    }
+    Ok(())
+}
+
+/// Bytes, calls and notices.
+pub fn write_calls(came: &mut String, sink: &CallRecorder) -> Result<(), Fault> {
+    write_bytes(came, sink.bytes())?;
+    let calls = sink.calls();
+    write!(came, "\t{calls}\t")?;
+    write_notices(came, sink.notices())
+}
+
+/// Why an instruction can't be encoded.
+pub fn write_fault(came: &mut String, fault: Option<assembler::Fault>) -> Result<(), Fault> {
+    match fault {
+        None => came.push('-')?,
+        Some(assembler::Fault::Register(at)) => write!(came, "Register:{at}")?,
+        Some(assembler::Fault::Index(at)) => write!(came, "Index:{at}")?,
+        Some(assembler::Fault::Fixed(at)) => write!(came, "Fixed:{at}")?,
+        Some(assembler::Fault::Unknown(key)) => write!(came, "Unknown:{key}")?,
+        Some(assembler::Fault::Range) => came.push_str("Range")?,
     }
     Ok(())
 }

@@ -3,6 +3,7 @@
 ghost use Rattle.std.specs.Prelude.{◌≤◌, ◌≤ℤ◌, pos, IfOk, IfSome};
 
 use std::alloc::AllocError;
+use std::str::FromStr;
 
 /// Why a line isn't compared.
 #[derive(Clone, Copy, Debug, PartialEq)]
@@ -20,15 +21,33 @@ impl From<AllocError> for Fault {
     }
 }
 
-/// The columns that are still to be read. One that stands for nothing is `-`.
+/// The columns that are still to be read, or other pieces of a text. A column that stands for nothing is `-`.
 #[derive(Clone, Copy)]
 pub struct Fields<'a> {
     rest: Option<&'a str>,
+    separator: char,
 }
 
 impl<'a> Fields<'a> {
+    /// The columns of a line.
     pub fn new(line: &'a str) -> Fields<'a> {
-        Fields { rest: Some(line) }
+        Fields {
+            rest: Some(line),
+            separator: '\t',
+        }
+    }
+
+    /// The pieces of a column.
+    pub fn list(column: &'a str, separator: char) -> Fields<'a> {
+        let rest = match column {
+            "-" => None,
+            pieces => Some(pieces),
+        };
+        Fields { rest, separator }
+    }
+
+    pub fn is_at_end(&self) -> bool {
+        self.rest.is_none()
     }
 
     /// All columns that are left, with the tabs between them.
@@ -39,7 +58,7 @@ impl<'a> Fields<'a> {
     /// The next column.
     pub fn text(&mut self) -> Result<&'a str, Fault> {
         let rest = self.rest()?;
-        match rest.split_once('\t') {
+        match rest.split_once(self.separator) {
             Some((first, others)) => {
                 self.rest = Some(others);
                 Ok(first)
@@ -69,7 +88,7 @@ impl<'a> Fields<'a> {
     }
 
     pub fn signed(&mut self) -> Result<i32, Fault> {
-        self.text()?.parse::<i32>().map_err(|_| Fault::Malformed)
+        parsed(self.text()?)
     }
 
     /// The factor of a displacement, 1 to 127, or none.
@@ -89,10 +108,18 @@ impl<'a> Fields<'a> {
     }
 }
 
+/// A number of any type that has the range.
+pub fn parsed<N: FromStr>(text: &str) -> Result<N, Fault>
+where
+    <N as FromStr>::Err: Drop,
+{
+    text.parse::<N>().map_err(|_| Fault::Malformed)
+}
+
 fn number_of(text: &str, most: u8) -> Result<u8, Fault>
     ensures { IfOk result (λ n. n ≤ most) }
 {
-    let number = text.parse::<u8>().map_err(|_| Fault::Malformed)?;
+    let number: u8 = parsed(text)?;
     if number > most {
         return Err(Fault::Malformed);
     }

@@ -5,9 +5,13 @@
 //! names the columns. A column is never empty: `-` stands for nothing. Numbers are decimal, bytes hexadecimal pairs.
 #![tactic(auto)]
 
+mod address;
 mod call_recorder;
 mod columns;
+mod encoding;
 mod fields;
+mod instruction;
+mod lists;
 mod prefixes;
 mod program;
 mod reading;
@@ -31,11 +35,14 @@ pub enum Kind {
     Vex,
     Evex,
     Apx,
+    Instructions,
+    Faults,
+    Refusals,
     Reader,
     Program,
 }
 
-const KINDS: [Kind; 9] = [
+const KINDS: [Kind; 12] = [
     Kind::Tails,
     Kind::Relative,
     Kind::Disp,
@@ -43,9 +50,20 @@ const KINDS: [Kind; 9] = [
     Kind::Vex,
     Kind::Evex,
     Kind::Apx,
+    Kind::Instructions,
+    Kind::Faults,
+    Kind::Refusals,
     Kind::Reader,
     Kind::Program,
 ];
+
+/// The columns of `instructions` that nothing answers yet.
+const UNANSWERED_OF_INSTRUCTIONS: [&str; 9] = [
+    "bytes2", "calls2", "notices2", "len2", "text", "xed", "mnemonic", "features", "visits",
+];
+
+/// The columns of `faults` that nothing answers yet.
+const UNANSWERED_OF_FAULTS: [&str; 1] = ["visits"];
 
 impl Kind {
     /// The file's name before `.tsv`.
@@ -58,8 +76,20 @@ impl Kind {
             Kind::Vex => "vex",
             Kind::Evex => "evex",
             Kind::Apx => "apx",
+            Kind::Instructions => "instructions",
+            Kind::Faults => "faults",
+            Kind::Refusals => "refusals",
             Kind::Reader => "reader",
             Kind::Program => "program",
+        }
+    }
+
+    /// The columns that nothing answers yet. They are left out of each line before it is read.
+    fn unanswered(self) -> &'static [&'static str] {
+        match self {
+            Kind::Instructions => &UNANSWERED_OF_INSTRUCTIONS,
+            Kind::Faults => &UNANSWERED_OF_FAULTS,
+            _ => &[],
         }
     }
 
@@ -78,13 +108,17 @@ impl Kind {
             Kind::Vex => prefixes::answer_vex(fields, came),
             Kind::Evex => prefixes::answer_evex(fields, came),
             Kind::Apx => prefixes::answer_apx(fields, came),
+            Kind::Instructions => encoding::answer_instruction(alloc, fields, came),
+            Kind::Faults => encoding::answer_fault(alloc, fields, came),
+            Kind::Refusals => lists::answer_refusal(alloc, fields, came),
             Kind::Reader => reading::answer_reading(alloc, fields, came),
             Kind::Program => program::answer_program(alloc, fields, came),
         }
     }
 }
 
-fn print_report(rt: &impl Print, name: &str, report: &Report<'_>) -> io::Result<()> {
+fn print_report(rt: &impl Print, kind: Kind, report: &Report) -> io::Result<()> {
+    let name = kind.name();
     let lines = report.lines;
     let equal = report.equal;
     print!(rt; "{name}: {lines} lines, {equal} equal")?;
@@ -96,13 +130,18 @@ fn print_report(rt: &impl Print, name: &str, report: &Report<'_>) -> io::Result<
         let malformed = report.malformed;
         print!(rt; ", {malformed} malformed")?;
     }
+    let mut separator = ", not compared:";
+    for column in kind.unanswered() {
+        print!(rt; "{separator} {column}")?;
+        separator = "";
+    }
     println!(rt; "")?;
     if let Some(line) = report.first_malformed {
         println!(rt; "  line {line} of {name}.tsv is malformed")?;
     }
     if let Some(difference) = &report.first_difference {
         let line = difference.line;
-        let wanted = difference.wanted;
+        let wanted = difference.wanted.as_str();
         let came = difference.came.as_str();
         println!(rt; "  line {line} wanted {wanted}")?;
         println!(rt; "  line {line} came   {came}")?;
@@ -123,7 +162,7 @@ fn run_file(rt: &HostRuntime, kind: Kind) -> io::Result<bool> {
         Err(error) => return Err(error),
     };
     let report = report_of(rt.alloc(), kind, text.as_str())?;
-    print_report(rt, name, &report)?;
+    print_report(rt, kind, &report)?;
     Ok(report.is_clean())
 }
 

@@ -6,25 +6,25 @@ use std::alloc::{AllocError, Global};
 
 /// A line whose answer isn't the wanted one.
 #[derive(Drop)]
-pub struct Difference<'a> {
+pub struct Difference {
     /// The number in the file, from 1 on.
     pub line: usize,
-    pub wanted: &'a str,
+    pub wanted: String,
     pub came: String,
 }
 
 /// What a file's lines came to.
 #[derive(Drop)]
-pub struct Report<'a> {
+pub struct Report {
     pub lines: usize,
     pub equal: usize,
     pub passed_over: usize,
     pub malformed: usize,
     pub first_malformed: Option<usize>,
-    pub first_difference: Option<Difference<'a>>,
+    pub first_difference: Option<Difference>,
 }
 
-impl<'a> Report<'a> {
+impl Report {
     fn new() -> Self {
         Report {
             lines: 0,
@@ -41,14 +41,13 @@ impl<'a> Report<'a> {
         self.first_malformed.is_none() && self.first_difference.is_none()
     }
 
-    fn compare(&mut self, line: usize, wanted: &'a str, came: &String) -> Result<(), AllocError> {
-        if came.as_str() == wanted {
+    fn compare(&mut self, line: usize, answer: Answer) {
+        let Answer { wanted, came } = answer;
+        if came == wanted {
             self.equal = self.equal.saturating_add(1);
         } else if self.first_difference.is_none() {
-            let came = came.clone()?;
             self.first_difference = Some(Difference { line, wanted, came });
         }
-        Ok(())
     }
 
     fn add_malformed(&mut self, line: usize) {
@@ -59,23 +58,52 @@ impl<'a> Report<'a> {
     }
 }
 
-/// Compares each line of a file but those that begin with `#`.
-pub fn report_of<'a>(alloc: Global, kind: Kind, text: &'a str) -> Result<Report<'a>, AllocError> {
-    let mut report = Report::new();
-    let mut came = String::new(alloc);
-    let mut line = 0usize;
-    for columns in text.lines() {
-        line = line.saturating_add(1);
-        if columns.starts_with('#') {
+/// What is wanted of a line, and what came.
+#[derive(Drop)]
+struct Answer {
+    wanted: String,
+    came: String,
+}
+
+/// The columns of a line but those of the names that are left out, with the tabs between them.
+fn columns_but(alloc: Global, left_out: &[&str], names: &str, line: &str) -> Result<String, Fault> {
+    if names.split('\t').count() != line.split('\t').count() {
+        return Err(Fault::Malformed);
+    }
+    let mut columns = String::new(alloc);
+    for (name, column) in names.split('\t').zip(line.split('\t')) {
+        if left_out.iter().any(|left| *left == name) {
             continue;
         }
+        if !columns.is_empty() {
+            columns.push('\t')?;
+        }
+        columns.push_str(column)?;
+    }
+    Ok(columns)
+}
+
+fn answer_of(alloc: Global, kind: Kind, names: &str, line: &str) -> Result<Answer, Fault> {
+    let columns = columns_but(alloc, kind.unanswered(), names, line)?;
+    let mut fields = Fields::new(columns.as_str());
+    let mut came = String::new(alloc);
+    kind.answer(alloc, &mut fields, &mut came)?;
+    let wanted = String::from_str(alloc, fields.rest()?)?;
+    Ok(Answer { wanted, came })
+}
+
+/// Compares each line of a file but the first, which names the columns behind a `#`.
+pub fn report_of(alloc: Global, kind: Kind, text: &str) -> Result<Report, AllocError> {
+    let mut report = Report::new();
+    let (header, cases) = text.split_once('\n').unwrap_or((text, ""));
+    let names = header.strip_prefix('#').unwrap_or(header);
+    let mut number = 1usize;
+    for line in cases.lines() {
+        number = number.saturating_add(1);
         report.lines = report.lines.saturating_add(1);
-        let mut fields = Fields::new(columns);
-        came.clear();
-        let answer = kind.answer(alloc, &mut fields, &mut came);
-        match answer.and_then(|()| fields.rest()) {
-            Ok(wanted) => report.compare(line, wanted, &came)?,
-            Err(Fault::Malformed) => report.add_malformed(line),
+        match answer_of(alloc, kind, names, line) {
+            Ok(answer) => report.compare(number, answer),
+            Err(Fault::Malformed) => report.add_malformed(number),
             Err(Fault::PassedOver) => report.passed_over = report.passed_over.saturating_add(1),
             Err(Fault::NoMemory) => return Err(AllocError),
         }

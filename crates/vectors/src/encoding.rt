@@ -1,0 +1,100 @@
+//! Single instructions.
+
+use crate::call_recorder::CallRecorder;
+use crate::columns::{write_calls, write_fault};
+use crate::fields::{Fault, Fields, parsed};
+use crate::instruction::{Numbers, instructions_of};
+use cranelift_assembler_x64::reader::read_inst;
+use cranelift_assembler_x64::{Inst, Instruction, Recorder, Row};
+use std::alloc::Global;
+
+/// An empty recorder that knows the offsets of a column.
+pub fn recorder_of(alloc: Global, offsets: &str) -> Result<Recorder<Global>, Fault> {
+    let mut recorder = Recorder::new(alloc);
+    if offsets == "-" {
+        return Ok(recorder);
+    }
+    for offset in offsets.split(',') {
+        let (key, value) = offset.split_once('=').ok_or(Fault::Malformed)?;
+        recorder.set_offset(parsed(key)?, parsed(value)?);
+    }
+    Ok(recorder)
+}
+
+/// The row that is read from the bytes, and `row` where that is another.
+fn write_row(came: &mut String, bytes: &[u8], row: Row) -> Result<(), Fault> {
+    let Some(reading) = read_inst(bytes) else {
+        came.push_str("none")?;
+        return Ok(());
+    };
+    let name = reading.row.name();
+    came.push_str(name)?;
+    if reading.row != row {
+        let name = row.name();
+        write!(came, " but row gives {name}")?;
+    }
+    Ok(())
+}
+
+/// The two columns of an instruction as a list of one: the toolchain proves no function here that holds an `Inst` itself.
+fn text_of(alloc: Global, fields: &mut Fields<'_>) -> Result<String, Fault> {
+    let name = fields.text()?;
+    let values = fields.text()?;
+    Ok(format!(in alloc; "{name} {values}")?)
+}
+
+/// The instruction has to be encodable.
+fn write_encoding(
+    came: &mut String,
+    insts: &[Inst<Numbers>],
+    mut sink: CallRecorder,
+) -> Result<(), Fault> {
+    let [inst] = insts else {
+        return Err(Fault::Malformed);
+    };
+    if !inst.is_encodable(&sink) {
+        return Err(Fault::Malformed);
+    }
+    let length = inst.encoded_len(&sink);
+    inst.encode(&mut sink).map_err(|_| Fault::NoMemory)?;
+    write_calls(came, &sink)?;
+    write!(came, "\t{length}\t")?;
+    write_row(came, sink.bytes(), inst.row())
+}
+
+pub fn answer_instruction(
+    alloc: Global,
+    fields: &mut Fields<'_>,
+    came: &mut String,
+) -> Result<(), Fault> {
+    let text = text_of(alloc, fields)?;
+    let sink = CallRecorder::new(alloc, recorder_of(alloc, fields.text()?)?);
+    write_encoding(came, &instructions_of(alloc, text.as_str())?, sink)
+}
+
+fn write_first_fault(
+    came: &mut String,
+    insts: &[Inst<Numbers>],
+    sink: &Recorder<Global>,
+) -> Result<(), Fault> {
+    let [inst] = insts else {
+        return Err(Fault::Malformed);
+    };
+    let fault = inst.first_fault(sink);
+    let is_encodable = inst.is_encodable(sink);
+    write_fault(came, fault)?;
+    if is_encodable != fault.is_none() {
+        write!(came, " but is_encodable gives {is_encodable}")?;
+    }
+    Ok(())
+}
+
+pub fn answer_fault(
+    alloc: Global,
+    fields: &mut Fields<'_>,
+    came: &mut String,
+) -> Result<(), Fault> {
+    let text = text_of(alloc, fields)?;
+    let sink = recorder_of(alloc, fields.text()?)?;
+    write_first_fault(came, &instructions_of(alloc, text.as_str())?, &sink)
+}
