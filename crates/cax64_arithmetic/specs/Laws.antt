@@ -3,7 +3,7 @@ use Rattle.std.specs.Prelude.{if◌then◌else◌}
 use Rattle.cax64_address.specs.declared.operand.GprMem.{GprMem}
 use Rattle.cax64_machine_code.specs.declared.row.Row.{Row}
 use Rattle.cax64_encoder.specs.Family.{Family, number, value, low, held, plain, fixed, second_visit, gpr_or_memory}
-use Rattle.cax64_encoder.specs.Meant.{Meant, operands_meant}
+use Rattle.cax64_encoder.specs.Meant.{operands_meant}
 use Rattle.cax64_encoder.specs.Operands.{place_visits, place_named, memory_in}
 use Rattle.cax64_encoder.specs.declared.operands.VvvvOperand.TheVariants.{Register, SameAsReg}
 use Rattle.cax64_encoder.specs.declared.operands.VisitOrder.TheVariants.{PlaceLast}

@@ -20,13 +20,23 @@ pub struct mulxl_rvm<R: Registers> {
 impl<R: Registers> mulxl_rvm<R> {
     ghost use Rattle.std.specs.Prelude.{◌≡◌};
 
-    pub fn new(r32a: Gpr<R::WriteGpr>, r32b: Gpr<R::WriteGpr>, rm32: GprMem<R::ReadGpr, R::ReadGpr>, edx: Fixed<R::ReadGpr, 2>) -> Self
+    pub fn new(
+        r32a: Gpr<R::WriteGpr>,
+        r32b: Gpr<R::WriteGpr>,
+        rm32: GprMem<R::ReadGpr, R::ReadGpr>,
+        edx: Fixed<R::ReadGpr, 2>,
+    ) -> Self
         ensures r32a { result.r32a ≡ r32a }
         ensures r32b { result.r32b ≡ r32b }
         ensures rm32 { result.rm32 ≡ rm32 }
         ensures edx { result.edx ≡ edx }
     {
-        mulxl_rvm { r32a, r32b, rm32, edx }
+        mulxl_rvm {
+            r32a,
+            r32b,
+            rm32,
+            edx,
+        }
     }
 }
 
@@ -86,13 +96,23 @@ pub struct mulxq_rvm<R: Registers> {
 impl<R: Registers> mulxq_rvm<R> {
     ghost use Rattle.std.specs.Prelude.{◌≡◌};
 
-    pub fn new(r64a: Gpr<R::WriteGpr>, r64b: Gpr<R::WriteGpr>, rm64: GprMem<R::ReadGpr, R::ReadGpr>, rdx: Fixed<R::ReadGpr, 2>) -> Self
+    pub fn new(
+        r64a: Gpr<R::WriteGpr>,
+        r64b: Gpr<R::WriteGpr>,
+        rm64: GprMem<R::ReadGpr, R::ReadGpr>,
+        rdx: Fixed<R::ReadGpr, 2>,
+    ) -> Self
         ensures r64a { result.r64a ≡ r64a }
         ensures r64b { result.r64b ≡ r64b }
         ensures rm64 { result.rm64 ≡ rm64 }
         ensures rdx { result.rdx ≡ rdx }
     {
-        mulxq_rvm { r64a, r64b, rm64, rdx }
+        mulxq_rvm {
+            r64a,
+            r64b,
+            rm64,
+            rdx,
+        }
     }
 }
 

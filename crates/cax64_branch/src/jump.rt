@@ -5,7 +5,7 @@ use cax64_encoder::form::Form;
 use cax64_encoder::imm::ImmOperand;
 use cax64_encoder::instruction::Instruction;
 use cax64_encoder::operands::{Operands, PlaceOperand, VisitOrder, VvvvOperand};
-use cax64_immediate::{Simm32, Simm8};
+use cax64_immediate::{Simm8, Simm32};
 use cax64_machine_code::row::Row;
 use cax64_register::Registers;
 

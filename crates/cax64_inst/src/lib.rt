@@ -6,7 +6,10 @@ use cax64_arithmetic::{andb_i, mulxl_rvm, mulxq_rvm, shlb_m1, xchgb_rm};
 use cax64_branch::{callq_m, je_d32, jmp_d8, jmpq_m};
 use cax64_encoder::form::Form;
 use cax64_encoder::instruction::Instruction;
-use cax64_locked::{lock_addb_mr, lock_addl_mi, lock_addl_mi_sxb, lock_addl_mr, lock_addq_mi_sxl, lock_addw_mi, lock_cmpxchg16b_m, lock_cmpxchgl_mr, lock_xaddl_mr};
+use cax64_locked::{
+    lock_addb_mr, lock_addl_mi, lock_addl_mi_sxb, lock_addl_mr, lock_addq_mi_sxl, lock_addw_mi,
+    lock_cmpxchg16b_m, lock_cmpxchgl_mr, lock_xaddl_mr,
+};
 use cax64_machine_code::row::Row;
 use cax64_nop::{nop_1b, nop_2b, nop_3b, nop_4b, nop_5b, nop_6b, nop_7b, nop_8b, nop_9b};
 use cax64_register::Registers;

@@ -6,7 +6,7 @@ use cax64_encoder::imm::ImmOperand;
 use cax64_encoder::instruction::Instruction;
 use cax64_encoder::operands::{Operands, PlaceOperand, VisitOrder, VvvvOperand};
 use cax64_encoder::visited::Number;
-use cax64_immediate::{Imm16, Imm32, Simm32, Simm8};
+use cax64_immediate::{Imm16, Imm32, Simm8, Simm32};
 use cax64_machine_code::row::Row;
 use cax64_register::{Gpr, Registers};
 

@@ -131,14 +131,26 @@ pub struct lock_cmpxchg16b_m<R: Registers> {
 impl<R: Registers> lock_cmpxchg16b_m<R> {
     ghost use Rattle.std.specs.Prelude.{◌≡◌};
 
-    pub fn new(m128: Amode<R::ReadGpr>, rax: Fixed<R::ReadWriteGpr, 0>, rdx: Fixed<R::ReadWriteGpr, 2>, rcx: Fixed<R::ReadGpr, 1>, rbx: Fixed<R::ReadGpr, 3>) -> Self
+    pub fn new(
+        m128: Amode<R::ReadGpr>,
+        rax: Fixed<R::ReadWriteGpr, 0>,
+        rdx: Fixed<R::ReadWriteGpr, 2>,
+        rcx: Fixed<R::ReadGpr, 1>,
+        rbx: Fixed<R::ReadGpr, 3>,
+    ) -> Self
         ensures m128 { result.m128 ≡ m128 }
         ensures rax { result.rax ≡ rax }
         ensures rdx { result.rdx ≡ rdx }
         ensures rcx { result.rcx ≡ rcx }
         ensures rbx { result.rbx ≡ rbx }
     {
-        lock_cmpxchg16b_m { m128, rax, rdx, rcx, rbx }
+        lock_cmpxchg16b_m {
+            m128,
+            rax,
+            rdx,
+            rcx,
+            rbx,
+        }
     }
 }
 

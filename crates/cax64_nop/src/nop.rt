@@ -10,8 +10,7 @@ use cax64_machine_code::row::Row;
 pub struct nop_1b;
 
 impl nop_1b {
-    pub fn new() -> Self
-    {
+    pub fn new() -> Self {
         nop_1b
     }
 }
@@ -46,8 +45,7 @@ impl Instruction for nop_1b {
 pub struct nop_2b;
 
 impl nop_2b {
-    pub fn new() -> Self
-    {
+    pub fn new() -> Self {
         nop_2b
     }
 }
@@ -82,8 +80,7 @@ impl Instruction for nop_2b {
 pub struct nop_3b;
 
 impl nop_3b {
-    pub fn new() -> Self
-    {
+    pub fn new() -> Self {
         nop_3b
     }
 }
@@ -118,8 +115,7 @@ impl Instruction for nop_3b {
 pub struct nop_4b;
 
 impl nop_4b {
-    pub fn new() -> Self
-    {
+    pub fn new() -> Self {
         nop_4b
     }
 }
@@ -154,8 +150,7 @@ impl Instruction for nop_4b {
 pub struct nop_5b;
 
 impl nop_5b {
-    pub fn new() -> Self
-    {
+    pub fn new() -> Self {
         nop_5b
     }
 }
@@ -190,8 +185,7 @@ impl Instruction for nop_5b {
 pub struct nop_6b;
 
 impl nop_6b {
-    pub fn new() -> Self
-    {
+    pub fn new() -> Self {
         nop_6b
     }
 }
@@ -226,8 +220,7 @@ impl Instruction for nop_6b {
 pub struct nop_7b;
 
 impl nop_7b {
-    pub fn new() -> Self
-    {
+    pub fn new() -> Self {
         nop_7b
     }
 }
@@ -262,8 +255,7 @@ impl Instruction for nop_7b {
 pub struct nop_8b;
 
 impl nop_8b {
-    pub fn new() -> Self
-    {
+    pub fn new() -> Self {
         nop_8b
     }
 }
@@ -298,8 +290,7 @@ impl Instruction for nop_8b {
 pub struct nop_9b;
 
 impl nop_9b {
-    pub fn new() -> Self
-    {
+    pub fn new() -> Self {
         nop_9b
     }
 }

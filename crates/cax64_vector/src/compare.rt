@@ -21,12 +21,20 @@ pub struct cmpps_a<R: Registers> {
 impl<R: Registers> cmpps_a<R> {
     ghost use Rattle.std.specs.Prelude.{◌≡◌};
 
-    pub fn new(xmm1: Xmm<R::ReadWriteXmm>, xmm_m128: XmmMem<R::ReadXmm, R::ReadGpr>, imm8: Imm8) -> Self
+    pub fn new(
+        xmm1: Xmm<R::ReadWriteXmm>,
+        xmm_m128: XmmMem<R::ReadXmm, R::ReadGpr>,
+        imm8: Imm8,
+    ) -> Self
         ensures xmm1 { result.xmm1 ≡ xmm1 }
         ensures xmm_m128 { result.xmm_m128 ≡ xmm_m128 }
         ensures imm8 { result.imm8 ≡ imm8 }
     {
-        cmpps_a { xmm1, xmm_m128, imm8 }
+        cmpps_a {
+            xmm1,
+            xmm_m128,
+            imm8,
+        }
     }
 }
 
@@ -75,12 +83,20 @@ pub struct cmpss_a<R: Registers> {
 impl<R: Registers> cmpss_a<R> {
     ghost use Rattle.std.specs.Prelude.{◌≡◌};
 
-    pub fn new(xmm1: Xmm<R::ReadWriteXmm>, xmm_m32: XmmMem<R::ReadXmm, R::ReadGpr>, imm8: Imm8) -> Self
+    pub fn new(
+        xmm1: Xmm<R::ReadWriteXmm>,
+        xmm_m32: XmmMem<R::ReadXmm, R::ReadGpr>,
+        imm8: Imm8,
+    ) -> Self
         ensures xmm1 { result.xmm1 ≡ xmm1 }
         ensures xmm_m32 { result.xmm_m32 ≡ xmm_m32 }
         ensures imm8 { result.imm8 ≡ imm8 }
     {
-        cmpss_a { xmm1, xmm_m32, imm8 }
+        cmpss_a {
+            xmm1,
+            xmm_m32,
+            imm8,
+        }
     }
 }
 
@@ -130,13 +146,23 @@ pub struct vcmpps_b<R: Registers> {
 impl<R: Registers> vcmpps_b<R> {
     ghost use Rattle.std.specs.Prelude.{◌≡◌};
 
-    pub fn new(xmm1: Xmm<R::WriteXmm>, xmm2: Xmm<R::ReadXmm>, xmm_m128: XmmMem<R::ReadXmm, R::ReadGpr>, imm8: Imm8) -> Self
+    pub fn new(
+        xmm1: Xmm<R::WriteXmm>,
+        xmm2: Xmm<R::ReadXmm>,
+        xmm_m128: XmmMem<R::ReadXmm, R::ReadGpr>,
+        imm8: Imm8,
+    ) -> Self
         ensures xmm1 { result.xmm1 ≡ xmm1 }
         ensures xmm2 { result.xmm2 ≡ xmm2 }
         ensures xmm_m128 { result.xmm_m128 ≡ xmm_m128 }
         ensures imm8 { result.imm8 ≡ imm8 }
     {
-        vcmpps_b { xmm1, xmm2, xmm_m128, imm8 }
+        vcmpps_b {
+            xmm1,
+            xmm2,
+            xmm_m128,
+            imm8,
+        }
     }
 }
 

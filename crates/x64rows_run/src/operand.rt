@@ -2,9 +2,7 @@
 
 ghost use Rattle.std.specs.Prelude.{◌≡◌, None};
 
-use cranelift_assembler_x64::{
-    Amode, AmodeOffset, AmodeOffsetPlusKnownOffset, NonRspGpr, Scale,
-};
+use cranelift_assembler_x64::{Amode, AmodeOffset, AmodeOffsetPlusKnownOffset, NonRspGpr, Scale};
 
 /// A base and a displacement, with no late offset and no trap.
 pub fn base_and_displacement(base: u8, displacement: i32) -> Amode<u8>

@@ -220,7 +220,11 @@ fn no_line_is_written_after_a_refused_one(rt: HostRuntime) {
             "after {calls} writes"
         );
         assert!(rt; ROWS.as_bytes().starts_with(taken.as_slice()));
-        let written = taken.as_slice().iter().filter(|byte| **byte == b'\n').count();
+        let written = taken
+            .as_slice()
+            .iter()
+            .filter(|byte| **byte == b'\n')
+            .count();
         assert_eq!(rt; written, calls.min(lines), "after {calls} writes");
         assert!(rt;
             taken.is_empty() || taken.as_slice().ends_with(b"\n"),
