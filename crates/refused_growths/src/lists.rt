@@ -6,7 +6,9 @@ use cranelift_assembler_x64::{
     Registers, SinkError, TrapCode, encode_all_whole,
 };
 use linked_list_allocator::LocalHeap;
+use std::alloc::Allocator;
 use std::num::NonZeroU8;
+use std::process::Abort;
 use std::test::Fail;
 
 /// The family of plain numbers.
@@ -30,6 +32,17 @@ const BYTES: [u8; 13] = [
     0x90, 0x66, 0x0F, 0x1F, 0x84, 0x00, 0x00, 0x00, 0x00, 0x00, 0xF0, 0x01, 0x08,
 ];
 
+/// Encodes a list whole, each instruction of which has to be encodable.
+fn put_all_whole<A: Allocator>(
+    rt: &impl Abort,
+    insts: &[Inst<Numbers>],
+    recorder: &mut Recorder<A>,
+) -> Result<(), SinkError> {
+    assert!(rt; insts.iter().all(|i| i.is_encodable(recorder)));
+    assert!(rt; insts.len() <= usize::MAX / 13);
+    encode_all_whole(insts, recorder)
+}
+
 /// A recorder over a heap of each size holds what it held before, until the heap is large enough for all of the list.
 #[test]
 fn a_list_is_put_whole_or_not_at_all(rt: HostRuntime) -> Result<(), Fail> {
@@ -52,8 +65,7 @@ fn a_list_is_put_whole_or_not_at_all(rt: HostRuntime) -> Result<(), Fail> {
         if sink.put1(0x90).is_err() {
             continue;
         }
-        assert!(rt; insts.iter().all(|i| i.is_encodable(&sink)));
-        let result = encode_all_whole(&insts, &mut sink);
+        let result = put_all_whole(&rt, &insts, &mut sink);
         whole = result == Ok(());
         if whole {
             assert_eq!(rt; sink.bytes(), BYTES.as_slice());
