@@ -56,7 +56,7 @@ fn a_list_is_put_whole_or_not_at_all(rt: HostRuntime) -> Result<(), Fail> {
         nop_9b::new().into(),
         lock_addl_mr::new(place, Gpr::new(1)).into(),
     ];
-    let mut refused = 0;
+    let mut refused = 0usize;
     let mut whole = false;
     for blocks in 2..24 {
         let heap = LocalHeap::new(rt.alloc(), 16 * blocks)?;
@@ -74,7 +74,7 @@ fn a_list_is_put_whole_or_not_at_all(rt: HostRuntime) -> Result<(), Fail> {
             assert_eq!(rt; result, Err(SinkError::NoMemory), "in {blocks} blocks");
             assert_eq!(rt; sink.bytes(), &BYTES[..1], "in {blocks} blocks");
             assert!(rt; sink.notices().is_empty());
-            refused += 1;
+            refused = refused.saturating_add(1);
         }
     }
     assert!(rt; whole && refused >= 2, "refused {refused} times");
