@@ -7,4 +7,6 @@ mod lists;
 #[cfg(test)]
 mod registers;
 #[cfg(test)]
+mod sinks;
+#[cfg(test)]
 mod tails;

@@ -1,12 +1,13 @@
 //! Columns as they came.
 
-use crate::call_recorder::CallRecorder;
 use crate::fields::Fault;
+use cax64_test_sinks::CallRecorder;
 use cranelift_assembler_x64 as assembler;
 use cranelift_assembler_x64::{DeferredTarget, Notice};
+use std::alloc::Global;
 
 /// Hexadecimal pairs.
-pub fn write_bytes(came: &mut String, bytes: &[u8]) -> Result<(), Fault> {
+pub(crate) fn write_bytes(came: &mut String, bytes: &[u8]) -> Result<(), Fault> {
     if bytes.is_empty() {
         came.push('-')?;
     }
@@ -46,7 +47,7 @@ fn write_notice(came: &mut String, notice: Notice) -> Result<(), Fault> {
 }
 
 /// Notices, with `;` between them.
-pub fn write_notices(came: &mut String, notices: &[Notice]) -> Result<(), Fault> {
+pub(crate) fn write_notices(came: &mut String, notices: &[Notice]) -> Result<(), Fault> {
     if notices.is_empty() {
         came.push('-')?;
     }
@@ -60,7 +61,7 @@ pub fn write_notices(came: &mut String, notices: &[Notice]) -> Result<(), Fault>
 }
 
 /// Bytes, calls and notices.
-pub fn write_calls(came: &mut String, sink: &CallRecorder) -> Result<(), Fault> {
+pub(crate) fn write_calls(came: &mut String, sink: &CallRecorder<Global>) -> Result<(), Fault> {
     write_bytes(came, sink.bytes())?;
     let calls = sink.calls();
     write!(came, "\t{calls}\t")?;
@@ -68,7 +69,7 @@ pub fn write_calls(came: &mut String, sink: &CallRecorder) -> Result<(), Fault> 
 }
 
 /// Why an instruction can't be encoded.
-pub fn write_fault(came: &mut String, fault: Option<assembler::Fault>) -> Result<(), Fault> {
+pub(crate) fn write_fault(came: &mut String, fault: Option<assembler::Fault>) -> Result<(), Fault> {
     match fault {
         None => came.push('-')?,
         Some(assembler::Fault::Register(at)) => write!(came, "Register:{at}")?,

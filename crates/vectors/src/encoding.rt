@@ -1,15 +1,15 @@
 //! Single instructions.
 
-use crate::call_recorder::CallRecorder;
 use crate::columns::{write_calls, write_fault};
 use crate::fields::{Fault, Fields, parsed};
 use crate::instruction::{Numbers, instructions_of};
+use cax64_test_sinks::CallRecorder;
 use cranelift_assembler_x64::reader::read_inst;
 use cranelift_assembler_x64::{Inst, Instruction, Recorder, Row};
 use std::alloc::Global;
 
 /// An empty recorder that knows the offsets of a column.
-pub fn recorder_of(alloc: Global, offsets: &str) -> Result<Recorder<Global>, Fault> {
+pub(crate) fn recorder_of(alloc: Global, offsets: &str) -> Result<Recorder<Global>, Fault> {
     let mut recorder = Recorder::new(alloc);
     if offsets == "-" {
         return Ok(recorder);
@@ -47,7 +47,7 @@ fn text_of(alloc: Global, fields: &mut Fields<'_>) -> Result<String, Fault> {
 fn write_encoding(
     came: &mut String,
     insts: &[Inst<Numbers>],
-    mut sink: CallRecorder,
+    mut sink: CallRecorder<Global>,
 ) -> Result<(), Fault> {
     let [inst] = insts else {
         return Err(Fault::Malformed);
@@ -62,7 +62,7 @@ fn write_encoding(
     write_row(came, sink.bytes(), inst.row())
 }
 
-pub fn answer_instruction(
+pub(crate) fn answer_instruction(
     alloc: Global,
     fields: &mut Fields<'_>,
     came: &mut String,
@@ -89,7 +89,7 @@ fn write_first_fault(
     Ok(())
 }
 
-pub fn answer_fault(
+pub(crate) fn answer_fault(
     alloc: Global,
     fields: &mut Fields<'_>,
     came: &mut String,

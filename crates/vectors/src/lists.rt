@@ -4,7 +4,7 @@ use crate::columns::{write_bytes, write_notices};
 use crate::encoding::recorder_of;
 use crate::fields::{Fault, Fields, parsed};
 use crate::instruction::{Numbers, instructions_of};
-use cax64_sink_refusals::RefusingSink;
+use cax64_test_sinks::RefusingSink;
 use cranelift_assembler_x64::{CodeSink, FixedSink, Inst, Instruction, Recorder, encode_all};
 use std::alloc::Global;
 
@@ -73,7 +73,7 @@ fn write_refusal(
 }
 
 /// The second of two stages tells of machine code that isn't made yet.
-pub fn answer_refusal(
+pub(crate) fn answer_refusal(
     alloc: Global,
     fields: &mut Fields<'_>,
     came: &mut String,

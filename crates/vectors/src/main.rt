@@ -6,7 +6,6 @@
 #![tactic(auto)]
 
 mod address;
-mod call_recorder;
 mod columns;
 mod encoding;
 mod fields;
@@ -17,6 +16,7 @@ mod program;
 mod reading;
 mod report;
 mod tails;
+mod values;
 
 use crate::fields::{Fault, Fields};
 use crate::report::{Report, report_of};

@@ -7,7 +7,7 @@ use cranelift_assembler_x64::evex::EvexPrefix;
 use cranelift_assembler_x64::rex::RexPrefix;
 use cranelift_assembler_x64::vex::VexPrefix;
 
-pub fn answer_rex(fields: &mut Fields<'_>, came: &mut String) -> Result<(), Fault> {
+pub(crate) fn answer_rex(fields: &mut Fields<'_>, came: &mut String) -> Result<(), Fault> {
     let call = fields.text()?;
     let a = fields.number(15)?;
     let b = fields.number(15)?;
@@ -39,7 +39,7 @@ fn evex_bytes(prefix: &EvexPrefix) -> FixedSink<4> {
     sink
 }
 
-pub fn answer_vex(fields: &mut Fields<'_>, came: &mut String) -> Result<(), Fault> {
+pub(crate) fn answer_vex(fields: &mut Fields<'_>, came: &mut String) -> Result<(), Fault> {
     let reg = fields.number(15)?;
     let vvvv = fields.number(15)?;
     let operand = (fields.optional(15)?, fields.optional(15)?);
@@ -73,7 +73,7 @@ fn note_difference(
     write_bytes(came, second)
 }
 
-pub fn answer_evex(fields: &mut Fields<'_>, came: &mut String) -> Result<(), Fault> {
+pub(crate) fn answer_evex(fields: &mut Fields<'_>, came: &mut String) -> Result<(), Fault> {
     let reg = fields.number(31)?;
     let vvvv = fields.number(31)?;
     let operand = (fields.optional(15)?, fields.optional(15)?);
@@ -93,7 +93,7 @@ pub fn answer_evex(fields: &mut Fields<'_>, came: &mut String) -> Result<(), Fau
     Ok(())
 }
 
-pub fn answer_apx(fields: &mut Fields<'_>, came: &mut String) -> Result<(), Fault> {
+pub(crate) fn answer_apx(fields: &mut Fields<'_>, came: &mut String) -> Result<(), Fault> {
     let reg = fields.number(31)?;
     let vvvv = fields.number(31)?;
     let operand = (fields.optional(31)?, fields.optional(31)?);

@@ -9,7 +9,7 @@ fn shown(bytes: &[u8]) -> &str {
     std::str::from_utf8(bytes).unwrap_or("no text")
 }
 
-pub fn answer_program(
+pub(crate) fn answer_program(
     alloc: Global,
     fields: &mut Fields<'_>,
     came: &mut String,

@@ -97,7 +97,7 @@ fn write_reading(came: &mut String, reading: &Reading) -> Result<(), Fault> {
     Ok(())
 }
 
-pub fn answer_reading(
+pub(crate) fn answer_reading(
     alloc: Global,
     fields: &mut Fields<'_>,
     came: &mut String,

@@ -37,7 +37,7 @@ impl Report {
     }
 
     /// Whether each line that wasn't passed over is equal.
-    pub fn is_clean(&self) -> bool {
+    pub(crate) fn is_clean(&self) -> bool {
         self.first_malformed.is_none() && self.first_difference.is_none()
     }
 
@@ -93,7 +93,7 @@ fn answer_of(alloc: Global, kind: Kind, names: &str, line: &str) -> Result<Answe
 }
 
 /// Compares each line of a file but the first, which names the columns behind a `#`.
-pub fn report_of(alloc: Global, kind: Kind, text: &str) -> Result<Report, AllocError> {
+pub(crate) fn report_of(alloc: Global, kind: Kind, text: &str) -> Result<Report, AllocError> {
     let mut report = Report::new();
     let (header, cases) = text.split_once('\n').unwrap_or((text, ""));
     let names = header.strip_prefix('#').unwrap_or(header);

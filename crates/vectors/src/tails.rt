@@ -1,14 +1,14 @@
 //! ModR/M, SIB and displacement.
 
 use crate::address::{Parts, target_of};
-use crate::call_recorder::CallRecorder;
 use crate::columns::{write_bytes, write_calls};
 use crate::fields::{Fault, Fields};
+use cax64_test_sinks::CallRecorder;
 use cranelift_assembler_x64::rex::Disp;
 use cranelift_assembler_x64::{Amode, FixedSink, Recorder, emit_modrm_sib_disp};
 use std::alloc::Global;
 
-pub fn answer_tail(fields: &mut Fields<'_>, came: &mut String) -> Result<(), Fault> {
+pub(crate) fn answer_tail(fields: &mut Fields<'_>, came: &mut String) -> Result<(), Fault> {
     let enc_g = fields.number(255)?;
     let parts = Parts {
         base: Some(fields.number(15)?),
@@ -28,7 +28,7 @@ pub fn answer_tail(fields: &mut Fields<'_>, came: &mut String) -> Result<(), Fau
     write_bytes(came, sink.bytes())
 }
 
-pub fn answer_relative(
+pub(crate) fn answer_relative(
     alloc: Global,
     fields: &mut Fields<'_>,
     came: &mut String,
@@ -53,7 +53,7 @@ fn write_class(came: &mut String, class: Disp) -> Result<(), Fault> {
     Ok(())
 }
 
-pub fn answer_disp(fields: &mut Fields<'_>, came: &mut String) -> Result<(), Fault> {
+pub(crate) fn answer_disp(fields: &mut Fields<'_>, came: &mut String) -> Result<(), Fault> {
     let value = fields.signed()?;
     let factor = fields.factor()?;
     let mut class = Disp::new(value, factor);

@@ -1,6 +1,6 @@
 use crate::Numbers;
 use crate::operands::{add, based, indexed, trap};
-use cax64_sink_refusals::RefusingSink;
+use cax64_test_sinks::RefusingSink;
 use cranelift_assembler_x64::inst::andb_i;
 use cranelift_assembler_x64::{
     Amode, CodeSink, Constant, DeferredTarget, Fixed, Imm8, Instruction, Label, Notice, Recorder,

@@ -1,1 +1,2 @@
+pub mod CallRecorder
 pub mod RefusingSink

@@ -1,44 +1,57 @@
 //! A sink that keeps the calls that it gets.
 
-use cranelift_assembler_x64::{
+ghost use Rattle.std.specs.Prelude.{◌≡◌, [], IfErr};
+ghost use Rattle.cax64_sink.specs.Recorder.{recorder_state};
+
+use cax64_sink::{
     CodeSink, DeferredTarget, KnownOffset, Notice, Recorder, SinkError, TrapCode,
 };
-use std::alloc::Global;
+use std::alloc::Allocator;
 
 /// A recorder, and the names of its calls with spaces between them.
 #[derive(Drop)]
-pub struct CallRecorder {
-    recorder: Recorder<Global>,
-    calls: String,
+pub struct CallRecorder<A: Allocator> {
+    recorder: Recorder<A>,
+    calls: String<A>,
 }
 
-impl CallRecorder {
+impl<A: Allocator> CallRecorder<A> {
+    ghost use Rattle.cax64_test_sinks.specs.CallRecorder.{call_recorder_state, calls_of};
+
     /// Over `recorder`, with no calls yet.
-    pub fn new(alloc: Global, recorder: Recorder<Global>) -> Self {
+    pub fn new(alloc: A, recorder: Recorder<A>) -> Self
+        ensures bytes { (call_recorder_state result).bytes ≡ (recorder_state recorder).bytes }
+        ensures notices { (call_recorder_state result).notices ≡ (recorder_state recorder).notices }
+        ensures offsets { (call_recorder_state result).offsets ≡ (recorder_state recorder).offsets }
+        ensures calls { calls_of result ≡ [] }
+    {
         CallRecorder {
             recorder,
             calls: String::new(alloc),
         }
     }
 
-    pub fn bytes(&self) -> &[u8] {
+    pub fn bytes(&self) -> &[u8]
+        ensures { result.now ≡ (call_recorder_state self.now).bytes }
+    {
         self.recorder.bytes()
     }
 
-    pub fn notices(&self) -> &[Notice] {
+    pub fn notices(&self) -> &[Notice]
+        ensures { result.now ≡ (call_recorder_state self.now).notices }
+    {
         self.recorder.notices()
     }
 
-    pub fn calls(&self) -> &str {
+    pub fn calls(&self) -> &str
+        ensures { result.now ≡ calls_of self.now }
+    {
         self.calls.as_str()
     }
 
-    ghost use Rattle.std.specs.Prelude.{◌≡◌, IfErr};
-    ghost use Rattle.cranelift_assembler_x64.specs.declared.SinkError.TheVariants.{NoMemory};
-
     fn keep(&mut self, name: &str) -> Result<(), SinkError>
         ensures recorder { self.new.recorder ≡ self.old.recorder }
-        ensures error { IfErr result (λ e. e ≡ NoMemory) }
+        ensures error { IfErr result (λ e. e ≡ SinkError.NoMemory) }
     {
         let separator = if self.calls.is_empty() { "" } else { " " };
         let kept = write!(self.calls, "{separator}{name}");
@@ -46,8 +59,8 @@ impl CallRecorder {
     }
 }
 
-impl CodeSink for CallRecorder {
-    ghost use Rattle.vectors.specs.CallRecorder.{call_recorder_state};
+impl<A: Allocator> CodeSink for CallRecorder<A> {
+    ghost use Rattle.cax64_test_sinks.specs.CallRecorder.{call_recorder_state};
 
     ghost state = { call_recorder_state };
 

@@ -1,14 +1,10 @@
-//! A sink that refuses after so many calls, and tests of the sinks where growths are refused in turn.
-#![tactic(auto)]
+//! A sink that refuses after so many calls.
 
 ghost use Rattle.std.specs.Prelude.{◌≡◌, ◌<◌, ◌-◌, ◌↔◌, IsOk, IfErr};
 ghost use Rattle.cax64_sink.specs.Recorder.{recorder_state};
 
 use cax64_sink::{CodeSink, DeferredTarget, KnownOffset, Recorder, SinkError, TrapCode};
 use std::alloc::Allocator;
-
-#[cfg(test)]
-mod tests;
 
 /// A recorder that lets some calls pass and refuses each later one with `NoMemory`.
 #[derive(Drop)]
@@ -18,7 +14,7 @@ pub struct RefusingSink<A: Allocator> {
 }
 
 impl<A: Allocator> RefusingSink<A> {
-    ghost use Rattle.cax64_sink_refusals.specs.RefusingSink.{refusing_state, calls_left};
+    ghost use Rattle.cax64_test_sinks.specs.RefusingSink.{refusing_state, calls_left};
 
     /// `recorder`, which is to take `calls` more calls.
     pub fn new(recorder: Recorder<A>, calls: usize) -> Self
@@ -54,7 +50,7 @@ impl<A: Allocator> RefusingSink<A> {
 }
 
 impl<A: Allocator> CodeSink for RefusingSink<A> {
-    ghost use Rattle.cax64_sink_refusals.specs.RefusingSink.{refusing_state};
+    ghost use Rattle.cax64_test_sinks.specs.RefusingSink.{refusing_state};
 
     ghost state = { refusing_state };
 

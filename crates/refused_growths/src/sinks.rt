@@ -1,4 +1,6 @@
-use crate::RefusingSink;
+//! Sinks: each call is refused in turn, and each growth.
+
+use cax64_test_sinks::RefusingSink;
 use cax64_sink::{CodeSink, DeferredTarget, Label, Notice, Recorder, SinkError, TrapCode};
 use linked_list_allocator::LocalHeap;
 use std::alloc::AllocError;
