@@ -7,5 +7,3 @@ pub mod laws;
 pub mod offset;
 pub mod operand;
 pub mod tail;
-#[cfg(test)]
-mod tests;

@@ -20,6 +20,3 @@ pub use simm32::Simm32;
 /// A number isn't in the range of the immediate that it was to be.
 #[derive(Clone, Copy, Debug, PartialEq)]
 pub struct OutOfRange;
-
-#[cfg(test)]
-mod tests;

@@ -6,8 +6,6 @@ mod operands;
 mod prefix;
 mod reader;
 mod tail;
-#[cfg(test)]
-mod tests;
 
 pub use cax64_machine_code::reading::{Place, Reading, RegView};
 pub use reader::read_inst;

@@ -13,6 +13,3 @@ pub use as_reg::{AsReg, Registers, register_name};
 pub use fixed::Fixed;
 pub use gpr::{Gpr, NonRspGpr, Size};
 pub use xmm::Xmm;
-
-#[cfg(test)]
-mod tests;

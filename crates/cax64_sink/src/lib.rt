@@ -105,6 +105,3 @@ pub trait CodeSink {
         requires { IsSome ((state self.now).offsets offset) }
         ensures { (state self.now).offsets offset ≡ Some result };
 }
-
-#[cfg(test)]
-mod tests;

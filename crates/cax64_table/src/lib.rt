@@ -6,7 +6,5 @@ pub mod laws;
 pub mod lookup;
 mod packed;
 pub mod prefix;
-#[cfg(test)]
-mod tests;
 
 pub use packed::line;

@@ -20,9 +20,6 @@ use std::alloc::{AllocError, Allocator};
 use std::io;
 use std::io::Write;
 
-#[cfg(test)]
-mod tests;
-
 /// Why a run ends before its last line is written.
 #[derive(Clone, Copy, Debug, PartialEq)]
 enum Fault {

@@ -1,11 +1,11 @@
 //! Worked rows, and what no clause says: each call at a concrete type.
 
-use crate::amode::{Amode, Scale};
-use crate::disp::{Disp, encode_modrm};
-use crate::laws::{emit_to_fixed_sink, laws_of_equality};
-use crate::offset::{AmodeOffset, AmodeOffsetPlusKnownOffset};
-use crate::operand::{GprMem, XmmMem};
-use crate::tail::{emit_modrm_sib_disp, tail_of};
+use cax64_address::amode::{Amode, Scale};
+use cax64_address::disp::{Disp, encode_modrm};
+use cax64_address::laws::{emit_to_fixed_sink, laws_of_equality};
+use cax64_address::offset::{AmodeOffset, AmodeOffsetPlusKnownOffset};
+use cax64_address::operand::{GprMem, XmmMem};
+use cax64_address::tail::{emit_modrm_sib_disp, tail_of};
 use cax64_register::NonRspGpr;
 use cax64_sink::{
     CodeSink, Constant, DeferredTarget, FixedSink, Label, Notice, Recorder, SinkError, TrapCode,

@@ -2,8 +2,8 @@
 
 ghost use Rattle.std.specs.Prelude.{◌≡◌, ◌≤◌, length};
 
-use crate::{Place, Reading, RegView, read_inst};
 use cax64_machine_code::row::Row;
+use cax64_reader::{Place, Reading, RegView, read_inst};
 use std::process::Abort;
 
 const UNREAD: [&[u8]; 13] = [

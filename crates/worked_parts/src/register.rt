@@ -7,9 +7,9 @@ ghost use Rattle.cax64_register.specs.Real.{is_real};
 ghost use Rattle.cax64_register.specs.contracts.fixed.Fixed.{the_row};
 ghost use Rattle.std.proofs.Common.{rules};
 
-use crate::gpr::enc::{R8, R12, RAX, RCX, RSP};
-use crate::xmm::enc::XMM15;
-use crate::{AsReg, Fixed, Gpr, NonRspGpr, Registers, Size, Xmm, gpr, xmm};
+use cax64_register::gpr::enc::{R8, R12, RAX, RCX, RSP};
+use cax64_register::xmm::enc::XMM15;
+use cax64_register::{AsReg, Fixed, Gpr, NonRspGpr, Registers, Size, Xmm, gpr, xmm};
 use std::alloc::{AllocError, Allocator};
 use std::process::Abort;
 use std::test::Fail;

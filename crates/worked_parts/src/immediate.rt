@@ -1,6 +1,6 @@
 //! Each immediate, at the ends of its range and one beyond.
 
-use crate::{Imm8, Imm16, Imm32, Imm64, OutOfRange, Simm8, Simm16, Simm32};
+use cax64_immediate::{Imm8, Imm16, Imm32, Imm64, OutOfRange, Simm8, Simm16, Simm32};
 use cax64_sink::{FixedSink, SinkError};
 use std::alloc::AllocError;
 

@@ -1,13 +1,13 @@
 //! Each call once.
 
-use crate::cursor::next;
-use crate::line;
-use crate::lookup::row_at;
-use crate::prefix::{Prefix, Rex, Vex};
 use cax64_machine_code::line::{
     ImmField, LegacySet, Line, Opcode, PlaceField, PrefixField, RegField, TailField, VvvvField,
 };
 use cax64_machine_code::row::Row;
+use cax64_table::cursor::next;
+use cax64_table::line;
+use cax64_table::lookup::row_at;
+use cax64_table::prefix::{Prefix, Rex, Vex};
 
 const LOCK: LegacySet = LegacySet {
     lock: true,

@@ -4,8 +4,8 @@ ghost use Rattle.std.specs.Prelude.{◌≡◌, ◌∷◌, []};
 ghost use Rattle.std.specs.Int.{to_le_bytes, w32};
 ghost use Rattle.cax64_sink.specs.Sink.{Ran, put, trap};
 
-use crate::laws::{laws_of_equality, laws_of_fixed_sinks, laws_of_runs};
-use crate::{
+use cax64_sink::laws::{laws_of_equality, laws_of_fixed_sinks, laws_of_runs};
+use cax64_sink::{
     CodeSink, Constant, DeferredTarget, FixedSink, KnownOffset, Label, Notice, Recorder, SinkError,
     TrapCode,
 };
@@ -29,7 +29,7 @@ fn put_each<S: CodeSink>(sink: &mut S) -> Result<(), SinkError> {
     sink.put8(0x0102_0304_0506_0708)
 }
 
-#[tactic(auto, using(crate::proofs::Runs::ran_none, crate::proofs::Runs::ran_one, crate::proofs::Runs::ran_next, crate::proofs::Runs::ran_halt))]
+#[tactic(auto, using(cax64_sink::proofs::Runs::ran_none, cax64_sink::proofs::Runs::ran_one, cax64_sink::proofs::Runs::ran_next, cax64_sink::proofs::Runs::ran_halt))]
 fn trap_and_put<S: CodeSink>(sink: &mut S, code: TrapCode, value: u32) -> Result<(), SinkError>
     ensures { Ran (trap code ∷ put (to_le_bytes w32 value) ∷ []) (S.state sink.old) (S.state sink.new) result }
 {

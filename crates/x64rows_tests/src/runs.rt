@@ -1,8 +1,8 @@
-use crate::run;
 use std::alloc::AllocError;
 use std::io;
 use std::io::{ErrorKind, Write};
 use std::process::Abort;
+use x64rows_run::run;
 
 /// A writer that takes so many bytes at once and so many times, and then refuses.
 #[derive(Drop)]

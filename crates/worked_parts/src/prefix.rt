@@ -1,0 +1,5 @@
+//! Each prefix, put into a sink.
+
+mod evex;
+mod rex;
+mod vex;
