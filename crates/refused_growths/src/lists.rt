@@ -1,32 +1,16 @@
 //! Lists of instructions: a list that is put whole is put, or nothing is.
 
+use cax64_test_support::Numbers;
 use cranelift_assembler_x64::inst::{lock_addl_mr, nop_9b};
 use cranelift_assembler_x64::{
     Amode, AmodeOffsetPlusKnownOffset, CodeSink, Gpr, Inst, Instruction, Notice, Recorder,
-    Registers, SinkError, TrapCode, encode_all_whole,
+    SinkError, TrapCode, encode_all_whole,
 };
 use linked_list_allocator::LocalHeap;
 use std::alloc::Allocator;
 use std::num::NonZeroU8;
 use std::process::Abort;
 use std::test::Fail;
-
-/// The family of plain numbers.
-struct Numbers;
-
-impl Registers for Numbers {
-    type ReadGpr = u8;
-
-    type ReadWriteGpr = u8;
-
-    type WriteGpr = u8;
-
-    type ReadXmm = u8;
-
-    type ReadWriteXmm = u8;
-
-    type WriteXmm = u8;
-}
 
 const BYTES: [u8; 13] = [
     0x90, 0x66, 0x0F, 0x1F, 0x84, 0x00, 0x00, 0x00, 0x00, 0x00, 0xF0, 0x01, 0x08,

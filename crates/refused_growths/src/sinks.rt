@@ -1,7 +1,7 @@
 //! Sinks: each call is refused in turn, and each growth.
 
-use cax64_test_sinks::RefusingSink;
 use cax64_sink::{CodeSink, DeferredTarget, Label, Notice, Recorder, SinkError, TrapCode};
+use cax64_test_support::RefusingSink;
 use linked_list_allocator::LocalHeap;
 use std::alloc::AllocError;
 use std::num::NonZeroU8;

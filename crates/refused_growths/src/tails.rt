@@ -4,7 +4,7 @@ use cax64_address::amode::Amode;
 use cax64_address::offset::{AmodeOffset, AmodeOffsetPlusKnownOffset};
 use cax64_address::tail::emit_modrm_sib_disp;
 use cax64_sink::{CodeSink, Constant, DeferredTarget, Notice, Recorder, SinkError};
-use cax64_test_sinks::RefusingSink;
+use cax64_test_support::RefusingSink;
 use linked_list_allocator::LocalHeap;
 use std::alloc::AllocError;
 

@@ -1,7 +1,7 @@
 //! Columns as they came.
 
 use crate::fields::Fault;
-use cax64_test_sinks::CallRecorder;
+use cax64_test_support::CallRecorder;
 use cranelift_assembler_x64 as assembler;
 use cranelift_assembler_x64::{DeferredTarget, Notice};
 use std::alloc::Global;

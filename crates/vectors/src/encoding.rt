@@ -2,8 +2,8 @@
 
 use crate::columns::{write_calls, write_fault};
 use crate::fields::{Fault, Fields, parsed};
-use crate::instruction::{Numbers, instructions_of};
-use cax64_test_sinks::CallRecorder;
+use crate::instruction::instructions_of;
+use cax64_test_support::{CallRecorder, Numbers};
 use cranelift_assembler_x64::reader::read_inst;
 use cranelift_assembler_x64::{Inst, Instruction, Recorder, Row};
 use std::alloc::Global;

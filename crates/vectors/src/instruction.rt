@@ -2,31 +2,15 @@
 
 use crate::fields::Fault;
 use crate::values::Values;
+use cax64_test_support::Numbers;
+use cranelift_assembler_x64::Inst;
 use cranelift_assembler_x64::inst::{
     andb_i, andps_a, callq_m, cmpps_a, cmpss_a, je_d32, jmp_d8, jmpq_m, lock_addb_mr, lock_addl_mi,
     lock_addl_mi_sxb, lock_addl_mr, lock_addq_mi_sxl, lock_addw_mi, lock_cmpxchg16b_m,
     lock_cmpxchgl_mr, lock_xaddl_mr, mulxl_rvm, mulxq_rvm, nop_1b, nop_2b, nop_3b, nop_4b, nop_5b,
     nop_6b, nop_7b, nop_8b, nop_9b, shlb_m1, vcmpps_b, vcvtpd2ps_a, xchgb_rm,
 };
-use cranelift_assembler_x64::{Inst, Registers};
 use std::alloc::Global;
-
-/// Registers by their numbers alone.
-pub struct Numbers;
-
-impl Registers for Numbers {
-    type ReadGpr = u8;
-
-    type ReadWriteGpr = u8;
-
-    type WriteGpr = u8;
-
-    type ReadXmm = u8;
-
-    type ReadWriteXmm = u8;
-
-    type WriteXmm = u8;
-}
 
 /// The instruction of this name. `PassedOver` where there is no such struct.
 fn instruction_of(name: &str, fields: &str) -> Result<Inst<Numbers>, Fault> {
@@ -36,16 +20,8 @@ fn instruction_of(name: &str, fields: &str) -> Result<Inst<Numbers>, Fault> {
     Ok(inst)
 }
 
-/// The instruction of this name, if there is such a struct.
+/// The instruction of this name, if there is such a struct. What one group of names doesn't hold, the next may.
 fn read_instruction(name: &str, v: &mut Values<'_>) -> Option<Inst<Numbers>> {
-    arithmetic(name, v)
-        .or_else(|| locked(name, v))
-        .or_else(|| branch(name, v))
-        .or_else(|| vector(name, v))
-        .or_else(|| nop(name))
-}
-
-fn arithmetic(name: &str, v: &mut Values<'_>) -> Option<Inst<Numbers>> {
     Some(match name {
         "andb_i" => andb_i::new(v.fixed("al"), v.imm8("imm8")).into(),
         "xchgb_rm" => xchgb_rm::new(v.gpr("r8"), v.amode("m8")).into(),
@@ -64,7 +40,7 @@ fn arithmetic(name: &str, v: &mut Values<'_>) -> Option<Inst<Numbers>> {
             v.fixed("rdx"),
         )
         .into(),
-        _ => return None,
+        _ => return locked(name, v),
     })
 }
 
@@ -88,7 +64,7 @@ fn locked(name: &str, v: &mut Values<'_>) -> Option<Inst<Numbers>> {
             v.fixed("rbx"),
         )
         .into(),
-        _ => return None,
+        _ => return branch(name, v),
     })
 }
 
@@ -98,7 +74,7 @@ fn branch(name: &str, v: &mut Values<'_>) -> Option<Inst<Numbers>> {
         "jmpq_m" => jmpq_m::new(v.gpr_mem("rm64")).into(),
         "jmp_d8" => jmp_d8::new(v.simm8("imm8")).into(),
         "je_d32" => je_d32::new(v.simm32("imm32")).into(),
-        _ => return None,
+        _ => return vector(name, v),
     })
 }
 
@@ -115,7 +91,7 @@ fn vector(name: &str, v: &mut Values<'_>) -> Option<Inst<Numbers>> {
         )
         .into(),
         "vcvtpd2ps_a" => vcvtpd2ps_a::new(v.xmm("xmm1"), v.xmm_mem("xmm_m128")).into(),
-        _ => return None,
+        _ => return nop(name),
     })
 }
 

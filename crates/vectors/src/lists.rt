@@ -3,8 +3,8 @@
 use crate::columns::{write_bytes, write_notices};
 use crate::encoding::recorder_of;
 use crate::fields::{Fault, Fields, parsed};
-use crate::instruction::{Numbers, instructions_of};
-use cax64_test_sinks::RefusingSink;
+use crate::instruction::instructions_of;
+use cax64_test_support::{Numbers, RefusingSink};
 use cranelift_assembler_x64::{CodeSink, FixedSink, Inst, Instruction, Recorder, encode_all};
 use std::alloc::Global;
 

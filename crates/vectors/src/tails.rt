@@ -3,7 +3,7 @@
 use crate::address::{Parts, target_of};
 use crate::columns::{write_bytes, write_calls};
 use crate::fields::{Fault, Fields};
-use cax64_test_sinks::CallRecorder;
+use cax64_test_support::CallRecorder;
 use cranelift_assembler_x64::rex::Disp;
 use cranelift_assembler_x64::{Amode, FixedSink, Recorder, emit_modrm_sib_disp};
 use std::alloc::Global;

@@ -1,7 +1,7 @@
 //! Why an instruction can't be encoded.
 
-use crate::Numbers;
 use crate::operands::{add, at, based, indexed};
+use cax64_test_support::Numbers;
 use cranelift_assembler_x64::inst::{andb_i, lock_cmpxchgl_mr, lock_xaddl_mr, mulxq_rvm};
 use cranelift_assembler_x64::{
     CodeSink, Fault, Fixed, Gpr, GprMem, Imm8, Inst, Instruction, Recorder, Scale,

@@ -1,8 +1,7 @@
 //! One instruction of each shape.
 
-use crate::Numbers;
 use crate::operands::{add, at, based, indexed, relative};
-use cax64_test_sinks::RefusingSink;
+use cax64_test_support::{Numbers, RefusingSink};
 use cranelift_assembler_x64::inst::{
     andb_i, andps_a, callq_m, cmpps_a, cmpss_a, je_d32, jmp_d8, jmpq_m, lock_addb_mr, lock_addl_mi,
     lock_addl_mi_sxb, lock_addq_mi_sxl, lock_addw_mi, lock_cmpxchg16b_m, lock_cmpxchgl_mr,

@@ -1,25 +1,6 @@
 //! Worked rows: instructions, and the bytes and notices that a sink has afterwards.
 #![tactic(auto)]
 
-use cranelift_assembler_x64::Registers;
-
-/// The family of plain numbers.
-pub struct Numbers;
-
-impl Registers for Numbers {
-    type ReadGpr = u8;
-
-    type ReadWriteGpr = u8;
-
-    type WriteGpr = u8;
-
-    type ReadXmm = u8;
-
-    type ReadWriteXmm = u8;
-
-    type WriteXmm = u8;
-}
-
 #[cfg(test)]
 mod faults;
 #[cfg(test)]

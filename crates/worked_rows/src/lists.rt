@@ -1,6 +1,5 @@
-use crate::Numbers;
 use crate::operands::{add, based, relative};
-use cax64_test_sinks::RefusingSink;
+use cax64_test_support::{Numbers, RefusingSink};
 use cranelift_assembler_x64::inst::{andb_i, callq_m, nop_1b, nop_9b};
 use cranelift_assembler_x64::laws::{encode_all_to_fixed_sink, encode_to_fixed_sink};
 use cranelift_assembler_x64::reader::read_inst;

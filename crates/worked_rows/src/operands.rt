@@ -1,6 +1,6 @@
 //! Operands and instructions over plain numbers.
 
-use crate::Numbers;
+use cax64_test_support::Numbers;
 use cranelift_assembler_x64::inst::lock_addl_mr;
 use cranelift_assembler_x64::{
     Amode, AmodeOffset, AmodeOffsetPlusKnownOffset, DeferredTarget, Gpr, KnownOffset, NonRspGpr,
@@ -9,7 +9,7 @@ use cranelift_assembler_x64::{
 use std::num::NonZeroU8;
 
 /// A base, a displacement and a late offset.
-pub fn based(
+pub(crate) fn based(
     base: u8,
     simm32: i32,
     offset: Option<KnownOffset>,
@@ -26,12 +26,12 @@ pub fn based(
 }
 
 /// A base alone.
-pub fn at(base: u8) -> Amode<u8> {
+pub(crate) fn at(base: u8) -> Amode<u8> {
     based(base, 0, None, None)
 }
 
 /// A base, an index and a displacement.
-pub fn indexed(base: u8, index: u8, scale: Scale, simm32: i32) -> Amode<u8> {
+pub(crate) fn indexed(base: u8, index: u8, scale: Scale, simm32: i32) -> Amode<u8> {
     Amode::ImmRegRegShift {
         base,
         index: NonRspGpr::new(index),
@@ -42,16 +42,16 @@ pub fn indexed(base: u8, index: u8, scale: Scale, simm32: i32) -> Amode<u8> {
 }
 
 /// A place relative to the end, with no target.
-pub fn relative() -> Amode<u8> {
+pub(crate) fn relative() -> Amode<u8> {
     Amode::RipRelative {
         target: DeferredTarget::None,
     }
 }
 
-pub fn trap(code: u8) -> Option<TrapCode> {
+pub(crate) fn trap(code: u8) -> Option<TrapCode> {
     NonZeroU8::new(code).map(TrapCode)
 }
 
-pub fn add(m32: Amode<u8>, r32: u8) -> lock_addl_mr<Numbers> {
+pub(crate) fn add(m32: Amode<u8>, r32: u8) -> lock_addl_mr<Numbers> {
     lock_addl_mr::new(m32, Gpr::new(r32))
 }

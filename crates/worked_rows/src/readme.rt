@@ -1,6 +1,6 @@
 //! The README's example.
 
-use crate::Numbers;
+use cax64_test_support::Numbers;
 use cranelift_assembler_x64::inst::{andb_i, lock_addl_mr};
 use cranelift_assembler_x64::reader::{RegView, read_inst};
 use cranelift_assembler_x64::{

@@ -1,6 +1,5 @@
-use crate::Numbers;
 use crate::operands::{add, based, indexed, trap};
-use cax64_test_sinks::RefusingSink;
+use cax64_test_support::{Numbers, RefusingSink};
 use cranelift_assembler_x64::inst::andb_i;
 use cranelift_assembler_x64::{
     Amode, CodeSink, Constant, DeferredTarget, Fixed, Imm8, Instruction, Label, Notice, Recorder,

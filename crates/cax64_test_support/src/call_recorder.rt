@@ -3,9 +3,7 @@
 ghost use Rattle.std.specs.Prelude.{◌≡◌, [], IfErr};
 ghost use Rattle.cax64_sink.specs.Recorder.{recorder_state};
 
-use cax64_sink::{
-    CodeSink, DeferredTarget, KnownOffset, Notice, Recorder, SinkError, TrapCode,
-};
+use cax64_sink::{CodeSink, DeferredTarget, KnownOffset, Notice, Recorder, SinkError, TrapCode};
 use std::alloc::Allocator;
 
 /// A recorder, and the names of its calls with spaces between them.
@@ -16,7 +14,7 @@ pub struct CallRecorder<A: Allocator> {
 }
 
 impl<A: Allocator> CallRecorder<A> {
-    ghost use Rattle.cax64_test_sinks.specs.CallRecorder.{call_recorder_state, calls_of};
+    ghost use Rattle.cax64_test_support.specs.CallRecorder.{call_recorder_state, calls_of};
 
     /// Over `recorder`, with no calls yet.
     pub fn new(alloc: A, recorder: Recorder<A>) -> Self
@@ -60,7 +58,7 @@ impl<A: Allocator> CallRecorder<A> {
 }
 
 impl<A: Allocator> CodeSink for CallRecorder<A> {
-    ghost use Rattle.cax64_test_sinks.specs.CallRecorder.{call_recorder_state};
+    ghost use Rattle.cax64_test_support.specs.CallRecorder.{call_recorder_state};
 
     ghost state = { call_recorder_state };
 

@@ -3,7 +3,7 @@ use Rattle.std.specs.Prelude.{ℕ}
 use Rattle.cax64_sink.specs.Room.{count}
 use Rattle.cax64_sink.specs.Sink.{State}
 use Rattle.cax64_sink.specs.Recorder.{recorder_state}
-use Rattle.cax64_test_sinks.specs.declared.refusing_sink.RefusingSink.{RefusingSink}
+use Rattle.cax64_test_support.specs.declared.refusing_sink.RefusingSink.{RefusingSink}
 
 -- the recorder's state, with no room that is promised
 abbrev pub refusing_state : {A : Type 0} → RefusingSink A → State

@@ -14,7 +14,7 @@ pub struct RefusingSink<A: Allocator> {
 }
 
 impl<A: Allocator> RefusingSink<A> {
-    ghost use Rattle.cax64_test_sinks.specs.RefusingSink.{refusing_state, calls_left};
+    ghost use Rattle.cax64_test_support.specs.RefusingSink.{refusing_state, calls_left};
 
     /// `recorder`, which is to take `calls` more calls.
     pub fn new(recorder: Recorder<A>, calls: usize) -> Self
@@ -50,7 +50,7 @@ impl<A: Allocator> RefusingSink<A> {
 }
 
 impl<A: Allocator> CodeSink for RefusingSink<A> {
-    ghost use Rattle.cax64_test_sinks.specs.RefusingSink.{refusing_state};
+    ghost use Rattle.cax64_test_support.specs.RefusingSink.{refusing_state};
 
     ghost state = { refusing_state };
 

@@ -3,7 +3,7 @@ use Rattle.std.specs.Prelude.{ℕ, List, string_bytes}
 use Rattle.cax64_sink.specs.Recorder.{recorder_state}
 use Rattle.cax64_sink.specs.Room.{count}
 use Rattle.cax64_sink.specs.Sink.{State}
-use Rattle.cax64_test_sinks.specs.declared.call_recorder.CallRecorder.{CallRecorder}
+use Rattle.cax64_test_support.specs.declared.call_recorder.CallRecorder.{CallRecorder}
 
 -- the recorder's state, with no room that is promised
 abbrev pub call_recorder_state : {A : Type 0} → CallRecorder A → State
