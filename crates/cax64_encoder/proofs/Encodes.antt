@@ -32,14 +32,17 @@ use Rattle.cax64_machine_code.proofs.Bytes.{one_back, two_back, four_back, s8_ba
 use Rattle.cax64_machine_code.proofs.Written.{IsImm, BeginsWith, DigitIs}
 use Rattle.cax64_prefix.specs.Rex.{is_special_if_8bit}
 use Rattle.cax64_encoder.specs.Code.{when, trap_actions, opcode_actions}
-use Rattle.cax64_encoder.specs.Imm.{imm_actions, optional_imm_actions}
-use Rattle.cax64_encoder.specs.Encodes.{reg_number, trap_notice}
-use Rattle.cax64_encoder.specs.Visited.{number_value}
-use Rattle.cax64_encoder.specs.Fits.{first_byte, is_digit, reg_fits, imm_has_size, is_no_imm, imm_fits, uses_8bit_reg, uses_8bit_place}
-use Rattle.cax64_encoder.specs.Imm.{imm_value, imm_size, imm_in_range, signed_below}
-use Rattle.cax64_encoder.specs.declared.visited.Number.{Number}
-use Rattle.cax64_encoder.specs.declared.imm.ImmOperand.{ImmOperand}
-use Rattle.cax64_encoder.specs.declared.imm.ImmOperand.TheVariants.{Imm8, Imm16, Imm32, Simm8, Simm32}
+use Rattle.cax64_encoder.specs.Form.{reg_fits}
+use Rattle.cax64_encoder.specs.ImmActions.{imm_actions, optional_imm_actions}
+use Rattle.cax64_encoder.specs.Line.{first_byte, is_digit, uses_8bit_reg, uses_8bit_place}
+use Rattle.cax64_encoder.specs.Notices.{trap_notice}
+use Rattle.cax64_encoder.specs.Number.{number_value}
+use Rattle.cax64_encoder.specs.Prefix.{reg_number}
+use Rattle.cax64_operand.specs.Immediate.{imm_value, imm_size, imm_in_range, signed_below}
+use Rattle.cax64_operand.specs.Shape.{imm_has_size, is_no_imm, imm_fits}
+use Rattle.cax64_encoder.specs.declared.number.Number.{Number}
+use Rattle.cax64_operand.specs.declared.immediate.ImmOperand.{ImmOperand}
+use Rattle.cax64_operand.specs.declared.immediate.ImmOperand.TheVariants.{Imm8, Imm16, Imm32, Simm8, Simm32}
 
 -- Immediates.
 

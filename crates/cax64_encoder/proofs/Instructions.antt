@@ -13,9 +13,10 @@ use Rattle.cax64_sink.proofs.Rooms.{less_room, ran_succeeds, ran_byte_room, ran_
 use Rattle.cax64_sink.proofs.Ends.{refused_bytes, refused_notices}
 use Rattle.cax64_address.specs.declared.amode.Amode.{Amode}
 use Rattle.cax64_address.specs.declared.amode.Amode.TheVariants.{ImmReg, ImmRegRegShift, RipRelative}
-use Rattle.cax64_encoder.specs.Encodes.{notices_of, EncodesAs}
+use Rattle.cax64_encoder.specs.Encodes.{EncodesAs}
 use Rattle.cax64_encoder.specs.Instruction.{AddsInstruction, LeavesInstruction}
-use Rattle.cax64_encoder.specs.Meant.{Meant, len, memory_notices, notice_count}
+use Rattle.cax64_encoder.specs.Meant.{Meant, len}
+use Rattle.cax64_encoder.specs.Notices.{notices_of, memory_notices, notice_count}
 
 told_same : (records : Bool) (old a b : List Notice) → a ≡ b → (if records then old ++ a else old) ≡ (if records then old ++ b else old)
 told_same records old a b e = rw e refl
@@ -25,6 +26,7 @@ pub run_adds : {M : Type 0} {m : Meant M} {acts : List Action} {s t : State} (r 
 run_adds {acts = acts} {s} {t} (Ok tt) h run = record {
   added = all_bytes acts;
   bytes = ran_bytes run refl;
+  are_bytes = h.written.are_bytes;
   reads = h.written.reads;
   notices = ran_notices run refl ∙ told_same s.records s.notices _ _ (h.written.notices (length s.bytes));
   shortest = h.written.shortest;
@@ -48,6 +50,7 @@ run_leaves {acts = acts} {s} {t} (Err e) h run =
       left = all_bytes left.done;
       whole = all_bytes acts;
       bytes = left.bytes;
+      are_bytes = h.written.are_bytes;
       reads = h.written.reads;
       exact = h.exact;
       front = record { rest = part.0; whole = part.1; proper = not_empty part.0 part.2 };

@@ -23,17 +23,19 @@ use Rattle.cax64_machine_code.specs.declared.reading.RegView.TheVariants.{Low}
 use Rattle.cax64_machine_code.specs.declared.row.Row.{Row}
 use Rattle.cax64_sink.specs.declared.TrapCode.{TrapCode}
 use Rattle.cax64_encoder.specs.Code.{trap_actions, opcode_actions}
-use Rattle.cax64_encoder.specs.Imm.{optional_imm_actions}
-use Rattle.cax64_encoder.specs.Encodes.{reg_number, amode_high, place_high, place_special, rex_stands, written_prefix_len}
-use Rattle.cax64_encoder.specs.Fits.{is_digit, is_8bit_once, has_8bit, is_line, tail_fits, vvvv_fits, imm_fits, fits}
-use Rattle.cax64_encoder.specs.Meant.{operand_parts}
-use Rattle.cax64_encoder.specs.Imm.{imm_size}
-use Rattle.cax64_encoder.specs.Operands.{named_place, vvvv_number}
-use Rattle.cax64_encoder.specs.Visited.{number_value}
-use Rattle.cax64_encoder.specs.declared.visited.Number.{Number}
-use Rattle.cax64_encoder.specs.declared.operands.Operands.{Operands}
-use Rattle.cax64_encoder.specs.declared.operands.PlaceOperand as place
-use Rattle.cax64_encoder.specs.declared.operands.PlaceOperand.{PlaceOperand}
+use Rattle.cax64_encoder.specs.Encodes.{form_parts}
+use Rattle.cax64_encoder.specs.Form.{tail_fits, vvvv_fits, fits}
+use Rattle.cax64_encoder.specs.ImmActions.{optional_imm_actions}
+use Rattle.cax64_encoder.specs.Line.{is_digit, is_8bit_once, has_8bit, is_line}
+use Rattle.cax64_encoder.specs.Number.{number_value}
+use Rattle.cax64_encoder.specs.Place.{place_read}
+use Rattle.cax64_encoder.specs.Prefix.{reg_number, amode_high, place_high, place_special, rex_stands, written_prefix_len}
+use Rattle.cax64_operand.specs.Immediate.{imm_size}
+use Rattle.cax64_operand.specs.Shape.{imm_fits}
+use Rattle.cax64_encoder.specs.declared.number.Number.{Number}
+use Rattle.cax64_encoder.specs.declared.form.Form.{Form}
+use Rattle.cax64_encoder.specs.declared.role.PlaceOperand as place
+use Rattle.cax64_encoder.specs.declared.role.PlaceOperand.{PlaceOperand}
 use Rattle.cax64_encoder.proofs.Lines.{line_facts}
 use Rattle.cax64_encoder.proofs.Encodes.{imm_same, imm_length, opcode_part, opcode_length, trap_bytes, five_lengths}
 use Rattle.cax64_encoder.proofs.Whole.{instruction_actions}
@@ -45,7 +47,7 @@ amode_high_same enc disp at_end (ImmReg base simm32 trap) = refl
 amode_high_same enc disp at_end (ImmRegRegShift base index scale simm32 trap) = refl
 amode_high_same enc disp at_end (RipRelative target) = refl
 
-place_high_same : {M : Type 0} (enc : M → ℕ) (disp : ℤ) (at_end : ℕ) (operand : PlaceOperand M) → place_high enc operand ≡ place_is_high (named_place enc disp at_end operand)
+place_high_same : {M : Type 0} (enc : M → ℕ) (disp : ℤ) (at_end : ℕ) (operand : PlaceOperand M) → place_high enc operand ≡ place_is_high (place_read enc disp at_end operand)
 place_high_same enc disp at_end place.TheVariants.NoPlace = refl
 place_high_same enc disp at_end (place.TheVariants.Register number) = refl
 place_high_same enc disp at_end (place.TheVariants.Memory amode) = amode_high_same enc disp at_end amode
@@ -55,7 +57,7 @@ amode_not_special enc disp at_end field (ImmReg base simm32 trap) = refl
 amode_not_special enc disp at_end field (ImmRegRegShift base index scale simm32 trap) = refl
 amode_not_special enc disp at_end field (RipRelative target) = refl
 
-place_special_same : {M : Type 0} (enc : M → ℕ) (disp : ℤ) (at_end : ℕ) (field : RegField) (operand : PlaceOperand M) → place_special operand ≡ place_is_special (Modrm field Register8OrMemory) (named_place enc disp at_end operand)
+place_special_same : {M : Type 0} (enc : M → ℕ) (disp : ℤ) (at_end : ℕ) (field : RegField) (operand : PlaceOperand M) → place_special operand ≡ place_is_special (Modrm field Register8OrMemory) (place_read enc disp at_end operand)
 place_special_same enc disp at_end field place.TheVariants.NoPlace = refl
 place_special_same enc disp at_end field (place.TheVariants.Register number) = refl
 place_special_same enc disp at_end field (place.TheVariants.Memory amode) = amode_not_special enc disp at_end field amode
@@ -79,7 +81,7 @@ stands_but_w enc tail number operand = nat_le 8 (reg_number tail number) || (pla
 abbrev has_but_w : TailField → Option RegView → Option Place → Bool
 has_but_w tail view place = reg_is_high view || (place_is_high place || (reg_is_special tail view || (place_is_special tail place || digit_is_special tail)))
 
-but_w_same : {M : Type 0} (enc : M → ℕ) (disp : ℤ) (at_end : ℕ) (tail : TailField) (number : Option Number) (operand : PlaceOperand M) → tail_fits tail number operand ≡ true → is_digit tail ≡ true → is_8bit_once tail ≡ true → stands_but_w enc tail number operand ≡ has_but_w tail (view_of number) (named_place enc disp at_end operand)
+but_w_same : {M : Type 0} (enc : M → ℕ) (disp : ℤ) (at_end : ℕ) (tail : TailField) (number : Option Number) (operand : PlaceOperand M) → tail_fits tail number operand ≡ true → is_digit tail ≡ true → is_8bit_once tail ≡ true → stands_but_w enc tail number operand ≡ has_but_w tail (view_of number) (place_read enc disp at_end operand)
 but_w_same enc disp at_end NoTail None place.TheVariants.NoPlace hf hd ho = refl
 but_w_same enc disp at_end NoTail None (place.TheVariants.Register n) hf hd ho = cc
 but_w_same enc disp at_end NoTail None (place.TheVariants.Memory amode) hf hd ho = cc
@@ -88,7 +90,7 @@ but_w_same enc disp at_end (Modrm (Digit d) Memory) None operand hf hd ho = rw (
 but_w_same enc disp at_end (Modrm (Digit d) RegisterOrMemory) None operand hf hd ho = rw (digit_low d hd, place_high_same enc disp at_end operand) refl
 but_w_same enc disp at_end (Modrm (Digit d) Register8OrMemory) None operand hf hd ho =
     rw (digit_low d hd, place_high_same enc disp at_end operand, place_special_same enc disp at_end (Digit d) operand)
-    (ap (λ (x : Bool). place_is_high (named_place enc disp at_end operand) || x) (or_turned (nat_le 4 d && nat_le d 7) (place_is_special (Modrm (Digit d) Register8OrMemory) (named_place enc disp at_end operand))))
+    (ap (λ (x : Bool). place_is_high (place_read enc disp at_end operand) || x) (or_turned (nat_le 4 d && nat_le d 7) (place_is_special (Modrm (Digit d) Register8OrMemory) (place_read enc disp at_end operand))))
 but_w_same enc disp at_end (Modrm (Digit d) field) (Some n) operand hf hd ho = cc
 but_w_same enc disp at_end (Modrm Register8 field) None operand hf hd ho = cc
 but_w_same enc disp at_end (Modrm Register8 Memory) (Some n) place.TheVariants.NoPlace hf hd ho = cc
@@ -101,18 +103,18 @@ but_w_same enc disp at_end (Modrm Register Memory) (Some n) operand hf hd ho = r
 but_w_same enc disp at_end (Modrm Register RegisterOrMemory) (Some n) operand hf hd ho = rw (place_high_same enc disp at_end operand) refl
 but_w_same enc disp at_end (Modrm Register Register8OrMemory) (Some n) operand hf hd ho = cc
 
-rex_same : {M : Type 0} (enc : M → ℕ) (row : Row) (disp : ℤ) (line : Line) (o : Operands M) → is_line line ≡ true → fits line o ≡ true → rex_stands enc (is_w1 line.w) (has_8bit line.tail) (reg_number line.tail o.reg) o.place ≡ has_rex_byte line (operand_parts enc row disp o)
+rex_same : {M : Type 0} (enc : M → ℕ) (row : Row) (disp : ℤ) (line : Line) (o : Form M) → is_line line ≡ true → fits line o ≡ true → rex_stands enc (is_w1 line.w) (has_8bit line.tail) (reg_number line.tail o.reg) o.place ≡ has_rex_byte line (form_parts enc row disp o)
 rex_same enc row disp line o hl hf =
     let facts = line_facts line hl in
     ap (λ (x : Bool). is_w1 line.w || x) (but_w_same enc disp (imm_size o.imm) line.tail o.reg o.place (and_parts (tail_fits line.tail o.reg o.place) _ hf).0 facts.digit facts.once)
 
-prefix_same : {M : Type 0} (enc : M → ℕ) (row : Row) (disp : ℤ) (line : Line) (o : Operands M) (field : PrefixField) → is_line line ≡ true → fits line o ≡ true → written_prefix_len enc field line (reg_number line.tail o.reg) o.place ≡ prefix_len field line (operand_parts enc row disp o)
+prefix_same : {M : Type 0} (enc : M → ℕ) (row : Row) (disp : ℤ) (line : Line) (o : Form M) (field : PrefixField) → is_line line ≡ true → fits line o ≡ true → written_prefix_len enc field line (reg_number line.tail o.reg) o.place ≡ prefix_len field line (form_parts enc row disp o)
 prefix_same enc row disp line o (LegacyField set rex) hl hf = rw (rex_same enc row disp line o hl hf) refl
 prefix_same enc row disp line o (VexField pp map l vvvv) hl hf = rw (place_high_same enc disp (imm_size o.imm) o.place) refl
 
-line_is : {M : Type 0} (enc : M → ℕ) (row : Row) (line : Line) (o : Operands M) (disp : ℤ) (trap : Option TrapCode) (pre tail : List Action) → is_line line ≡ true → fits line o ≡ true → length (all_bytes pre) ≡ written_prefix_len enc line.prefix line (reg_number line.tail o.reg) o.place → length (all_bytes tail) ≡ tail_len (named_place enc disp (imm_size o.imm) o.place) → length (all_bytes (instruction_actions line trap pre tail o)) ≡ line_len line (operand_parts enc row disp o)
+line_is : {M : Type 0} (enc : M → ℕ) (row : Row) (line : Line) (o : Form M) (disp : ℤ) (trap : Option TrapCode) (pre tail : List Action) → is_line line ≡ true → fits line o ≡ true → length (all_bytes pre) ≡ written_prefix_len enc line.prefix line (reg_number line.tail o.reg) o.place → length (all_bytes tail) ≡ tail_len (place_read enc disp (imm_size o.imm) o.place) → length (all_bytes (instruction_actions line trap pre tail o)) ≡ line_len line (form_parts enc row disp o)
 line_is enc row line o disp trap pre tail hl hf hp ht =
-    let q = and_parts (vvvv_fits line.prefix (vvvv_number o.reg o.vvvv)) (imm_fits line.imm o.imm) (and_parts (tail_fits line.tail o.reg o.place) _ hf).1 in
+    let q = and_parts (vvvv_fits line.prefix o.vvvv) (imm_fits line.imm o.imm) (and_parts (tail_fits line.tail o.reg o.place) _ hf).1 in
     let whole = five_lengths (trap_actions trap) pre (opcode_actions line.opcode) tail (optional_imm_actions o.imm) (trap_bytes trap) in
     let op : length (all_bytes (opcode_actions line.opcode)) ≡ opcode_len line.opcode = ap length (opcode_part line.opcode) ∙ opcode_length line.opcode in
     let imm : length (all_bytes (optional_imm_actions o.imm)) ≡ imm_bytes line.imm = imm_length o.imm ∙ sym (imm_same line.imm o.imm q.1) in
@@ -120,5 +122,5 @@ line_is enc row line o disp trap pre tail hl hf hp ht =
     omega (arith, whole, op, imm, prefix, ht)
 
 -- as many bytes as the instruction has
-pub length_is : {M : Type 0} (enc : M → ℕ) (row : Row) (line : Line) (o : Operands M) (disp : ℤ) (trap : Option TrapCode) (pre tail : List Action) → line_of row ≡ line → is_line line ≡ true → fits line o ≡ true → length (all_bytes pre) ≡ written_prefix_len enc line.prefix line (reg_number line.tail o.reg) o.place → length (all_bytes tail) ≡ tail_len (named_place enc disp (imm_size o.imm) o.place) → length (all_bytes (instruction_actions line trap pre tail o)) ≡ len_of (operand_parts enc row disp o)
-length_is enc row line o disp trap pre tail e hl hf hp ht = line_is enc row line o disp trap pre tail hl hf hp ht ∙ ap (λ (l : Line). line_len l (operand_parts enc row disp o)) (sym e)
+pub length_is : {M : Type 0} (enc : M → ℕ) (row : Row) (line : Line) (o : Form M) (disp : ℤ) (trap : Option TrapCode) (pre tail : List Action) → line_of row ≡ line → is_line line ≡ true → fits line o ≡ true → length (all_bytes pre) ≡ written_prefix_len enc line.prefix line (reg_number line.tail o.reg) o.place → length (all_bytes tail) ≡ tail_len (place_read enc disp (imm_size o.imm) o.place) → length (all_bytes (instruction_actions line trap pre tail o)) ≡ len_of (form_parts enc row disp o)
+length_is enc row line o disp trap pre tail e hl hf hp ht = line_is enc row line o disp trap pre tail hl hf hp ht ∙ ap (λ (l : Line). line_len l (form_parts enc row disp o)) (sym e)

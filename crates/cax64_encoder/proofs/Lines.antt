@@ -1,12 +1,12 @@
 use Rattle.std.proofs.Common.{◌≡◌, ◌≢◌, ℕ, ◌+◌, ◌/◌, arith, Bool, true, false, refl}
-use Rattle.std.specs.Prelude.{◌==◌, ◌&&◌, ◌||◌, not, nat_le}
+use Rattle.std.specs.Prelude.{◌==◌, ◌&&◌, ◌||◌, not, nat_lt, nat_le}
 use Rattle.std.proofs.lemmas.Bool.{and_parts}
 use Rattle.std.proofs.lemmas.Bool.Decides.{nat_tests}
 use Rattle.cax64_prefix.proofs.Prefixes.{IsPlain}
 use Rattle.cax64_machine_code.specs.Len.{opcode_len}
 use Rattle.cax64_machine_code.specs.Line.{imm_bytes}
 use Rattle.cax64_machine_code.specs.declared.line.Line.{Line}
-use Rattle.cax64_encoder.specs.Fits.{is_plain, first_byte, is_prefix_field, is_w, is_w0, has_tail, is_digit, is_vex, has_8bit, prefix_size, tail_size, is_8bit_once, is_line}
+use Rattle.cax64_encoder.specs.Line.{is_plain, first_byte, is_prefix_field, is_w, is_w0, has_tail, is_digit, is_vex, has_8bit, prefix_size, tail_size, is_8bit_once, is_line}
 
 neither : (a b : Bool) → not (a || b) ≡ true → (a ≡ false) × (not b ≡ true)
 neither true b h = cc
@@ -38,6 +38,7 @@ plain_byte c h =
 -- what is tested of a line
 pub record LineFacts (line : Line) : Type 0 where
   pub plain : is_plain (first_byte line.opcode) ≡ true
+  pub byte : nat_lt line.opcode.byte 256 ≡ true
   pub prefix : is_prefix_field line.prefix line.opcode line.tail ≡ true
   pub w : is_w line.w ≡ true
   pub bare_w : (has_tail line.tail || is_w0 line.w) ≡ true
@@ -48,11 +49,12 @@ pub record LineFacts (line : Line) : Type 0 where
 
 pub line_facts : (line : Line) → is_line line ≡ true → LineFacts line
 line_facts line h =
-    let p1 = and_parts (is_plain (first_byte line.opcode)) _ h in
+    let p0 = and_parts (is_plain (first_byte line.opcode)) _ h in
+    let p1 = and_parts (nat_lt line.opcode.byte 256) _ p0.1 in
     let p2 = and_parts (is_prefix_field line.prefix line.opcode line.tail) _ p1.1 in
     let p3 = and_parts (is_w line.w) _ p2.1 in
     let p4 = and_parts (has_tail line.tail || is_w0 line.w) _ p3.1 in
     let p5 = and_parts (is_digit line.tail) _ p4.1 in
     let p6 = and_parts (is_8bit_once line.tail) _ p5.1 in
     let p7 = and_parts (not (is_vex line.prefix && has_8bit line.tail)) _ p6.1 in
-    record { plain = p1.0; prefix = p2.0; w = p3.0; bare_w = p4.0; digit = p5.0; once = p6.0; vex_8bit = p7.0; size = p7.1 }
+    record { plain = p0.0; byte = p1.0; prefix = p2.0; w = p3.0; bare_w = p4.0; digit = p5.0; once = p6.0; vex_8bit = p7.0; size = p7.1 }

@@ -10,6 +10,7 @@ use Rattle.cax64_register.specs.Real.{is_real, is_real_non_rsp}
 use Rattle.cax64_address.specs.Address.{registers_are_real, index_bit, base_bit}
 use Rattle.cax64_address.specs.declared.amode.Amode.{Amode}
 use Rattle.cax64_address.specs.declared.amode.Amode.TheVariants.{ImmReg, ImmRegRegShift, RipRelative}
+use Rattle.cax64_machine_code.specs.Fields.{IsBytes}
 use Rattle.cax64_machine_code.specs.Len.{one_if, is_w1, legacy_len}
 use Rattle.cax64_machine_code.specs.Prefix.{legacy_prefix, vex_prefix, Rex, rex_bits, prefix_at}
 use Rattle.cax64_machine_code.specs.Line.{w_matches, vvvv_matches}
@@ -30,14 +31,16 @@ use Rattle.cax64_prefix.proofs.PutRuns.{all_bytes-puts}
 use Rattle.cax64_prefix.proofs.RexBits.{AreBits}
 use Rattle.cax64_prefix.proofs.Prefixes.{legacy_bytes, prefix_back, prefix_vex}
 use Rattle.cax64_encoder.specs.Code.{when, set_actions}
-use Rattle.cax64_encoder.specs.Encodes.{PrefixFor, rex_stands, place_special, place_high, amode_high}
-use Rattle.cax64_encoder.specs.Fits.{first_byte, is_line, is_w0, has_tail, has_8bit, uses_8bit_reg, uses_8bit_place, is_no_place, is_absent, vvvv_fits}
-use Rattle.cax64_encoder.specs.Operands.{place_is_real, place_x, place_b}
-use Rattle.cax64_encoder.specs.Visited.{number_value, is_real_number}
-use Rattle.cax64_encoder.specs.declared.visited.Number.{Number}
-use Rattle.cax64_encoder.specs.declared.visited.Number.TheVariants.{Settled, Unsettled}
-use Rattle.cax64_encoder.specs.declared.operands.PlaceOperand as place
-use Rattle.cax64_encoder.specs.declared.operands.PlaceOperand.{PlaceOperand}
+use Rattle.cax64_encoder.specs.Form.{is_no_place, is_absent, vvvv_fits}
+use Rattle.cax64_encoder.specs.Line.{first_byte, is_line, is_w0, has_tail, has_8bit, uses_8bit_reg, uses_8bit_place}
+use Rattle.cax64_encoder.specs.Number.{number_value, is_real_number}
+use Rattle.cax64_encoder.specs.Prefix.{PrefixFor, rex_stands, place_special, place_high, amode_high}
+use Rattle.cax64_encoder.specs.Real.{place_is_real, place_x, place_b}
+use Rattle.cax64_encoder.specs.declared.number.Number.{Number}
+use Rattle.cax64_encoder.specs.declared.number.Number.TheVariants.{Settled, Unsettled}
+use Rattle.cax64_encoder.specs.declared.role.PlaceOperand as place
+use Rattle.cax64_encoder.specs.declared.role.PlaceOperand.{PlaceOperand}
+use Rattle.cax64_encoder.proofs.Bytes.{no_bytes, one_byte, both_bytes, rex_are_bytes}
 use Rattle.cax64_encoder.proofs.Lines.{line_facts, plain_byte}
 
 when_bytes : (b : Bool) (c : ℕ) → all_bytes (when b c) ≡ (if b then c ∷ [] else [])
@@ -67,6 +70,14 @@ one_length false c = refl
 
 four_lengths : (a b c d : List ℕ) → length (a ++ (b ++ (c ++ d))) ≡ length a + (length b + (length c + length d))
 four_lengths a b c d = omega (arith, length-append a (b ++ (c ++ d)), length-append b (c ++ d), length-append c d)
+
+set_are_bytes : (set : LegacySet) → IsBytes (legacy_bytes set)
+set_are_bytes set =
+    both_bytes _ _ (stands set.lock 0xF0 (omega arith)) (both_bytes _ _ (stands set.operand_size 0x66 (omega arith)) (both_bytes _ _ (stands set.repne 0xF2 (omega arith)) (stands set.rep 0xF3 (omega arith))))
+  where
+    stands : (b : Bool) (c : ℕ) → c < 256 → IsBytes (if b then c ∷ [] else [])
+    stands true c h = one_byte c h
+    stands false c h = no_bytes
 
 set_length : (set : LegacySet) → length (legacy_bytes set) ≡ legacy_len set
 set_length set =
@@ -192,6 +203,7 @@ legacy_for settled enc line reg vvvv operand set rexed w rex is hl hr hp hv hb h
       vvvv_is = rw is (no_vvvv vvvv (rw is at hv));
       low_reg = λ e f. some_is rex (stands.1 (stands_for enc w (has_8bit line.tail) reg operand (or_true_left (uses_8bit_reg line.tail) (uses_8bit_place line.tail) e) (or_true_left (is_special_if_8bit reg) (place_special operand) f)));
       low_place = λ e f. some_is rex (stands.1 (stands_for enc w (has_8bit line.tail) reg operand (or_true_right (uses_8bit_reg line.tail) (uses_8bit_place line.tail) e) (or_true_right (is_special_if_8bit reg) (place_special operand) f)));
+      are_bytes = rw (legacy_part set rex) (both_bytes (legacy_bytes set) (rex_bytes rex) (set_are_bytes set) (rex_are_bytes rex are_bits));
       size = rw (legacy_part set rex, is) (omega (arith, length-append (legacy_bytes set) (rex_bytes rex), set_length set, rex_length rex));
       length = rw (legacy_part set rex, is, ← hv1) (omega (arith, length-append (legacy_bytes set) (rex_bytes rex), set_length set, rex_there rex (rex_stands enc w (has_8bit line.tail) reg operand) stands));
     }
@@ -284,8 +296,8 @@ no_true a e f = absurd (apart (sym e ∙ f))
     apart h = cc
 
 -- a VEX prefix
-pub vex_for : {M : Type 0} (enc : M → ℕ) (line : Line) (reg : ℕ) (vvvv : Option Number) (operand : PlaceOperand M) (pp map l : ℕ) (field : VvvvField) (w : Bool) (number : ℕ) (registers : Option ℕ × Option ℕ) (vex : VexPrefix) → line.prefix ≡ VexField pp map l field → is_line line ≡ true → vvvv_fits line.prefix vvvv ≡ true → w_matches line.w (from_bool w) ≡ true → number ≡ unwrap_or (option_map number_value vvvv) 0 → unwrap_or registers.0 0 / 8 ≡ place_b enc operand → unwrap_or registers.1 0 / 8 ≡ place_x enc operand → w ≡ is_w1 line.w → VexReadsAs (vex_fields reg number registers l pp map w) (vex_bytes vex) → ((length (vex_bytes vex) ≡ 2) ↔ IsTrue (fits_two_bytes (vex_fields reg number registers l pp map w))) → PrefixFor enc line reg vvvv operand (all_bytes (puts (vex_bytes vex)))
-vex_for enc line reg vvvv operand pp map l field w number registers vex is hl hv hw hn hb hx hv1 back two =
+pub vex_for : {M : Type 0} (enc : M → ℕ) (line : Line) (reg : ℕ) (vvvv : Option Number) (operand : PlaceOperand M) (pp map l : ℕ) (field : VvvvField) (w : Bool) (number : ℕ) (registers : Option ℕ × Option ℕ) (vex : VexPrefix) → IsBytes (vex_bytes vex) → line.prefix ≡ VexField pp map l field → is_line line ≡ true → vvvv_fits line.prefix vvvv ≡ true → w_matches line.w (from_bool w) ≡ true → number ≡ unwrap_or (option_map number_value vvvv) 0 → unwrap_or registers.0 0 / 8 ≡ place_b enc operand → unwrap_or registers.1 0 / 8 ≡ place_x enc operand → w ≡ is_w1 line.w → VexReadsAs (vex_fields reg number registers l pp map w) (vex_bytes vex) → ((length (vex_bytes vex) ≡ 2) ↔ IsTrue (fits_two_bytes (vex_fields reg number registers l pp map w))) → PrefixFor enc line reg vvvv operand (all_bytes (puts (vex_bytes vex)))
+vex_for enc line reg vvvv operand pp map l field w number registers vex bytes is hl hv hw hn hb hx hv1 back two =
     let facts = line_facts line hl in
     let vvvv_is = vvvv_there field vvvv pp map l number (rw is at hv) hn in
     let none = no_8bit line.tail (rw is at facts.vex_8bit) in
@@ -300,6 +312,7 @@ vex_for enc line reg vvvv operand pp map l field w number registers vex is hl hv
       vvvv_is = rw is vvvv_is.1;
       low_reg = λ e f. no_true (uses_8bit_reg line.tail) none.0 e;
       low_place = λ e f. no_true (uses_8bit_place line.tail) none.1 e;
+      are_bytes = rw (all_bytes-puts (vex_bytes vex)) bytes;
       size = rw (all_bytes-puts (vex_bytes vex), is) (vex_length vex);
       length = rw (all_bytes-puts (vex_bytes vex), is, ← hv1, ← no_w w) (vex_there vex (fits_two_bytes (vex_fields reg number registers l pp map w)) two ∙ ap (λ (t : Bool). if t then 2 else 3) low);
     }

@@ -14,6 +14,7 @@ use Rattle.cax64_address.specs.Address.{displaced_place, target_notices, trap_of
 use Rattle.cax64_address.specs.Emitted.{TailOf}
 use Rattle.cax64_address.specs.declared.amode.Amode.{Amode}
 use Rattle.cax64_address.specs.declared.amode.Amode.TheVariants.{ImmReg, ImmRegRegShift, RipRelative}
+use Rattle.cax64_machine_code.specs.Fields.{IsBytes}
 use Rattle.cax64_machine_code.specs.Len.{opcode_len}
 use Rattle.cax64_machine_code.specs.Line.{imm_bytes, opcode_bytes}
 use Rattle.cax64_machine_code.specs.Prefix.{prefix_at, x_of, b_of}
@@ -44,20 +45,26 @@ use Rattle.cax64_encoder.proofs.PrefixParts.{set_quiet}
 use Rattle.cax64_encoder.specs.declared.code.PrefixCode.{PrefixCode}
 use Rattle.cax64_encoder.specs.declared.code.PrefixCode.TheVariants.{Legacy, Vex}
 use Rattle.cax64_encoder.specs.Code.{set_actions, prefix_actions, trap_actions, opcode_actions}
-use Rattle.cax64_encoder.specs.Imm.{optional_imm_actions}
-use Rattle.cax64_encoder.specs.Encodes.{reg_number, TailPartOf, PrefixFor, trap_notice, notices_of, ShortestFor, EncodesParts}
-use Rattle.cax64_encoder.specs.Meant.{operand_parts}
-use Rattle.cax64_encoder.specs.Visited.{number_value}
-use Rattle.cax64_encoder.specs.Fits.{first_byte, has_tail, is_line, is_digit, fits, tail_fits, reg_fits, place_fits, is_no_place, is_absent, vvvv_fits, imm_fits, tail_size}
-use Rattle.cax64_encoder.specs.Imm.{imm_value, imm_size}
-use Rattle.cax64_encoder.specs.Operands.{is_absent_or_real, vvvv_number, place_is_real, are_real, named_place, place_x, place_b, memory_in, trap_in}
-use Rattle.cax64_encoder.specs.declared.visited.Number.{Number}
-use Rattle.cax64_encoder.specs.declared.visited.Number.TheVariants.{Settled, Unsettled}
-use Rattle.cax64_encoder.specs.declared.imm.ImmOperand.{ImmOperand}
-use Rattle.cax64_encoder.specs.declared.imm.ImmOperand.TheVariants.{Imm8, Imm16, Imm32, Simm8, Simm32}
-use Rattle.cax64_encoder.specs.declared.operands.Operands.{Operands}
-use Rattle.cax64_encoder.specs.declared.operands.PlaceOperand as place
-use Rattle.cax64_encoder.specs.declared.operands.PlaceOperand.{PlaceOperand}
+use Rattle.cax64_encoder.specs.Encodes.{TailPartOf, EncodesParts, form_parts}
+use Rattle.cax64_encoder.specs.Form.{fits, tail_fits, reg_fits, place_fits, is_no_place, is_absent, vvvv_fits}
+use Rattle.cax64_encoder.specs.ImmActions.{optional_imm_actions}
+use Rattle.cax64_encoder.specs.Instruction.{ShortestFor}
+use Rattle.cax64_encoder.specs.Line.{first_byte, has_tail, is_line, is_digit, tail_size}
+use Rattle.cax64_encoder.specs.Notices.{trap_notice, notices_of}
+use Rattle.cax64_encoder.specs.Number.{number_value}
+use Rattle.cax64_encoder.specs.Place.{place_read, memory_in}
+use Rattle.cax64_encoder.specs.Prefix.{reg_number, PrefixFor}
+use Rattle.cax64_encoder.specs.Real.{is_absent_or_real, place_is_real, form_is_real, place_x, place_b, trap_in}
+use Rattle.cax64_operand.specs.Immediate.{imm_value, imm_size}
+use Rattle.cax64_operand.specs.Shape.{imm_fits}
+use Rattle.cax64_encoder.specs.declared.number.Number.{Number}
+use Rattle.cax64_encoder.specs.declared.number.Number.TheVariants.{Settled, Unsettled}
+use Rattle.cax64_operand.specs.declared.immediate.ImmOperand.{ImmOperand}
+use Rattle.cax64_operand.specs.declared.immediate.ImmOperand.TheVariants.{Imm8, Imm16, Imm32, Simm8, Simm32}
+use Rattle.cax64_encoder.specs.declared.form.Form.{Form}
+use Rattle.cax64_encoder.specs.declared.role.PlaceOperand as place
+use Rattle.cax64_encoder.specs.declared.role.PlaceOperand.{PlaceOperand}
+use Rattle.cax64_encoder.proofs.Bytes.{no_bytes, both_bytes, opcode_are_bytes, imm_are_bytes}
 use Rattle.cax64_encoder.proofs.Lines.{LineFacts, line_facts}
 use Rattle.cax64_encoder.proofs.Encodes.{imm_part, imm_same, imm_length, imm_quiet, opcode_part, opcode_quiet, opcode_begins, opcode_length, opcode_ends, trap_bytes, trap_told, reg_viewed, register_named, register_allowed, memory_named, digit_is, five_parts, five_lengths, five_notices}
 
@@ -68,21 +75,31 @@ at_most : (a b : ℕ) → nat_le a b ≡ true → a ≤ b
 at_most a b h = grind (arith, nat_tests)
 
 -- the actions of an instruction, its trap first
-abbrev pub instruction_actions : {M : Type 0} → Line → Option TrapCode → List Action → List Action → Operands M → List Action
+abbrev pub instruction_actions : {M : Type 0} → Line → Option TrapCode → List Action → List Action → Form M → List Action
 instruction_actions line trap pre tail o = trap_actions trap ++ (pre ++ (opcode_actions line.opcode ++ (tail ++ optional_imm_actions o.imm)))
 
 -- what holds of the parts of an instruction of a row before they are put together
-pub record Parted {M : Type 0} (enc : M → ℕ) (row : Row) (o : Operands M) (pre : List Action) : Type 0 where
+pub record Parted {M : Type 0} (enc : M → ℕ) (row : Row) (o : Form M) (pre : List Action) : Type 0 where
   pub facts : LineFacts (line_of row)
   pub imm : imm_fits (line_of row).imm o.imm ≡ true
-  pub prefix : PrefixFor enc (line_of row) (reg_number (line_of row).tail o.reg) (vvvv_number o.reg o.vvvv) o.place (all_bytes pre)
+  pub prefix : PrefixFor enc (line_of row) (reg_number (line_of row).tail o.reg) o.vvvv o.place (all_bytes pre)
   pub quiet : (k : ℕ) → all_notices pre k ≡ []
 
-first_prefix : {M : Type 0} {enc : M → ℕ} {row : Row} {o : Operands M} {pre : List Action} (h : Parted enc row o pre) → IsPrefix h.prefix.prefix (first_byte (line_of row).opcode) (all_bytes pre)
+-- what is written are bytes
+written_bytes : {M : Type 0} {enc : M → ℕ} {row : Row} {o : Form M} {pre : List Action} (h : Parted enc row o pre) (trap : Option TrapCode) (tail : List Action) → IsBytes (all_bytes tail) → IsBytes (all_bytes (instruction_actions (line_of row) trap pre tail o))
+written_bytes {row = row} {o} {pre} h trap tail small =
+    let op = opcode_are_bytes (line_of row).opcode h.facts.byte in
+    let imm = imm_are_bytes (line_of row).imm o.imm h.imm in
+    let whole : IsBytes (all_bytes pre ++ (all_bytes (opcode_actions (line_of row).opcode) ++ (all_bytes tail ++ (all_bytes (optional_imm_actions o.imm) ++ [])))) = both_bytes _ _ h.prefix.are_bytes (both_bytes _ _ op (both_bytes _ _ small (both_bytes _ _ imm no_bytes))) in
+    let acts = all_bytes (instruction_actions (line_of row) trap pre tail o) in
+    let same : acts ++ [] ≡ all_bytes pre ++ (all_bytes (opcode_actions (line_of row).opcode) ++ (all_bytes tail ++ (all_bytes (optional_imm_actions o.imm) ++ []))) = five_parts (trap_actions trap) pre (opcode_actions (line_of row).opcode) tail (optional_imm_actions o.imm) [] (trap_bytes trap) in
+    subst IsBytes (sym same ∙ append-nil acts) whole
+
+first_prefix : {M : Type 0} {enc : M → ℕ} {row : Row} {o : Form M} {pre : List Action} (h : Parted enc row o pre) → IsPrefix h.prefix.prefix (first_byte (line_of row).opcode) (all_bytes pre)
 first_prefix h = record { reads = h.prefix.reads }
 
 -- at most 13 bytes, and one at least
-sizes : {M : Type 0} {enc : M → ℕ} {row : Row} {o : Operands M} {pre : List Action} (h : Parted enc row o pre) (trap : Option TrapCode) (tail : List Action) → length (all_bytes tail) ≤ tail_size (line_of row).tail → (1 ≤ length (all_bytes (instruction_actions (line_of row) trap pre tail o))) × (length (all_bytes (instruction_actions (line_of row) trap pre tail o)) ≤ 13)
+sizes : {M : Type 0} {enc : M → ℕ} {row : Row} {o : Form M} {pre : List Action} (h : Parted enc row o pre) (trap : Option TrapCode) (tail : List Action) → length (all_bytes tail) ≤ tail_size (line_of row).tail → (1 ≤ length (all_bytes (instruction_actions (line_of row) trap pre tail o))) × (length (all_bytes (instruction_actions (line_of row) trap pre tail o)) ≤ 13)
 sizes {row = row} {o} {pre} h trap tail small =
     let whole = five_lengths (trap_actions trap) pre (opcode_actions (line_of row).opcode) tail (optional_imm_actions o.imm) (trap_bytes trap) in
     let op : length (all_bytes (opcode_actions (line_of row).opcode)) ≡ opcode_len (line_of row).opcode = ap length (opcode_part (line_of row).opcode) ∙ opcode_length (line_of row).opcode in
@@ -95,7 +112,7 @@ sizes {row = row} {o} {pre} h trap tail small =
     some_opcode true = omega arith
     some_opcode false = omega arith
 
-no_place_named : {M : Type 0} (enc : M → ℕ) (disp : ℤ) (k : ℕ) (operand : PlaceOperand M) → is_no_place operand ≡ true → named_place enc disp k operand ≡ None
+no_place_named : {M : Type 0} (enc : M → ℕ) (disp : ℤ) (k : ℕ) (operand : PlaceOperand M) → is_no_place operand ≡ true → place_read enc disp k operand ≡ None
 no_place_named enc disp k place.TheVariants.NoPlace h = refl
 no_place_named enc disp k (place.TheVariants.Register number) h = cc
 no_place_named enc disp k (place.TheVariants.Memory amode) h = cc
@@ -125,7 +142,7 @@ tail_ends tail (Some (Imm32 v)) h = ends_append tail _ (omega arith)
 tail_ends tail (Some (Simm8 v)) h = ends_append tail _ (omega arith)
 tail_ends tail (Some (Simm32 v)) h = ends_append tail _ (omega arith)
 
-no_reg : {M : Type 0} (o : Operands M) → is_absent o.reg ≡ true → option_map (λ (n : Number). Low (number_value n)) o.reg ≡ None
+no_reg : {M : Type 0} (o : Form M) → is_absent o.reg ≡ true → option_map (λ (n : Number). Low (number_value n)) o.reg ≡ None
 no_reg o h = by_reg o.reg h
   where
     by_reg : (reg : Option Number) → is_absent reg ≡ true → option_map (λ (n : Number). Low (number_value n)) reg ≡ None
@@ -133,18 +150,19 @@ no_reg o h = by_reg o.reg h
     by_reg (Some n) h = cc
 
 -- a row without a tail
-pub bare_encodes : {M : Type 0} (enc : M → ℕ) (row : Row) (o : Operands M) (disp : ℤ) (pre : List Action) → Parted enc row o pre → (line_of row).tail ≡ NoTail → is_absent o.reg ≡ true → is_no_place o.place ≡ true → EncodesParts (operand_parts enc row disp o) (memory_in o.place) (instruction_actions (line_of row) None pre [] o)
+pub bare_encodes : {M : Type 0} (enc : M → ℕ) (row : Row) (o : Form M) (disp : ℤ) (pre : List Action) → Parted enc row o pre → (line_of row).tail ≡ NoTail → is_absent o.reg ≡ true → is_no_place o.place ≡ true → EncodesParts (form_parts enc row disp o) (memory_in o.place) (instruction_actions (line_of row) None pre [] o)
 bare_encodes enc row o disp pre h ht hr hp =
     let ib = all_bytes (optional_imm_actions o.imm) in
     let acts = instruction_actions (line_of row) None pre [] o in
-    let found : (rest : List ℕ) → find (all_bytes acts ++ rest) ≡ Some (record { parts = operand_parts enc row disp o; tail = 0; rest = rest }) = λ rest.
+    let found : (rest : List ℕ) → find (all_bytes acts ++ rest) ≡ Some (record { parts = form_parts enc row disp o; tail = 0; rest = rest }) = λ rest.
     let parts = five_parts [] pre (opcode_actions (line_of row).opcode) [] (optional_imm_actions o.imm) rest refl in
     let bare = bare_found row h.prefix.prefix (first_byte (line_of row).opcode) (all_bytes pre) ib rest (option_map imm_value o.imm) (first_prefix h) (opcode_begins (line_of row).opcode) h.prefix.matches ht (imm_part (line_of row).imm o.imm h.imm) in
     ap find (parts ∙ ap (λ (x : List ℕ). all_bytes pre ++ (x ++ (ib ++ rest))) (opcode_part (line_of row).opcode)) ∙ bare
     ∙ rw (h.prefix.vvvv_is, no_reg o hr, no_place_named enc disp (imm_size o.imm) o.place hp) refl in
     let size = sizes h None [] (none_small (line_of row).tail) in
     record {
-      reads = reads_as (operand_parts enc row disp o) 0 (all_bytes acts) found size.0 size.1;
+      are_bytes = written_bytes h None [] no_bytes;
+      reads = reads_as (form_parts enc row disp o) 0 (all_bytes acts) found size.0 size.1;
       notices = λ at. five_notices [] pre (opcode_actions (line_of row).opcode) [] (optional_imm_actions o.imm) at refl h.quiet (opcode_quiet (line_of row).opcode) (imm_quiet o.imm) ∙ rw (no_place_memory o.place hp) refl;
       shortest = rw (no_place_memory o.place hp) tt;
       ends = ends_in_code (line_of row) None pre [] (optional_imm_actions o.imm) (imm_ends o.imm);
@@ -171,7 +189,7 @@ told_at (ImmRegRegShift base index scale simm32 trap) at before read e = append-
 told_at (RipRelative target) at before read e = rw e refl
 
 -- a row with a tail
-module _ {M : Type 0} (enc : M → ℕ) (row : Row) (o : Operands M) (disp : ℤ) (field : RegField) (place_field : PlaceField) (trap : Option TrapCode) (pre tail : List Action) (named : Place) (told : ℕ → List Notice) (h : Parted enc row o pre) (ht : (line_of row).tail ≡ Modrm field place_field) (hr : reg_fits field o.reg ≡ true) (t : TailOf (place_x enc o.place) (place_b enc o.place) 1 (reg_number (line_of row).tail o.reg % 8) named told tail) (allowed : place_at place_field h.prefix.prefix named ≡ Some named) (means : named_place enc disp (imm_size o.imm) o.place ≡ Some named) where
+module _ {M : Type 0} (enc : M → ℕ) (row : Row) (o : Form M) (disp : ℤ) (field : RegField) (place_field : PlaceField) (trap : Option TrapCode) (pre tail : List Action) (named : Place) (told : ℕ → List Notice) (h : Parted enc row o pre) (ht : (line_of row).tail ≡ Modrm field place_field) (hr : reg_fits field o.reg ≡ true) (t : TailOf (place_x enc o.place) (place_b enc o.place) 1 (reg_number (line_of row).tail o.reg % 8) named told tail) (tb : IsBytes (all_bytes tail)) (allowed : place_at place_field h.prefix.prefix named ≡ Some named) (means : place_read enc disp (imm_size o.imm) o.place ≡ Some named) where
   acts : List Action
   acts = instruction_actions (line_of row) trap pre tail o
 
@@ -197,7 +215,7 @@ module _ {M : Type 0} (enc : M → ℕ) (row : Row) (o : Operands M) (disp : ℤ
   unfolding ib
   imm_there = imm_part (line_of row).imm o.imm h.imm
 
-  found : (rest : List ℕ) → find (all_bytes acts ++ rest) ≡ Some (record { parts = operand_parts enc row disp o; tail = length (all_bytes tail); rest = rest })
+  found : (rest : List ℕ) → find (all_bytes acts ++ rest) ≡ Some (record { parts = form_parts enc row disp o; tail = length (all_bytes tail); rest = rest })
   found rest =
       let whole = tail_found row h.prefix.prefix (first_byte (line_of row).opcode) field place_field (reg_number (line_of row).tail o.reg % 8) named named (all_bytes pre) (all_bytes tail) ib rest (option_map imm_value o.imm) (first_prefix h) (opcode_begins (line_of row).opcode) h.prefix.matches ht tail_is digit_there allowed imm_there in
       ap find (parts_are rest) ∙ whole ∙ rw (viewed, h.prefix.vvvv_is, means) refl
@@ -206,16 +224,16 @@ module _ {M : Type 0} (enc : M → ℕ) (row : Row) (o : Operands M) (disp : ℤ
   unfolding acts
   size = sizes h trap tail (rw ht t.most)
 
-  reads : ReadsAs (operand_parts enc row disp o) (all_bytes acts)
-  reads = reads_as (operand_parts enc row disp o) (length (all_bytes tail)) (all_bytes acts) found size.0 size.1
+  reads : ReadsAs (form_parts enc row disp o) (all_bytes acts)
+  reads = reads_as (form_parts enc row disp o) (length (all_bytes tail)) (all_bytes acts) found size.0 size.1
 
   reads_tail : reads.reading.tail ≡ length (all_bytes tail)
   unfolding reads
-  reads_tail = reads_as_tail (operand_parts enc row disp o) (length (all_bytes tail)) (all_bytes acts) found size.0 size.1
+  reads_tail = reads_as_tail (form_parts enc row disp o) (length (all_bytes tail)) (all_bytes acts) found size.0 size.1
 
   reads_row : reads.reading.row ≡ row
   unfolding reads
-  reads_row = reads_as_row (operand_parts enc row disp o) (length (all_bytes tail)) (all_bytes acts) found size.0 size.1
+  reads_row = reads_as_row (form_parts enc row disp o) (length (all_bytes tail)) (all_bytes acts) found size.0 size.1
 
   imm_is : imm_bytes (line_of reads.reading.row).imm ≡ length ib
   unfolding ib
@@ -259,18 +277,22 @@ module _ {M : Type 0} (enc : M → ℕ) (row : Row) (o : Operands M) (disp : ℤ
   unfolding acts
   ends_are = ends_in_code (line_of row) trap pre tail (optional_imm_actions o.imm) (inl (tail_ends tail o.imm t.ends))
 
-  -- the actions write the instruction, whose memory operand has these notices
-  tail_encodes : (memory : Option (Amode M)) → ((at : ℕ) → trap_notice trap at ++ told (at + (length (all_bytes pre) + length (opcode_bytes (line_of row).opcode))) ≡ notices_of memory at reads.reading) → (HasShortestTail (all_bytes acts) reads.reading → ShortestFor memory (all_bytes acts) reads.reading) → EncodesParts (operand_parts enc row disp o) memory acts
-  tail_encodes memory notices shortest = record { reads = reads; notices = λ at. notices_are at ∙ notices at; shortest = shortest shortest_tail; ends = ends_are }
+  bytes_are : IsBytes (all_bytes acts)
+  unfolding acts
+  bytes_are = written_bytes h trap tail tb
 
-  memory_encodes : (amode : Amode M) → trap ≡ trap_of amode → ((at : ℕ) → told at ≡ target_notices amode at) → EncodesParts (operand_parts enc row disp o) (Some amode) acts
+  -- the actions write the instruction, whose memory operand has these notices
+  tail_encodes : (memory : Option (Amode M)) → ((at : ℕ) → trap_notice trap at ++ told (at + (length (all_bytes pre) + length (opcode_bytes (line_of row).opcode))) ≡ notices_of memory at reads.reading) → (HasShortestTail (all_bytes acts) reads.reading → ShortestFor memory (all_bytes acts) reads.reading) → EncodesParts (form_parts enc row disp o) memory acts
+  tail_encodes memory notices shortest = record { are_bytes = bytes_are; reads = reads; notices = λ at. notices_are at ∙ notices at; shortest = shortest shortest_tail; ends = ends_are }
+
+  memory_encodes : (amode : Amode M) → trap ≡ trap_of amode → ((at : ℕ) → told at ≡ target_notices amode at) → EncodesParts (form_parts enc row disp o) (Some amode) acts
   memory_encodes amode e f = tail_encodes (Some amode) (λ at.
       let start : ℕ = length (all_bytes pre) + length (opcode_bytes (line_of row).opcode) in
       ap (λ (t : Option TrapCode). trap_notice t at ++ told (at + start)) e
       ∙ ap (λ (l : List Notice). trap_notice (trap_of amode) at ++ l) (f (at + start))
       ∙ told_at amode at start reads.reading before) (λ s. s)
 
-  register_encodes : trap ≡ None → ((at : ℕ) → told at ≡ []) → EncodesParts {M = M} (operand_parts enc row disp o) None acts
+  register_encodes : trap ≡ None → ((at : ℕ) → told at ≡ []) → EncodesParts {M = M} (form_parts enc row disp o) None acts
   register_encodes e f = tail_encodes None (λ at.
       let start : ℕ = length (all_bytes pre) + length (opcode_bytes (line_of row).opcode) in
       ap (λ (t : Option TrapCode). trap_notice t at ++ told (at + start)) e ∙ f (at + start)) (λ s. tt)
@@ -285,57 +307,57 @@ register_may M number Memory h = cc
 register_may M number RegisterOrMemory h = refl
 register_may M number Register8OrMemory h = refl
 
-by_place : {M : Type 0} (enc : M → ℕ) (row : Row) (o : Operands M) (disp : ℤ) (field : RegField) (place_field : PlaceField) (pre tail : List Action) (operand : PlaceOperand M) → o.place ≡ operand → (h : Parted enc row o pre) → (line_of row).tail ≡ Modrm field place_field → reg_fits field o.reg ≡ true → place_fits place_field operand ≡ true → TailPartOf enc disp (imm_size o.imm) (reg_number (line_of row).tail o.reg) operand tail → EncodesParts (operand_parts enc row disp o) (memory_in operand) (instruction_actions (line_of row) (trap_in operand) pre tail o)
+by_place : {M : Type 0} (enc : M → ℕ) (row : Row) (o : Form M) (disp : ℤ) (field : RegField) (place_field : PlaceField) (pre tail : List Action) (operand : PlaceOperand M) → o.place ≡ operand → (h : Parted enc row o pre) → (line_of row).tail ≡ Modrm field place_field → reg_fits field o.reg ≡ true → place_fits place_field operand ≡ true → TailPartOf enc disp (imm_size o.imm) (reg_number (line_of row).tail o.reg) operand tail → IsBytes (all_bytes tail) → EncodesParts (form_parts enc row disp o) (memory_in operand) (instruction_actions (line_of row) (trap_in operand) pre tail o)
 unfolding acts
-by_place enc row o disp field place_field pre tail place.TheVariants.NoPlace e h ht hr hp t = cc
-by_place {M} enc row o disp field place_field pre tail (place.TheVariants.Register number) e h ht hr hp t =
-    register_encodes enc row o disp field place_field None pre tail (Reg (Low (number_value number))) (λ at. []) h ht hr (rw e t)
+by_place enc row o disp field place_field pre tail place.TheVariants.NoPlace e h ht hr hp t tb = cc
+by_place {M} enc row o disp field place_field pre tail (place.TheVariants.Register number) e h ht hr hp t tb =
+    register_encodes enc row o disp field place_field None pre tail (Reg (Low (number_value number))) (λ at. []) h ht hr (rw e t) tb
     (register_named field place_field h.prefix.prefix (number_value number) true refl (register_may M number place_field hp) (λ a b. h.prefix.low_place (rw ht a) (rw e b)))
     (rw e refl) refl (λ at. refl)
-by_place enc row o disp field place_field pre tail (place.TheVariants.Memory amode) e h ht hr hp t =
-    memory_encodes enc row o disp field place_field (trap_of amode) pre tail (displaced_place enc disp (imm_size o.imm) amode) (target_notices amode) h ht hr (rw e t)
+by_place enc row o disp field place_field pre tail (place.TheVariants.Memory amode) e h ht hr hp t tb =
+    memory_encodes enc row o disp field place_field (trap_of amode) pre tail (displaced_place enc disp (imm_size o.imm) amode) (target_notices amode) h ht hr (rw e t) tb
     (memory_named enc disp (imm_size o.imm) place_field h.prefix.prefix amode)
     (rw e refl) amode refl (λ at. refl)
 
-by_tail : {M : Type 0} (enc : M → ℕ) (row : Row) (o : Operands M) (disp : ℤ) (pre tail : List Action) (field : TailField) → (line_of row).tail ≡ field → Parted enc row o pre → tail_fits field o.reg o.place ≡ true → TailPartOf enc disp (imm_size o.imm) (reg_number (line_of row).tail o.reg) o.place tail → EncodesParts (operand_parts enc row disp o) (memory_in o.place) (instruction_actions (line_of row) (trap_in o.place) pre tail o)
-by_tail enc row o disp pre tail NoTail e h f t =
+by_tail : {M : Type 0} (enc : M → ℕ) (row : Row) (o : Form M) (disp : ℤ) (pre tail : List Action) (field : TailField) → (line_of row).tail ≡ field → Parted enc row o pre → tail_fits field o.reg o.place ≡ true → TailPartOf enc disp (imm_size o.imm) (reg_number (line_of row).tail o.reg) o.place tail → IsBytes (all_bytes tail) → EncodesParts (form_parts enc row disp o) (memory_in o.place) (instruction_actions (line_of row) (trap_in o.place) pre tail o)
+by_tail enc row o disp pre tail NoTail e h f t tb =
     let p = and_parts (is_absent o.reg) (is_no_place o.place) f in
     let q = no_tail_place o.place enc disp (imm_size o.imm) (reg_number (line_of row).tail o.reg) tail p.1 t in
     rw (q.0, q.1) (bare_encodes enc row o disp pre h e p.0 p.1)
-by_tail enc row o disp pre tail (Modrm field place_field) e h f t =
+by_tail enc row o disp pre tail (Modrm field place_field) e h f t tb =
     let p = and_parts (reg_fits field o.reg) (place_fits place_field o.place) f in
-    by_place enc row o disp field place_field pre tail o.place refl h e p.0 p.1 t
+    by_place enc row o disp field place_field pre tail o.place refl h e p.0 p.1 t tb
 
 -- a prefix, an opcode, a tail and an immediate for a row and operands of its shape write that row with these operands
-pub encodes : {M : Type 0} (enc : M → ℕ) (row : Row) (o : Operands M) (disp : ℤ) (pre tail : List Action) → is_line (line_of row) ≡ true → fits (line_of row) o ≡ true → PrefixFor enc (line_of row) (reg_number (line_of row).tail o.reg) (vvvv_number o.reg o.vvvv) o.place (all_bytes pre) → ((k : ℕ) → all_notices pre k ≡ []) → TailPartOf enc disp (imm_size o.imm) (reg_number (line_of row).tail o.reg) o.place tail → EncodesParts (operand_parts enc row disp o) (memory_in o.place) (instruction_actions (line_of row) (trap_in o.place) pre tail o)
-encodes enc row o disp pre tail hl hf prefix quiet t =
+pub encodes : {M : Type 0} (enc : M → ℕ) (row : Row) (o : Form M) (disp : ℤ) (pre tail : List Action) → is_line (line_of row) ≡ true → fits (line_of row) o ≡ true → PrefixFor enc (line_of row) (reg_number (line_of row).tail o.reg) o.vvvv o.place (all_bytes pre) → ((k : ℕ) → all_notices pre k ≡ []) → TailPartOf enc disp (imm_size o.imm) (reg_number (line_of row).tail o.reg) o.place tail → IsBytes (all_bytes tail) → EncodesParts (form_parts enc row disp o) (memory_in o.place) (instruction_actions (line_of row) (trap_in o.place) pre tail o)
+encodes enc row o disp pre tail hl hf prefix quiet t tb =
     let p = and_parts (tail_fits (line_of row).tail o.reg o.place) _ hf in
-    let q = and_parts (vvvv_fits (line_of row).prefix (vvvv_number o.reg o.vvvv)) (imm_fits (line_of row).imm o.imm) p.1 in
+    let q = and_parts (vvvv_fits (line_of row).prefix o.vvvv) (imm_fits (line_of row).imm o.imm) p.1 in
     let h : Parted enc row o pre = record { facts = line_facts (line_of row) hl; imm = q.1; prefix = prefix; quiet = quiet } in
-    by_tail enc row o disp pre tail (line_of row).tail refl h p.0 t
+    by_tail enc row o disp pre tail (line_of row).tail refl h p.0 t tb
 
 -- what operands that fit and are real give to the parts
 
-pub place_real : {M : Type 0} (settled : M → Bool) (enc : M → ℕ) (o : Operands M) → are_real settled enc o ≡ true → place_is_real settled enc o.place ≡ true
+pub place_real : {M : Type 0} (settled : M → Bool) (enc : M → ℕ) (o : Form M) → form_is_real settled enc o ≡ true → place_is_real settled enc o.place ≡ true
 place_real settled enc o h =
     let p = and_parts (is_absent_or_real o.reg) _ h in
-    (and_parts (is_absent_or_real (vvvv_number o.reg o.vvvv)) (place_is_real settled enc o.place) p.1).1
+    (and_parts (is_absent_or_real o.vvvv) (place_is_real settled enc o.place) p.1).1
 
-pub vvvv_real : {M : Type 0} (settled : M → Bool) (enc : M → ℕ) (o : Operands M) → are_real settled enc o ≡ true → is_absent_or_real (vvvv_number o.reg o.vvvv) ≡ true
+pub vvvv_real : {M : Type 0} (settled : M → Bool) (enc : M → ℕ) (o : Form M) → form_is_real settled enc o ≡ true → is_absent_or_real o.vvvv ≡ true
 vvvv_real settled enc o h =
     let p = and_parts (is_absent_or_real o.reg) _ h in
-    (and_parts (is_absent_or_real (vvvv_number o.reg o.vvvv)) (place_is_real settled enc o.place) p.1).0
+    (and_parts (is_absent_or_real o.vvvv) (place_is_real settled enc o.place) p.1).0
 
 -- without a tail there is no place, and nothing in reg
-pub bare_is : {M : Type 0} (line : Line) (o : Operands M) → fits line o ≡ true → (has_tail line.tail || (is_no_place o.place && (reg_number line.tail o.reg == 0))) ≡ true
+pub bare_is : {M : Type 0} (line : Line) (o : Form M) → fits line o ≡ true → (has_tail line.tail || (is_no_place o.place && (reg_number line.tail o.reg == 0))) ≡ true
 bare_is line o h = by_field line.tail (and_parts (tail_fits line.tail o.reg o.place) _ h).0
   where
     by_field : (tail : TailField) → tail_fits tail o.reg o.place ≡ true → (has_tail tail || (is_no_place o.place && (reg_number tail o.reg == 0))) ≡ true
     by_field NoTail f = rw ((and_parts (is_absent o.reg) (is_no_place o.place) f).1) refl
     by_field (Modrm reg field) f = refl
 
-pub vvvv_fit : {M : Type 0} (line : Line) (o : Operands M) → fits line o ≡ true → vvvv_fits line.prefix (vvvv_number o.reg o.vvvv) ≡ true
-vvvv_fit line o h = (and_parts (vvvv_fits line.prefix (vvvv_number o.reg o.vvvv)) (imm_fits line.imm o.imm) (and_parts (tail_fits line.tail o.reg o.place) _ h).1).0
+pub vvvv_fit : {M : Type 0} (line : Line) (o : Form M) → fits line o ≡ true → vvvv_fits line.prefix o.vvvv ≡ true
+vvvv_fit line o h = (and_parts (vvvv_fits line.prefix o.vvvv) (imm_fits line.imm o.imm) (and_parts (tail_fits line.tail o.reg o.place) _ h).1).0
 
 reg_is_below : (tail : TailField) (number : Option Number) → is_digit tail ≡ true → is_absent_or_real number ≡ true → reg_number tail number < 16
 reg_is_below NoTail number hd hr = omega arith
@@ -347,7 +369,7 @@ reg_is_below (Modrm Register field) None hd hr = omega arith
 reg_is_below (Modrm Register field) (Some (Settled n)) hd hr = below n 16 hr
 reg_is_below (Modrm Register field) (Some Unsettled) hd hr = cc
 
-pub reg_below : {M : Type 0} (settled : M → Bool) (enc : M → ℕ) (line : Line) (o : Operands M) → is_line line ≡ true → are_real settled enc o ≡ true → reg_number line.tail o.reg < 16
+pub reg_below : {M : Type 0} (settled : M → Bool) (enc : M → ℕ) (line : Line) (o : Form M) → is_line line ≡ true → form_is_real settled enc o ≡ true → reg_number line.tail o.reg < 16
 reg_below settled enc line o hl h = reg_is_below line.tail o.reg (line_facts line hl).digit (and_parts (is_absent_or_real o.reg) _ h).0
 
 pub prefix_quiet : (code : PrefixCode) (k : ℕ) → all_notices (prefix_actions code) k ≡ []
@@ -355,7 +377,7 @@ prefix_quiet (Legacy set rex) k = all_notices_append (set_actions set) (puts (re
 prefix_quiet (Vex vex) k = all_notices-puts (vex_bytes vex) k
 
 -- the same of a line that is the row's
-pub line_encodes : {M : Type 0} (enc : M → ℕ) (row : Row) (line : Line) (o : Operands M) (disp : ℤ) (pre tail : List Action) → line_of row ≡ line → is_line line ≡ true → fits line o ≡ true → PrefixFor enc line (reg_number line.tail o.reg) (vvvv_number o.reg o.vvvv) o.place (all_bytes pre) → ((k : ℕ) → all_notices pre k ≡ []) → TailPartOf enc disp (imm_size o.imm) (reg_number line.tail o.reg) o.place tail → EncodesParts (operand_parts enc row disp o) (memory_in o.place) (instruction_actions line (trap_in o.place) pre tail o)
+pub line_encodes : {M : Type 0} (enc : M → ℕ) (row : Row) (line : Line) (o : Form M) (disp : ℤ) (pre tail : List Action) → line_of row ≡ line → is_line line ≡ true → fits line o ≡ true → PrefixFor enc line (reg_number line.tail o.reg) o.vvvv o.place (all_bytes pre) → ((k : ℕ) → all_notices pre k ≡ []) → TailPartOf enc disp (imm_size o.imm) (reg_number line.tail o.reg) o.place tail → IsBytes (all_bytes tail) → EncodesParts (form_parts enc row disp o) (memory_in o.place) (instruction_actions line (trap_in o.place) pre tail o)
 line_encodes enc row line o disp pre tail e =
-    let P : Line → Type 0 = λ l. is_line l ≡ true → fits l o ≡ true → PrefixFor enc l (reg_number l.tail o.reg) (vvvv_number o.reg o.vvvv) o.place (all_bytes pre) → ((k : ℕ) → all_notices pre k ≡ []) → TailPartOf enc disp (imm_size o.imm) (reg_number l.tail o.reg) o.place tail → EncodesParts (operand_parts enc row disp o) (memory_in o.place) (instruction_actions l (trap_in o.place) pre tail o) in
+    let P : Line → Type 0 = λ l. is_line l ≡ true → fits l o ≡ true → PrefixFor enc l (reg_number l.tail o.reg) o.vvvv o.place (all_bytes pre) → ((k : ℕ) → all_notices pre k ≡ []) → TailPartOf enc disp (imm_size o.imm) (reg_number l.tail o.reg) o.place tail → IsBytes (all_bytes tail) → EncodesParts (form_parts enc row disp o) (memory_in o.place) (instruction_actions l (trap_in o.place) pre tail o) in
     subst P e (encodes enc row o disp pre tail)

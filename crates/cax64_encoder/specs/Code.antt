@@ -7,8 +7,8 @@ use Rattle.cax64_prefix.specs.Rex.{rex_bytes}
 use Rattle.cax64_prefix.specs.Vex.{vex_bytes}
 use Rattle.cax64_sink.specs.Sink.{Action, put, trap}
 use Rattle.cax64_sink.specs.declared.TrapCode.{TrapCode}
-use Rattle.cax64_encoder.specs.Imm.{optional_imm_actions}
-use Rattle.cax64_encoder.specs.Nop.{nop_actions}
+use Rattle.cax64_encoder.specs.ImmActions.{optional_imm_actions}
+use Rattle.cax64_encoder.specs.NopActions.{nop_actions}
 use Rattle.cax64_encoder.specs.declared.code.Code.{Code}
 use Rattle.cax64_encoder.specs.declared.code.Code.TheVariants.{Nop, Line}
 use Rattle.cax64_encoder.specs.declared.code.LineCode.{LineCode}

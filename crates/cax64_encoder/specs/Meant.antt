@@ -1,21 +1,28 @@
-use Rattle.std.specs.Prelude.{ℕ, Bool, Option, Some, None, option_map, ℤ, List, [], length}
+use Rattle.std.specs.Prelude.{ℕ, Option, Some, None, option_map, ℤ, List, [], ◌∷◌, length}
 use Rattle.cax64_address.specs.declared.amode.Amode.{Amode}
-use Rattle.cax64_address.specs.declared.amode.Amode.TheVariants.{ImmReg, ImmRegRegShift, RipRelative}
 use Rattle.cax64_machine_code.specs.Len.{len_of}
 use Rattle.cax64_machine_code.specs.Reading.{Parts}
+use Rattle.cax64_machine_code.specs.declared.reading.RegView.{RegView}
 use Rattle.cax64_machine_code.specs.declared.reading.RegView.TheVariants.{Low}
 use Rattle.cax64_machine_code.specs.declared.row.Row.{Row}
-use Rattle.cax64_sink.specs.declared.TrapCode.{TrapCode}
+use Rattle.cax64_operand.specs.Family.{Numbering, Family}
+use Rattle.cax64_operand.specs.Immediate.{imm_size, imm_value}
+use Rattle.cax64_operand.specs.List.{list_of, nop_of}
+use Rattle.cax64_operand.specs.declared.immediate.ImmOperand.{ImmOperand}
+use Rattle.cax64_operand.specs.declared.nop.Nop.{Nop}
+use Rattle.cax64_operand.specs.declared.operand.Operand.{Operand}
+use Rattle.cax64_operand.specs.declared.operand.Operands.{Operands}
 use Rattle.cax64_encoder.specs.Nop.{nop_parts, nop_bytes}
-use Rattle.cax64_encoder.specs.Imm.{imm_size, imm_value}
-use Rattle.cax64_encoder.specs.Operands.{named_place, displacement_in, vvvv_number, memory_in, visited_of, operands_without_memory, can_encode, first_fault}
-use Rattle.cax64_encoder.specs.Visited.{number_value}
-use Rattle.cax64_encoder.specs.declared.form.Form.{Form}
-use Rattle.cax64_encoder.specs.declared.form.Form.TheVariants as form
-use Rattle.cax64_encoder.specs.declared.nop.Nop.{Nop}
-use Rattle.cax64_encoder.specs.declared.operands.Operands.{Operands}
-use Rattle.cax64_encoder.specs.declared.visited.Fault.{Fault}
-use Rattle.cax64_encoder.specs.declared.visited.Visited.{Visited}
+use Rattle.cax64_encoder.specs.Number.{number_value}
+use Rattle.cax64_encoder.specs.Place.{memory_in, displacement_in, place_read}
+use Rattle.cax64_encoder.specs.Role.{roles_of}
+use Rattle.cax64_encoder.specs.Visits.{visits_of}
+use Rattle.cax64_encoder.specs.declared.fault.Visited.{Visited}
+use Rattle.cax64_encoder.specs.declared.number.Number.{Number}
+use Rattle.cax64_encoder.specs.declared.role.PlaceOperand.{PlaceOperand}
+use Rattle.cax64_encoder.specs.declared.role.PlaceOperand.TheVariants.{NoPlace}
+use Rattle.cax64_encoder.specs.declared.role.Role.{Role}
+use Rattle.cax64_encoder.specs.declared.role.Role.TheVariants.{Register, TwoRegisters, FixedRegister, Place, Immediate}
 
 -- What is meant by an instruction, for the offsets that a sink knows.
 pub record Meant (M : Type 0) : Type 0 where
@@ -25,17 +32,72 @@ pub record Meant (M : Type 0) : Type 0 where
   pub memory : Option (Amode M)
   -- its registers in the order of visits
   pub visited : List Visited
-  -- its very bytes, where rows and operands leave a choice: those of a nop
+  -- its very bytes, where row and operands leave a choice: those of a no-operation
   pub exact : Option (List ℕ)
 
--- whether it can be encoded for a sink that knows these offsets: each register is as it has to be, and a late offset is
--- known with a sum that is an i32
-abbrev pub is_encodable : {M : Type 0} → (ℕ → Option ℤ) → Meant M → Bool
-is_encodable offsets m = can_encode offsets m.visited m.memory
+-- The registers in the bytes outside of the rest of the tail: the first stands in reg, the second in vvvv.
+abbrev pub numbers_in : {M : Type 0} → List (Role M) → List Number
+numbers_in [] = []
+numbers_in (Register number ∷ later) = number ∷ numbers_in later
+numbers_in (TwoRegisters first second same ∷ later) = first ∷ second ∷ numbers_in later
+numbers_in (FixedRegister fixed ∷ later) = numbers_in later
+numbers_in (Place operand ∷ later) = numbers_in later
+numbers_in (Immediate imm ∷ later) = numbers_in later
 
--- the first reason why it can't be
-abbrev pub fault_of_meant : {M : Type 0} → (ℕ → Option ℤ) → Meant M → Option Fault
-fault_of_meant offsets m = first_fault offsets m.visited m.memory
+abbrev pub first : {T : Type 0} → List T → Option T
+first [] = None
+first (a ∷ later) = Some a
+
+abbrev pub second : {T : Type 0} → List T → Option T
+second [] = None
+second (a ∷ later) = first later
+
+-- the rest of the tail
+abbrev pub place_in : {M : Type 0} → List (Role M) → PlaceOperand M
+place_in [] = NoPlace
+place_in (Register number ∷ later) = place_in later
+place_in (TwoRegisters first second same ∷ later) = place_in later
+place_in (FixedRegister fixed ∷ later) = place_in later
+place_in (Place operand ∷ later) = operand
+place_in (Immediate imm ∷ later) = place_in later
+
+abbrev pub imm_in : {M : Type 0} → List (Role M) → Option ImmOperand
+imm_in [] = None
+imm_in (Register number ∷ later) = imm_in later
+imm_in (TwoRegisters first second same ∷ later) = imm_in later
+imm_in (FixedRegister fixed ∷ later) = imm_in later
+imm_in (Place operand ∷ later) = imm_in later
+imm_in (Immediate imm ∷ later) = Some imm
+
+-- a register as it is read
+abbrev pub low : Number → RegView
+low number = Low (number_value number)
+
+-- what operands of a row mean
+abbrev pub operands_meant : {M : Type 0} → Numbering M → Row → List (Role M) → (ℕ → Option ℤ) → Meant M
+operands_meant n row roles offsets = record {
+  parts = record {
+    row = row;
+    reg = option_map low (first (numbers_in roles));
+    vvvv = option_map number_value (second (numbers_in roles));
+    place = place_read n.enc (displacement_in offsets (place_in roles)) (imm_size (imm_in roles)) (place_in roles);
+    imm = option_map imm_value (imm_in roles);
+  };
+  memory = memory_in (place_in roles);
+  visited = visits_of n roles;
+  exact = None;
+}
+
+abbrev pub nop_meant : {M : Type 0} → Row → Nop → Meant M
+nop_meant row nop = record { parts = nop_parts row nop; memory = None; visited = []; exact = Some (nop_bytes nop) }
+
+abbrev pub nop_or : {M : Type 0} → Row → Option Nop → Meant M → Meant M
+nop_or row None m = m
+nop_or row (Some nop) m = nop_meant row nop
+
+-- What an instruction of a row means that has these operands, for the offsets that a sink knows.
+abbrev pub meant_of : {R A B C D E F : Type 0} → Family A B C D E F → Row → Operands R A B C D E F → (ℕ → Option ℤ) → Meant A
+meant_of f row operands offsets = nop_or row (nop_of operands) (operands_meant f.read_gpr row (roles_of f (list_of operands)) offsets)
 
 abbrev pub len_or : Option (List ℕ) → ℕ → ℕ
 len_or None least = least
@@ -44,49 +106,3 @@ len_or (Some bytes) least = length bytes
 -- how many bytes it has
 abbrev pub len : {M : Type 0} → Meant M → ℕ
 len m = len_or m.exact (len_of m.parts)
-
-abbrev pub trap_count : Option TrapCode → ℕ
-trap_count None = 0
-trap_count (Some code) = 1
-
-abbrev pub memory_notices : {M : Type 0} → Option (Amode M) → ℕ
-memory_notices None = 0
-memory_notices (Some (ImmReg base simm32 trap)) = trap_count trap
-memory_notices (Some (ImmRegRegShift base index scale simm32 trap)) = trap_count trap
-memory_notices (Some (RipRelative target)) = 1
-
--- how many notices it has
-abbrev pub notice_count : {M : Type 0} → Meant M → ℕ
-notice_count m = memory_notices m.memory
-
--- What the operands of a row mean.
-
-abbrev pub operand_parts : {M : Type 0} → (M → ℕ) → Row → ℤ → Operands M → Parts
-operand_parts enc row disp o = record {
-  row = row;
-  reg = option_map (λ number. Low (number_value number)) o.reg;
-  vvvv = option_map number_value (vvvv_number o.reg o.vvvv);
-  place = named_place enc disp (imm_size o.imm) o.place;
-  imm = option_map imm_value o.imm;
-}
-
-abbrev pub operands_meant : {M : Type 0} → (M → Bool) → (M → ℕ) → (ℕ → Option ℤ) → Row → Operands M → Meant M
-operands_meant settled enc offsets row o = record {
-  parts = operand_parts enc row (displacement_in offsets o.place) o;
-  memory = memory_in o.place;
-  visited = visited_of settled enc o;
-  exact = None;
-}
-
-abbrev pub nop_meant : {M : Type 0} → Nop → Meant M
-nop_meant nop = record { parts = nop_parts nop; memory = None; visited = []; exact = Some (nop_bytes nop) }
-
--- what the form of an instruction means
-abbrev pub form_meant : {M : Type 0} → (M → Bool) → (M → ℕ) → (ℕ → Option ℤ) → Row → Form M → Meant M
-form_meant settled enc offsets row (form.Nop nop) = nop_meant nop
-form_meant settled enc offsets row (form.Operands o) = operands_meant settled enc offsets row o
-
--- the same form over other registers, without memory
-abbrev pub form_without_memory : {M N : Type 0} → Form M → Form N
-form_without_memory (form.Nop nop) = form.Nop nop
-form_without_memory (form.Operands o) = form.Operands (operands_without_memory o)

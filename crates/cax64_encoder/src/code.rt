@@ -4,10 +4,11 @@ ghost use Rattle.std.specs.Prelude.{◌≡◌, ◌≤◌, length};
 ghost use Rattle.cax64_encoder.specs.Code.{code_actions, line_actions, trap_actions, prefix_actions, set_actions, when, opcode_actions, tail_actions};
 ghost use Rattle.cax64_sink.specs.Sink.{Ran, all_bytes};
 
-use crate::imm::{ImmOperand, put_imm};
-use crate::nop::Nop;
+use crate::imm::put_optional_imm;
+use crate::nop::put_nop;
 use cax64_address::tail::TailCode;
 use cax64_machine_code::line::{LegacySet, Opcode};
+use cax64_operand::{ImmOperand, Nop};
 use cax64_prefix::rex::RexPrefix;
 use cax64_prefix::vex::VexPrefix;
 use cax64_sink::{CodeSink, FixedSink, SinkError, TrapCode};
@@ -115,7 +116,7 @@ impl LineCode {
         self.prefix.put(sink)?;
         put_opcode(sink, self.opcode)?;
         self.tail.put(sink)?;
-        put_imm(sink, self.imm)
+        put_optional_imm(sink, self.imm)
     }
 }
 
@@ -124,7 +125,7 @@ impl Code {
         ensures { Ran (code_actions self.now) (S.state sink.old) (S.state sink.new) result }
     {
         match self {
-            Code::Nop(nop) => nop.put(sink),
+            Code::Nop(nop) => put_nop(sink, *nop),
             Code::Line(code) => code.put(sink),
         }
     }

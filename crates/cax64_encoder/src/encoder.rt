@@ -2,32 +2,41 @@
 
 ghost use Rattle.std.specs.Prelude.{◌≡◌, ◌==◌, ◌<◌, ◌/◌, ◌&&◌, ◌||◌, ◌↔◌, false, IsTrue, IsSome, IfSome, Option, option_map, unwrap_or, pos, length};
 ghost use Rattle.std.specs.Int.{from_bool};
-ghost use Rattle.cax64_encoder.specs.Code.{prefix_actions, tail_actions, line_actions};
-ghost use Rattle.cax64_encoder.specs.Encodes.{reg_number, rex_stands, TailPartOf, PrefixFor, EncodesParts};
-ghost use Rattle.cax64_encoder.specs.Fits.{has_8bit, has_tail, is_w, is_w0, is_no_place, vvvv_fits, is_line, fits};
-ghost use Rattle.cax64_encoder.specs.Operands.{are_real, place_is_real, is_absent_or_real, place_x, place_b, named_place, memory_in, trap_in};
-ghost use Rattle.cax64_encoder.specs.Imm.{imm_size};
-ghost use Rattle.cax64_encoder.specs.Meant.{operand_parts};
-ghost use Rattle.cax64_encoder.specs.Visited.{number_value};
+ghost use Rattle.cax64_encoder.specs.Code.{prefix_actions, tail_actions, line_actions, code_actions};
+ghost use Rattle.cax64_encoder.specs.Encodes.{TailPartOf, EncodesParts, EncodesAs, form_parts};
+ghost use Rattle.cax64_encoder.specs.Fault.{is_encodable};
+ghost use Rattle.cax64_encoder.specs.Form.{is_no_place, vvvv_fits, fits};
+ghost use Rattle.cax64_encoder.specs.Line.{has_8bit, has_tail, is_w, is_w0, is_line};
+ghost use Rattle.cax64_encoder.specs.Meant.{meant_of};
+ghost use Rattle.cax64_encoder.specs.Number.{number_value};
+ghost use Rattle.cax64_encoder.specs.Place.{memory_in, place_read};
+ghost use Rattle.cax64_encoder.specs.Prefix.{reg_number, rex_stands, PrefixFor};
+ghost use Rattle.cax64_encoder.specs.Real.{form_is_real, place_is_real, is_absent_or_real, place_x, place_b, trap_in};
+ghost use Rattle.cax64_machine_code.specs.Fields.{IsBytes};
 ghost use Rattle.cax64_machine_code.specs.Len.{is_w1, tail_len, len_of};
 ghost use Rattle.cax64_machine_code.specs.Line.{w_matches};
 ghost use Rattle.cax64_machine_code.specs.Prefix.{rex_bits};
 ghost use Rattle.cax64_machine_code.specs.Rows.{line_of};
+ghost use Rattle.cax64_operand.specs.Immediate.{imm_size};
+ghost use Rattle.cax64_operand.specs.Shape.{HasShape};
 ghost use Rattle.cax64_sink.specs.Sink.{all_bytes};
 
-use crate::code::{LineCode, PrefixCode, TailPart};
+use crate::code::{Code, LineCode, PrefixCode, TailPart};
+use crate::form::{Form, form_of};
 use crate::imm::imm_size;
-use crate::operands::{Operands, PlaceOperand};
-use crate::visited::Number;
+use crate::number::Number;
+use crate::role::PlaceOperand;
 use cax64_address::amode::Amode;
 use cax64_address::disp::encode_modrm;
 use cax64_address::tail::tail_of;
 use cax64_machine_code::line::{Line, PlaceField, PrefixField, RegField, TailField};
 use cax64_machine_code::row::Row;
+use cax64_operand::{Operands, RegisterFamily};
 use cax64_prefix::rex::RexPrefix;
 use cax64_prefix::vex::VexPrefix;
-use cax64_register::AsReg;
-use cax64_sink::TrapCode;
+use cax64_register::{AsReg, Registers};
+use cax64_sink::{CodeSink, TrapCode};
+use cax64_table::line;
 
 /// Whether a row has an 8-bit register field.
 fn has_8bit(tail: TailField) -> bool
@@ -163,7 +172,8 @@ fn tail_part<M: AsReg>(
     requires reg { reg < 16 }
     requires place { IsTrue (place_is_real M.settled M.enc place.now) }
     ensures tail { TailPartOf M.enc displacement bytes_at_end reg place.now (tail_actions result) }
-    ensures length { length (all_bytes (tail_actions result)) ≡ tail_len (named_place M.enc displacement bytes_at_end place.now) }
+    ensures bytes { IsBytes (all_bytes (tail_actions result)) }
+    ensures length { length (all_bytes (tail_actions result)) ≡ tail_len (place_read M.enc displacement bytes_at_end place.now) }
 {
     match place {
         PlaceOperand::NoPlace => TailPart::NoTail,
@@ -186,22 +196,36 @@ fn trap_of<M: AsReg>(place: &PlaceOperand<M>) -> Option<TrapCode>
     }
 }
 
-/// The code of the instruction of a row with these operands, whose memory operand has this displacement.
-pub fn code_of<M: AsReg>(line: Line, operands: &Operands<M>, displacement: i32) -> LineCode
+/// The code of the instruction of a line with these operands, whose memory operand has this displacement.
+fn code_of<M: AsReg>(line: Line, form: &Form<M>, displacement: i32) -> LineCode
     requires line { IsTrue (is_line line) }
-    requires fits { IsTrue (fits line operands.now) }
-    requires real { IsTrue (are_real M.settled M.enc operands.now) }
+    requires fits { IsTrue (fits line form.now) }
+    requires real { IsTrue (form_is_real M.settled M.enc form.now) }
     ensures encodes { (row : Row) → line_of row ≡ line
-        → EncodesParts (operand_parts M.enc row displacement operands.now) (memory_in operands.now.place) (line_actions result) }
+        → EncodesParts (form_parts M.enc row displacement form.now) (memory_in form.now.place) (line_actions result) }
     ensures length { (row : Row) → line_of row ≡ line
-        → length (all_bytes (line_actions result)) ≡ len_of (operand_parts M.enc row displacement operands.now) }
+        → length (all_bytes (line_actions result)) ≡ len_of (form_parts M.enc row displacement form.now) }
 {
-    let reg = reg_number(line.tail, operands.reg);
+    let reg = reg_number(line.tail, form.reg);
     LineCode {
-        trap: trap_of(&operands.place),
-        prefix: prefix_of(line, reg, operands.vvvv_number(), &operands.place),
+        trap: trap_of(&form.place),
+        prefix: prefix_of(line, reg, form.vvvv, &form.place),
         opcode: line.opcode,
-        tail: tail_part(reg, &operands.place, displacement, imm_size(operands.imm)),
-        imm: operands.imm,
+        tail: tail_part(reg, &form.place, displacement, imm_size(form.imm)),
+        imm: form.imm,
     }
+}
+
+/// The sink calls that write the instruction of a row with these operands.
+pub fn code_in<R: Registers, S: CodeSink>(row: Row, operands: &Operands<R>, sink: &S) -> Code
+    requires shape { HasShape row operands.now }
+    requires encodable { IsTrue (is_encodable (S.state sink.now).offsets (meant_of ⟦<R as RegisterFamily>⟧.family row operands.now (S.state sink.now).offsets)) }
+    ensures { EncodesAs (meant_of ⟦<R as RegisterFamily>⟧.family row operands.now (S.state sink.now).offsets) (code_actions result) }
+{
+    if let Operands::Nop(nop) = operands {
+        return Code::Nop(*nop);
+    }
+    let form = form_of(operands);
+    let displacement = form.place.displacement(sink);
+    Code::Line(code_of(line(row), &form, displacement))
 }

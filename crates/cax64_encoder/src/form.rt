@@ -1,73 +1,80 @@
-//! What an instruction is put from.
+//! The operands that the bytes hold.
 
-ghost use Rattle.std.specs.Prelude.{◌≡◌, ℕ, ℤ, Option, IsTrue, None};
-ghost use Rattle.cax64_encoder.specs.Code.{code_actions};
-ghost use Rattle.cax64_encoder.specs.Encodes.{EncodesAs};
-ghost use Rattle.cax64_encoder.specs.Fits.{form_fits};
-ghost use Rattle.cax64_encoder.specs.Meant.{form_meant, form_without_memory, is_encodable, fault_of_meant, notice_count};
-ghost use Rattle.cax64_machine_code.specs.Rows.{line_of};
-ghost use Rattle.cax64_machine_code.specs.declared.row.Row.{Row};
+ghost use Rattle.std.specs.Prelude.{◌≡◌};
+ghost use Rattle.cax64_encoder.specs.Form.{no_form, with_role, form_of};
+ghost use Rattle.cax64_operand.specs.List.{list_of};
 
-use crate::code::Code;
-use crate::encoder::code_of;
-use crate::nop::Nop;
-use crate::operands::Operands;
-use crate::visited::Fault;
-use cax64_machine_code::row::Row;
-use cax64_register::AsReg;
-use cax64_sink::CodeSink;
-use cax64_table::line;
+use crate::number::Number;
+use crate::role::{PlaceOperand, Role, role_of};
+use cax64_operand::{ImmOperand, Operands, RegisterFamily};
+use cax64_register::{AsReg, Registers};
 
-/// The form of an instruction: a nop has bytes of its own, and any other has operands of its row's shape.
+/// The operands that the bytes hold. What an instruction lacks is absent.
 #[derive(Clone, Copy, Debug, PartialEq)]
-pub enum Form<M: AsReg> {
-    Nop(Nop),
-    Operands(Operands<M>),
+pub struct Form<M: AsReg> {
+    /// The register in the reg field of ModR/M.
+    pub reg: Option<Number>,
+    /// The register in vvvv of a VEX prefix.
+    pub vvvv: Option<Number>,
+    /// What the rest of the tail names.
+    pub place: PlaceOperand<M>,
+    pub imm: Option<ImmOperand>,
 }
 
 impl<M: AsReg> Form<M> {
-    /// Why the instruction can't be encoded for this sink.
-    pub fn first_fault<S: CodeSink>(&self, sink: &S) -> Option<Fault>
-        ensures { (row : Row) → result ≡ fault_of_meant (S.state sink.now).offsets (form_meant M.settled M.enc (S.state sink.now).offsets row self.now) }
+    fn none() -> Form<M>
+        ensures { result ≡ no_form }
     {
-        match self {
-            Form::Nop(_) => None,
-            Form::Operands(operands) => operands.first_fault(sink),
+        Form {
+            reg: None,
+            vvvv: None,
+            place: PlaceOperand::NoPlace,
+            imm: None,
         }
     }
 
-    /// How many notices the instruction has.
-    pub fn notice_count(&self) -> u8
-        ensures { (row : Row) (offsets : ℕ → Option ℤ) → result ≡ notice_count (form_meant M.settled M.enc offsets row self.now) }
+    /// The form with one more operand before the others. Of two registers the first stands in reg, the second in vvvv.
+    fn with(self, role: Role<M>) -> Form<M>
+        ensures { result ≡ with_role role self }
     {
-        match self {
-            Form::Nop(_) => 0,
-            Form::Operands(operands) => operands.place.notice_count(),
+        match role {
+            Role::Register(number) => Form {
+                reg: Some(number),
+                vvvv: self.reg,
+                ..self
+            },
+            Role::TwoRegisters(first, second, _) => Form {
+                reg: Some(first),
+                vvvv: Some(second),
+                ..self
+            },
+            Role::FixedRegister(_) => self,
+            Role::Place(place) => Form { place, ..self },
+            Role::Immediate(imm) => Form {
+                imm: Some(imm),
+                ..self
+            },
         }
     }
+}
 
-    /// The same form over other registers, for an instruction without a memory operand; one would be left out.
-    pub fn without_memory<N: AsReg>(&self) -> Form<N>
-        ensures { result ≡ form_without_memory self.now }
-    {
-        match self {
-            Form::Nop(nop) => Form::Nop(*nop),
-            Form::Operands(operands) => Form::Operands(operands.without_memory()),
+/// The form of an instruction that has these operands.
+pub fn form_of<R: Registers>(operands: &Operands<R>) -> Form<R::ReadGpr>
+    ensures { result ≡ form_of ⟦<R as RegisterFamily>⟧.family (list_of operands.now) }
+{
+    let none = Form::none();
+    match operands {
+        Operands::Zero | Operands::Nop(_) => none,
+        Operands::One(a) => none.with(role_of(a)),
+        Operands::Two(a, b) => none.with(role_of(b)).with(role_of(a)),
+        Operands::Three(a, b, c) => none.with(role_of(c)).with(role_of(b)).with(role_of(a)),
+        Operands::Four(a, b, c, d) => {
+            let later = none.with(role_of(d)).with(role_of(c));
+            later.with(role_of(b)).with(role_of(a))
         }
-    }
-
-    /// The sink calls that write the instruction of a row.
-    pub fn code<S: CodeSink>(&self, row: Row, sink: &S) -> Code
-        requires fits { IsTrue (form_fits (line_of row) self.now) }
-        requires encodable { IsTrue (is_encodable (S.state sink.now).offsets (form_meant M.settled M.enc (S.state sink.now).offsets row self.now)) }
-        ensures { EncodesAs (form_meant M.settled M.enc (S.state sink.now).offsets row self.now) (code_actions result) }
-    {
-        match self {
-            Form::Nop(nop) => Code::Nop(*nop),
-            Form::Operands(operands) => {
-                let displacement = operands.displacement(sink);
-                Code::Line(code_of(line(row), operands, displacement))
-            }
+        Operands::Five(a, b, c, d, e) => {
+            let later = none.with(role_of(e)).with(role_of(d)).with(role_of(c));
+            later.with(role_of(b)).with(role_of(a))
         }
     }
 }

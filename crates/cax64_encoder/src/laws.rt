@@ -1,8 +1,7 @@
 //! Laws of the items here. The functions do no more than the call that they speak of.
 
 ghost use Rattle.std.specs.Prelude.{◌≡◌, ◌≤◌, ◌-◌, ◌↔◌, IsTrue, IsOk, OnOk, OnErr, IfErr, length};
-ghost use Rattle.cax64_encoder.specs.Instruction.{AddsInstruction, LeavesInstruction};
-ghost use Rattle.cax64_encoder.specs.Meant.{is_encodable, len};
+ghost use Rattle.cax64_encoder.specs.Instruction.{can_encode_in, len_in, Adds, Leaves};
 ghost use Rattle.cax64_sink.specs.FixedSink.{fixed_sink_state};
 
 use crate::instruction::Instruction;
@@ -13,10 +12,10 @@ pub fn encode_to_fixed_sink<I: Instruction, const N: usize>(
     inst: &I,
     sink: &mut FixedSink<N>,
 ) -> Result<(), SinkError>
-    requires { IsTrue (is_encodable (fixed_sink_state sink.old).offsets (I.meant inst.now (fixed_sink_state sink.old).offsets)) }
-    ensures fits { IsOk result ↔ (len (I.meant inst.now (fixed_sink_state sink.old).offsets) ≤ N - length (fixed_sink_state sink.old).bytes) }
-    ensures adds { OnOk result (AddsInstruction (I.meant inst.now (fixed_sink_state sink.old).offsets) (fixed_sink_state sink.old) (fixed_sink_state sink.new)) }
-    ensures leaves { OnErr result (LeavesInstruction (I.meant inst.now (fixed_sink_state sink.old).offsets) (fixed_sink_state sink.old) (fixed_sink_state sink.new)) }
+    requires { IsTrue (can_encode_in (fixed_sink_state sink.old) (I.meant inst.now)) }
+    ensures fits { IsOk result ↔ (len_in (fixed_sink_state sink.old) (I.meant inst.now) ≤ N - length (fixed_sink_state sink.old).bytes) }
+    ensures adds { OnOk result (Adds (I.meant inst.now) (fixed_sink_state sink.old) (fixed_sink_state sink.new)) }
+    ensures leaves { OnErr result (Leaves (I.meant inst.now) (fixed_sink_state sink.old) (fixed_sink_state sink.new)) }
     ensures error { IfErr result (λ e. e ≡ SinkError.Full) }
 {
     inst.encode(sink)

@@ -1,6 +1,7 @@
 //! Immediate operands.
 #![tactic(auto)]
 
+pub mod extension;
 pub mod imm16;
 pub mod imm32;
 pub mod imm64;
@@ -9,6 +10,7 @@ pub mod simm16;
 pub mod simm32;
 pub mod simm8;
 
+pub use extension::Extension;
 pub use imm8::Imm8;
 pub use imm16::Imm16;
 pub use imm32::Imm32;

@@ -4,6 +4,7 @@ ghost use Rattle.std.specs.Prelude.{◌≡◌, ◌<◌, ◌≤◌, ◌/◌, ◌=
 ghost use Rattle.std.specs.Int.{from_bool};
 ghost use Rattle.cax64_sink.specs.Sink.{Ran};
 ghost use Rattle.cax64_prefix.specs.Puts.{puts};
+ghost use Rattle.cax64_machine_code.specs.Fields.{IsBytes};
 ghost use Rattle.cax64_prefix.specs.Vex.{vex_bytes, vex_fields, VexReadsAs, IsShortestVex, fits_two_bytes};
 
 use crate::fields::{invert_top_bit, operation_byte, register_byte};
@@ -49,6 +50,7 @@ impl VexPrefix {
         ensures two_bytes { (length (vex_bytes result) ≡ 2) ↔
             IsTrue (fits_two_bytes (vex_fields reg vvvv operand l pp mmmmm w)) }
         ensures shortest { IsShortestVex (vex_fields reg vvvv operand l pp mmmmm w) (vex_bytes result) }
+        ensures bytes { IsBytes (vex_bytes result) }
     {
         let base = operand.0.unwrap_or(0);
         let index = operand.1.unwrap_or(0);

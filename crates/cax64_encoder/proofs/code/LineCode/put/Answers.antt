@@ -24,4 +24,4 @@ returns-in_err-put-2 g c =
     ran_append c.put_trap.ensures c.in_ok-put_trap.was (ran_append c.put.ensures c.in_ok-put.was (ran_append c.put_opcode.ensures c.in_ok-put_opcode.was (ran_refused _ _ c.put-2.ensures c.in_err-put-2.was (p.1 ∙ ap Err p.2))))
 
 pub returns : goal.returns
-returns g c = ran_append c.put_trap.ensures c.in_ok-put_trap.was (ran_append c.put.ensures c.in_ok-put.was (ran_append c.put_opcode.ensures c.in_ok-put_opcode.was (ran_append c.put-2.ensures c.in_ok-put-2.was c.put_imm.ensures)))
+returns g c = ran_append c.put_trap.ensures c.in_ok-put_trap.was (ran_append c.put.ensures c.in_ok-put.was (ran_append c.put_opcode.ensures c.in_ok-put_opcode.was (ran_append c.put-2.ensures c.in_ok-put-2.was c.put_optional_imm.ensures)))

@@ -1,0 +1,47 @@
+//! Registers by their hardware numbers.
+
+ghost use Rattle.std.specs.Prelude.{◌≡◌};
+ghost use Rattle.cax64_encoder.specs.Number.{number_of, number_value, is_real_number};
+
+use cax64_register::AsReg;
+
+/// The hardware number of a register operand.
+#[derive(Clone, Copy, Debug, PartialEq)]
+pub enum Number {
+    /// The register is still virtual.
+    Unsettled,
+    Settled(u8),
+}
+
+impl Number {
+    /// The number of a register.
+    pub fn of<R: AsReg>(reg: R) -> Number
+        ensures { result ≡ number_of R.settled R.enc reg }
+    {
+        if reg.settled() {
+            Number::Settled(reg.enc())
+        } else {
+            Number::Unsettled
+        }
+    }
+
+    /// The number, or 0 of a virtual register.
+    pub fn value(self) -> u8
+        ensures { result ≡ number_value self }
+    {
+        match self {
+            Number::Settled(number) => number,
+            Number::Unsettled => 0,
+        }
+    }
+
+    /// Whether an instruction can hold the register.
+    pub fn is_real(self) -> bool
+        ensures { result ≡ is_real_number self }
+    {
+        match self {
+            Number::Settled(number) => number < 16,
+            Number::Unsettled => false,
+        }
+    }
+}

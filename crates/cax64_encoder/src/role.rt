@@ -1,0 +1,117 @@
+//! What an operand is to the bytes and to a visit, whatever its register type.
+
+ghost use Rattle.std.specs.Prelude.{◌≡◌, IsTrue};
+ghost use Rattle.cax64_encoder.specs.Place.{gpr_mem_place, xmm_mem_place, memory_in, displacement_in};
+ghost use Rattle.cax64_encoder.specs.Notices.{memory_notices};
+ghost use Rattle.cax64_encoder.specs.Role.{role_of};
+ghost use Rattle.cax64_encoder.specs.Real.{place_is_addressable};
+
+use crate::number::Number;
+use cax64_address::amode::Amode;
+use cax64_address::operand::{GprMem, XmmMem};
+use cax64_operand::{ImmOperand, Operand, RegisterFamily};
+use cax64_register::{AsReg, Registers};
+use cax64_sink::CodeSink;
+
+/// What the rest of the tail names.
+#[derive(Clone, Copy, Debug, PartialEq)]
+pub enum PlaceOperand<M: AsReg> {
+    NoPlace,
+    Register(Number),
+    Memory(Amode<M>),
+}
+
+impl<M: AsReg> PlaceOperand<M> {
+    /// The place that a general register or memory is.
+    fn of_gpr_mem<R: AsReg>(operand: &GprMem<R, M>) -> PlaceOperand<M>
+        ensures { result ≡ gpr_mem_place R.settled R.enc operand.now }
+    {
+        match *operand {
+            GprMem::Gpr(reg) => PlaceOperand::Register(Number::of(reg)),
+            GprMem::Mem(amode) => PlaceOperand::Memory(amode),
+        }
+    }
+
+    /// The place that an XMM register or memory is.
+    fn of_xmm_mem<R: AsReg>(operand: &XmmMem<R, M>) -> PlaceOperand<M>
+        ensures { result ≡ xmm_mem_place R.settled R.enc operand.now }
+    {
+        match *operand {
+            XmmMem::Xmm(reg) => PlaceOperand::Register(Number::of(reg)),
+            XmmMem::Mem(amode) => PlaceOperand::Memory(amode),
+        }
+    }
+
+    /// How many notices an instruction with this place has: of a trap, or of a target.
+    pub fn notice_count(&self) -> u8
+        ensures { result ≡ memory_notices (memory_in self.now) }
+    {
+        match *self {
+            PlaceOperand::Memory(Amode::RipRelative { .. }) => 1,
+            PlaceOperand::Memory(amode) => u8::from(amode.trap_code().is_some()),
+            _ => 0,
+        }
+    }
+
+    /// The displacement of the memory operand, in bytes, with its late offset; 0 where there is none.
+    pub fn displacement<S: CodeSink>(&self, sink: &S) -> i32
+        requires { IsTrue (place_is_addressable M.settled M.enc (S.state sink.now).offsets self.now) }
+        ensures { result ≡ displacement_in (S.state sink.now).offsets self.now }
+    {
+        match self {
+            PlaceOperand::Memory(amode) => amode.displacement(sink),
+            _ => 0,
+        }
+    }
+}
+
+/// A register that an instruction fixes to a number.
+#[derive(Clone, Copy, Debug, PartialEq)]
+pub struct FixedNumber {
+    pub held: Number,
+    pub expected: u8,
+}
+
+/// What an operand is to the bytes and to a visit.
+#[derive(Clone, Copy, Debug)]
+pub enum Role<M: AsReg> {
+    /// A register in the bytes, outside of the rest of the tail.
+    Register(Number),
+    /// Two registers in the bytes, and whether they are equal, so that a visit meets only the first.
+    TwoRegisters(Number, Number, bool),
+    /// A register that is visited and isn't in the bytes.
+    FixedRegister(FixedNumber),
+    /// The rest of the tail.
+    Place(PlaceOperand<M>),
+    Immediate(ImmOperand),
+}
+
+/// What an operand is to the bytes and to a visit.
+pub fn role_of<R: Registers>(operand: &Operand<R>) -> Role<R::ReadGpr>
+    ensures { result ≡ role_of ⟦<R as RegisterFamily>⟧.family operand.now }
+{
+    match operand {
+        Operand::ReadGpr(reg, _) => Role::Register(Number::of(*reg)),
+        Operand::ReadWriteGpr(reg, _) => Role::Register(Number::of(*reg)),
+        Operand::WriteGpr(reg, _) => Role::Register(Number::of(*reg)),
+        Operand::WriteTwoGprs(first, second, _) => {
+            Role::TwoRegisters(Number::of(*first), Number::of(*second), *first == *second)
+        }
+        Operand::FixedReadGpr(reg, expected, _) => Role::FixedRegister(FixedNumber {
+            held: Number::of(*reg),
+            expected: *expected,
+        }),
+        Operand::FixedReadWriteGpr(reg, expected, _) => Role::FixedRegister(FixedNumber {
+            held: Number::of(*reg),
+            expected: *expected,
+        }),
+        Operand::ReadXmm(reg) => Role::Register(Number::of(*reg)),
+        Operand::ReadWriteXmm(reg) => Role::Register(Number::of(*reg)),
+        Operand::WriteXmm(reg) => Role::Register(Number::of(*reg)),
+        Operand::ReadAmode(amode) => Role::Place(PlaceOperand::Memory(*amode)),
+        Operand::ReadGprMem(operand, _) => Role::Place(PlaceOperand::of_gpr_mem(operand)),
+        Operand::ReadWriteGprMem(operand, _) => Role::Place(PlaceOperand::of_gpr_mem(operand)),
+        Operand::ReadXmmMem(operand) => Role::Place(PlaceOperand::of_xmm_mem(operand)),
+        Operand::Imm(imm) => Role::Immediate(imm.bytes()),
+    }
+}

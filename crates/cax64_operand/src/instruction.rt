@@ -1,0 +1,51 @@
+//! What an instruction is.
+
+ghost use Rattle.std.specs.Prelude.{◌≡◌};
+ghost use Rattle.cax64_machine_code.specs.declared.row.Row.{Row};
+ghost use Rattle.cax64_operand.specs.Run.{OperandsRun};
+ghost use Rattle.cax64_operand.specs.Shape.{HasShape};
+ghost use Rattle.cax64_operand.specs.declared.operand.Operands.{Operands};
+
+use crate::operand::Operands;
+use crate::visitor::RegisterVisitor;
+use cax64_machine_code::row::Row;
+use cax64_register::Registers;
+
+/// An instruction is a row of the table and the operands in the order of visits. All that it means follows from these.
+pub trait RowAndOperands {
+    /// The registers; plain numbers where it has none.
+    type Family: Registers;
+
+    ghost row_of: { Self → Row };
+
+    ghost operands_of: { Self → Operands Self.Family Self.Family.ReadGpr Self.Family.ReadWriteGpr Self.Family.WriteGpr Self.Family.ReadXmm Self.Family.ReadWriteXmm Self.Family.WriteXmm };
+
+    fn row(&self) -> Row
+        ensures { result ≡ row_of self.now };
+
+    fn operands(&self) -> Operands<Self::Family>
+        ensures value { result ≡ operands_of self.now }
+        ensures shape { HasShape (row_of self.now) (operands_of self.now) };
+
+    /// Goes over the registers, and puts what the visitor gives in their place. All else stays.
+    fn visit<V: RegisterVisitor<Self::Family>>(&mut self, visitor: &mut V)
+        ensures run { OperandsRun Self.Family.WriteGpr.eq V.steps visitor.old (operands_of self.old) (operands_of self.new) visitor.new }
+        ensures row { row_of self.new ≡ row_of self.old };
+}
+
+/// The family of plain numbers, for instructions without registers.
+pub struct Numbers;
+
+impl Registers for Numbers {
+    type ReadGpr = u8;
+
+    type ReadWriteGpr = u8;
+
+    type WriteGpr = u8;
+
+    type ReadXmm = u8;
+
+    type ReadWriteXmm = u8;
+
+    type WriteXmm = u8;
+}
