@@ -1,4 +1,2 @@
-pub mod Families
-pub mod Meant
-pub mod Forms
-pub mod Laws
+-- What the clauses of public functions say.
+pub mod Inst

@@ -4,9 +4,10 @@ use Rattle.std.proofs.Math.Seq.{drop-append_seam, take-length}
 use Rattle.std.proofs.lemmas.Bool.{cases_lt}
 use Rattle.std.proofs.lemmas.List.{take_more, map-append, length-append, length-map, take-append-le, drop-append-le, length-drop}
 use Rattle.std.proofs.lemmas.Option.{slice_get_read, slice_get-map}
-use Rattle.cax64_encoder.specs.Encodes.{notices_of, ShortestFor}
-use Rattle.cax64_encoder.specs.Instruction.{AddsInstruction, LeavesInstruction}
-use Rattle.cax64_encoder.specs.Meant.{Meant, len, notice_count}
+use Rattle.cax64_encoder.specs.Instruction.{ShortestFor, AddsInstruction, LeavesInstruction}
+use Rattle.cax64_encoder.specs.Meant.{Meant, len}
+use Rattle.cax64_encoder.specs.Notices.{notices_of, notice_count}
+use Rattle.cax64_encoder.proofs.Bytes.{no_bytes, both_bytes}
 use Rattle.cax64_machine_code.specs.Reading.{Parts, read}
 use Rattle.cax64_machine_code.specs.Sequence.{Same, EachSame, read_all, total_length, ReadsAs, ReadsAllAs}
 use Rattle.cax64_machine_code.specs.declared.reading.Reading.{Reading}
@@ -171,6 +172,7 @@ unfolding read_all
 adds_none s = record {
   added = [];
   bytes = sym (append-nil s.bytes);
+  are_bytes = no_bytes;
   reads = record { readings = []; lengths = refl; reads = λ rest. refl; same = tt };
   notices = no_notices s.records s.notices;
   shortest = tt;
@@ -194,6 +196,7 @@ adds_more ms m s u t h keeps k =
     record {
       added = h.added ++ k.added;
       bytes = k.bytes ∙ ap (λ (x : List ℕ). x ++ k.added) h.bytes ∙ append_assoc s.bytes h.added k.added;
+      are_bytes = both_bytes h.added k.added h.are_bytes k.are_bytes;
       reads = reads_more ms m h.added k.added h.reads k.reads;
       notices = told ∙ rw (notices_more ms m (length s.bytes) rs k.reads.reading same_count) refl;
       shortest = shortest_more ms m h.added k.added rs k.reads.reading same_count h.reads.lengths k.reads.length h.shortest k.shortest;
@@ -206,6 +209,7 @@ pub adds_from : {M : Type 0} {ms : List (Meant M)} (s u t : State) → u.bytes �
 adds_from {ms = ms} s u t bytes notices records h = record {
   added = h.added;
   bytes = rw bytes at h.bytes;
+  are_bytes = h.are_bytes;
   reads = h.reads;
   notices = rw (bytes, notices, records) at h.notices;
   shortest = h.shortest;
@@ -262,14 +266,42 @@ refused_late meant xs i j x old now within e bytes notices refused byte_room not
       | inr h ↦ h
     ]
 
+-- a room that falls by less falls by no more than all
+falls_less : (old new : Room) (n all : ℕ) → n ≤ all → FallsBy old new n → FallsBy old new all
+falls_less old new n all h falls count room = falls count (less_room old (count + all) (count + n) (omega arith) room)
+
+-- what was taken of a list that stopped lowers the rooms by no more than the list
+pub stopped_bytes : {A M : Type 0} (meant : A → Meant M) (xs : List A) (i : ℕ) (x : A) (old mid new : Room) → i < length xs → x ≡ get_or xs i x → FallsBy old mid (total_len (map meant (take i xs))) → FallsBy mid new (len (meant x)) → FallsBy old new (total_len (map meant xs))
+stopped_bytes meant xs i x old mid new h e before last =
+    let ms = map meant xs in
+    let one_more : take (i + 1) ms ≡ map meant (take i xs) ++ meant x ∷ [] = take_map meant xs (i + 1) ∙ map_more meant xs i x h e in
+    let all_len : total_len (take (i + 1) ms) ≡ total_len (map meant (take i xs)) + len (meant x) = ap total_len one_more ∙ len_more (map meant (take i xs)) (meant x) in
+    let whole : take (length ms) ms ≡ ms = take-length ms in
+    let within : i + 1 ≤ length ms = omega (arith, length-map xs meant) in
+    let fewer : total_len (take (i + 1) ms) ≤ total_len ms = rw whole at len_of_fewer ms (i + 1) (length ms) within in
+    falls_less old new (total_len (take (i + 1) ms)) (total_len ms) fewer (falls_on old mid new (total_len (map meant (take i xs))) (len (meant x)) _ all_len before last)
+
+pub stopped_notices : {A M : Type 0} (meant : A → Meant M) (xs : List A) (i : ℕ) (x : A) (old mid new : Room) → i < length xs → x ≡ get_or xs i x → FallsBy old mid (total_notices (map meant (take i xs))) → FallsBy mid new (notice_count (meant x)) → FallsBy old new (total_notices (map meant xs))
+stopped_notices meant xs i x old mid new h e before last =
+    let ms = map meant xs in
+    let one_more : take (i + 1) ms ≡ map meant (take i xs) ++ meant x ∷ [] = take_map meant xs (i + 1) ∙ map_more meant xs i x h e in
+    let all_notices : total_notices (take (i + 1) ms) ≡ total_notices (map meant (take i xs)) + notice_count (meant x) = ap total_notices one_more ∙ notice_count_more (map meant (take i xs)) (meant x) in
+    let whole : take (length ms) ms ≡ ms = take-length ms in
+    let within : i + 1 ≤ length ms = omega (arith, length-map xs meant) in
+    let fewer : total_notices (take (i + 1) ms) ≤ total_notices ms = rw whole at notices_of_fewer ms (i + 1) (length ms) within in
+    falls_less old new (total_notices (take (i + 1) ms)) (total_notices ms) fewer (falls_on old mid new (total_notices (map meant (take i xs))) (notice_count (meant x)) _ all_notices before last)
+
 -- a list that stopped at an instruction
-pub leaves_at : {A M : Type 0} (meant : A → Meant M) (xs : List A) (i : ℕ) (x : A) (s u t : State) → i < length xs → x ≡ get_or xs i x → AddsAll (map meant (take i xs)) s u → LeavesInstruction (meant x) u t → LeavesAll (map meant xs) i s t
-leaves_at meant xs i x s u t h e adds leaves =
+pub leaves_at : {A M : Type 0} (meant : A → Meant M) (xs : List A) (i : ℕ) (x : A) (s u t : State) → i < length xs → x ≡ get_or xs i x → AddsAll (map meant (take i xs)) s u → Keeps s u → FallsBy s.byte_room u.byte_room (total_len (map meant (take i xs))) → FallsBy s.notice_room u.notice_room (total_notices (map meant (take i xs))) → LeavesInstruction (meant x) u t → LeavesAll (map meant xs) i s t
+leaves_at meant xs i x s u t h e adds keeps byte_room notice_room leaves =
     let found : slice_get xs i ≡ Some x = slice_get_read xs (length xs) i x refl h e in
     record {
       within = rw (length-map xs meant) h;
       between = u;
       adds = rw (take_map meant xs i) adds;
+      keeps = keeps;
+      byte_room = rw (take_map meant xs i) byte_room;
+      notice_room = rw (take_map meant xs i) notice_room;
       next = meant x;
       next_is = slice_get-map meant xs i ∙ ap (option_map meant) found;
       leaves = leaves;

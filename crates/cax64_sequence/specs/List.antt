@@ -1,9 +1,12 @@
 use Rattle.std.specs.Prelude.{◌≡◌, ◌<◌, ℕ, ◌+◌, List, [], ◌∷◌, ◌++◌, length, map, take, drop, slice_get, Some, if◌then◌else◌, IfSome}
-use Rattle.cax64_encoder.specs.Encodes.{notices_of, ShortestFor}
-use Rattle.cax64_encoder.specs.Instruction.{LeavesInstruction}
-use Rattle.cax64_encoder.specs.Meant.{Meant, len, notice_count}
+use Rattle.cax64_encoder.specs.Instruction.{Meaning, ShortestFor, LeavesInstruction}
+use Rattle.cax64_encoder.specs.Meant.{Meant, len}
+use Rattle.cax64_encoder.specs.Notices.{notices_of, notice_count}
+use Rattle.cax64_machine_code.specs.Fields.{IsBytes}
 use Rattle.cax64_machine_code.specs.Sequence.{ReadsAllAs}
 use Rattle.cax64_machine_code.specs.declared.reading.Reading.{Reading}
+use Rattle.cax64_sink.specs.Keeps.{Keeps}
+use Rattle.cax64_sink.specs.Room.{FallsBy}
 use Rattle.cax64_sink.specs.Sink.{State}
 use Rattle.cax64_sink.specs.declared.Notice.{Notice}
 
@@ -41,17 +44,46 @@ total_notices (m ∷ more) = notice_count m + total_notices more
 pub record AddsAll {M : Type 0} (ms : List (Meant M)) (old new : State) : Type 0 where
   pub added : List ℕ
   pub bytes : new.bytes ≡ old.bytes ++ added
+  pub are_bytes : IsBytes added
   pub reads : ReadsAllAs (map (λ m. m.parts) ms) added
   pub notices : new.notices ≡ (if old.records then old.notices ++ each_notices ms (length old.bytes) reads.readings else old.notices)
   pub shortest : EachShortest ms added reads.readings
   pub exact : EachExact ms added reads.readings
   pub length : length added ≡ total_len ms
 
--- A sink has got so many whole instructions, and of the next a proper front of its bytes and a front of its notices.
+-- A sink has got so many whole instructions, which lead to a state between, with rooms that fall by no more than these
+-- instructions have; and of the next a proper front of its bytes and a front of its notices.
 pub record LeavesAll {M : Type 0} (ms : List (Meant M)) (whole : ℕ) (old new : State) : Type 0 where
   pub within : whole < length ms
   pub between : State
   pub adds : AddsAll (take whole ms) old between
+  pub keeps : Keeps old between
+  pub byte_room : FallsBy old.byte_room between.byte_room (total_len (take whole ms))
+  pub notice_room : FallsBy old.notice_room between.notice_room (total_notices (take whole ms))
   pub next : Meant M
   pub next_is : slice_get ms whole ≡ Some next
   pub leaves : LeavesInstruction next between new
+
+-- A sink has its bytes and notices still, and rooms that are no smaller.
+pub record StaysAs (old new : State) : Type 0 where
+  pub bytes : new.bytes ≡ old.bytes
+  pub notices : new.notices ≡ old.notices
+  pub byte_room : FallsBy old.byte_room new.byte_room 0
+  pub notice_room : FallsBy old.notice_room new.notice_room 0
+
+-- The same of instructions whose meaning may depend on the offsets that a sink knows.
+
+abbrev pub meants : {A M : Type 0} → (A → Meaning M) → State → List A → List (Meant M)
+meants meant state insts = map (λ i. meant i state.offsets) insts
+
+abbrev pub AddsList : {A M : Type 0} → (A → Meaning M) → List A → State → State → Type 0
+AddsList meant insts old new = AddsAll (meants meant old insts) old new
+
+abbrev pub LeavesList : {A M : Type 0} → (A → Meaning M) → List A → ℕ → State → State → Type 0
+LeavesList meant insts whole old new = LeavesAll (meants meant old insts) whole old new
+
+abbrev pub list_len : {A M : Type 0} → State → (A → Meaning M) → List A → ℕ
+list_len state meant insts = total_len (meants meant state insts)
+
+abbrev pub list_notices : {A M : Type 0} → State → (A → Meaning M) → List A → ℕ
+list_notices state meant insts = total_notices (meants meant state insts)

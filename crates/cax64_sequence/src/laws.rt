@@ -1,8 +1,8 @@
 //! Laws of the items here. The functions do no more than the call that they speak of.
 
-ghost use Rattle.std.specs.Prelude.{◌≡◌, ◌≤◌, ◌-◌, ◌↔◌, ℕ, IsTrue, All, IsOk, OnOk, IfErr, map, take, length};
-ghost use Rattle.cax64_encoder.specs.Meant.{is_encodable};
-ghost use Rattle.cax64_sequence.specs.List.{AddsAll, LeavesAll, total_len};
+ghost use Rattle.std.specs.Prelude.{◌≡◌, ◌≤◌, ◌-◌, ◌↔◌, ℕ, IsTrue, All, IsOk, OnOk, IfErr, take, length};
+ghost use Rattle.cax64_encoder.specs.Instruction.{can_encode_in};
+ghost use Rattle.cax64_sequence.specs.List.{AddsList, LeavesList, meants, total_len, list_len};
 ghost use Rattle.cax64_sink.specs.FixedSink.{fixed_sink_state};
 
 use crate::sequence::{Refused, encode_all};
@@ -17,11 +17,11 @@ pub fn encode_all_to_fixed_sink<R: Registers, const N: usize>(
     insts: &[Inst<R>],
     sink: &mut FixedSink<N>,
 ) -> Result<(), Refused>
-    requires { All (λ i. IsTrue (is_encodable (fixed_sink_state sink.old).offsets (⟦<Inst<R> as Instruction>⟧.meant i (fixed_sink_state sink.old).offsets))) insts.now }
-    ensures fits { IsOk result ↔ (total_len (map (λ i. ⟦<Inst<R> as Instruction>⟧.meant i (fixed_sink_state sink.old).offsets) insts.now) ≤ N - length (fixed_sink_state sink.old).bytes) }
-    ensures whole { let ms = map (λ i. ⟦<Inst<R> as Instruction>⟧.meant i (fixed_sink_state sink.old).offsets) insts.now in IfErr result (λ e. (j : ℕ) → j ≤ length insts.now → (j ≤ e.whole) ↔ (total_len (take j ms) ≤ N - length (fixed_sink_state sink.old).bytes)) }
-    ensures adds { OnOk result (AddsAll (map (λ i. ⟦<Inst<R> as Instruction>⟧.meant i (fixed_sink_state sink.old).offsets) insts.now) (fixed_sink_state sink.old) (fixed_sink_state sink.new)) }
-    ensures leaves { IfErr result (λ e. LeavesAll (map (λ i. ⟦<Inst<R> as Instruction>⟧.meant i (fixed_sink_state sink.old).offsets) insts.now) e.whole (fixed_sink_state sink.old) (fixed_sink_state sink.new)) }
+    requires { All (λ i. IsTrue (can_encode_in (fixed_sink_state sink.old) (⟦<Inst<R> as Instruction>⟧.meant i))) insts.now }
+    ensures fits { IsOk result ↔ (list_len (fixed_sink_state sink.old) ⟦<Inst<R> as Instruction>⟧.meant insts.now ≤ N - length (fixed_sink_state sink.old).bytes) }
+    ensures whole { let ms = meants ⟦<Inst<R> as Instruction>⟧.meant (fixed_sink_state sink.old) insts.now in IfErr result (λ e. (j : ℕ) → j ≤ length insts.now → (j ≤ e.whole) ↔ (total_len (take j ms) ≤ N - length (fixed_sink_state sink.old).bytes)) }
+    ensures adds { OnOk result (AddsList ⟦<Inst<R> as Instruction>⟧.meant insts.now (fixed_sink_state sink.old) (fixed_sink_state sink.new)) }
+    ensures leaves { IfErr result (λ e. LeavesList ⟦<Inst<R> as Instruction>⟧.meant insts.now e.whole (fixed_sink_state sink.old) (fixed_sink_state sink.new)) }
     ensures error { IfErr result (λ e. e.error ≡ SinkError.Full) }
 {
     encode_all(insts, sink)

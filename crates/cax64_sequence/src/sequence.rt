@@ -1,10 +1,10 @@
 //! Instructions one behind the other.
 
-ghost use Rattle.std.specs.Prelude.{◌≡◌, ◌*◌, ◌≤◌, ℕ, true, IsTrue, All, OnOk, IfErr, IsOk, map, take, length};
-ghost use Rattle.cax64_encoder.specs.Meant.{is_encodable};
-ghost use Rattle.cax64_sequence.specs.List.{AddsAll, LeavesAll, total_len, total_notices};
+ghost use Rattle.std.specs.Prelude.{◌≡◌, ◌*◌, ◌≤◌, ℕ, true, IsTrue, All, OnOk, IfErr, IsOk, take, length};
+ghost use Rattle.cax64_encoder.specs.Instruction.{can_encode_in};
+ghost use Rattle.cax64_sequence.specs.List.{AddsList, LeavesList, meants, total_len, total_notices, list_len, list_notices};
 ghost use Rattle.cax64_sink.specs.Keeps.{Keeps};
-ghost use Rattle.cax64_sink.specs.Room.{HasRoom};
+ghost use Rattle.cax64_sink.specs.Room.{HasRoom, FallsBy};
 
 use cax64_encoder::instruction::Instruction;
 use cax64_inst::Inst;
@@ -25,13 +25,15 @@ pub(crate) fn encode_each<I: Instruction, S: CodeSink>(
     insts: &[I],
     sink: &mut S,
 ) -> Result<(), Refused>
-    requires { All (λ i. IsTrue (is_encodable (S.state sink.old).offsets (I.meant i (S.state sink.old).offsets))) insts.now }
-    ensures adds { OnOk result (AddsAll (map (λ i. I.meant i (S.state sink.old).offsets) insts.now) (S.state sink.old) (S.state sink.new)) }
-    ensures leaves { IfErr result (λ e. LeavesAll (map (λ i. I.meant i (S.state sink.old).offsets) insts.now) e.whole (S.state sink.old) (S.state sink.new)) }
+    requires { All (λ i. IsTrue (can_encode_in (S.state sink.old) (I.meant i))) insts.now }
+    ensures adds { OnOk result (AddsList I.meant insts.now (S.state sink.old) (S.state sink.new)) }
+    ensures leaves { IfErr result (λ e. LeavesList I.meant insts.now e.whole (S.state sink.old) (S.state sink.new)) }
     ensures error { IfErr result (λ e. (S.state sink.old).answers e.error ≡ true) }
     ensures keeps { Keeps (S.state sink.old) (S.state sink.new) }
     ensures enough { HasRoom (S.state sink.old).byte_room (13 * length insts.now) → HasRoom (S.state sink.old).notice_room (length insts.now) → IsOk result }
-    ensures room { let ms = map (λ i. I.meant i (S.state sink.old).offsets) insts.now in (j : ℕ) → j ≤ length insts.now → HasRoom (S.state sink.old).byte_room (total_len (take j ms)) → HasRoom (S.state sink.old).notice_room (total_notices (take j ms)) → IfErr result (λ e. j ≤ e.whole) }
+    ensures room { let ms = meants I.meant (S.state sink.old) insts.now in (j : ℕ) → j ≤ length insts.now → HasRoom (S.state sink.old).byte_room (total_len (take j ms)) → HasRoom (S.state sink.old).notice_room (total_notices (take j ms)) → IfErr result (λ e. j ≤ e.whole) }
+    ensures byte_room { FallsBy (S.state sink.old).byte_room (S.state sink.new).byte_room (list_len (S.state sink.old) I.meant insts.now) }
+    ensures notice_room { FallsBy (S.state sink.old).notice_room (S.state sink.new).notice_room (list_notices (S.state sink.old) I.meant insts.now) }
 {
     for (whole, inst) in insts.iter().enumerate() {
         if let Err(error) = inst.encode(sink) {
@@ -45,13 +47,15 @@ pub(crate) fn encode_each<I: Instruction, S: CodeSink>(
 ///
 /// A refusal says how many instructions are whole.
 pub fn encode_all<R: Registers, S: CodeSink>(insts: &[Inst<R>], sink: &mut S) -> Result<(), Refused>
-    requires { All (λ i. IsTrue (is_encodable (S.state sink.old).offsets (⟦<Inst<R> as Instruction>⟧.meant i (S.state sink.old).offsets))) insts.now }
-    ensures adds { OnOk result (AddsAll (map (λ i. ⟦<Inst<R> as Instruction>⟧.meant i (S.state sink.old).offsets) insts.now) (S.state sink.old) (S.state sink.new)) }
-    ensures leaves { IfErr result (λ e. LeavesAll (map (λ i. ⟦<Inst<R> as Instruction>⟧.meant i (S.state sink.old).offsets) insts.now) e.whole (S.state sink.old) (S.state sink.new)) }
+    requires { All (λ i. IsTrue (can_encode_in (S.state sink.old) (⟦<Inst<R> as Instruction>⟧.meant i))) insts.now }
+    ensures adds { OnOk result (AddsList ⟦<Inst<R> as Instruction>⟧.meant insts.now (S.state sink.old) (S.state sink.new)) }
+    ensures leaves { IfErr result (λ e. LeavesList ⟦<Inst<R> as Instruction>⟧.meant insts.now e.whole (S.state sink.old) (S.state sink.new)) }
     ensures error { IfErr result (λ e. (S.state sink.old).answers e.error ≡ true) }
     ensures keeps { Keeps (S.state sink.old) (S.state sink.new) }
     ensures enough { HasRoom (S.state sink.old).byte_room (13 * length insts.now) → HasRoom (S.state sink.old).notice_room (length insts.now) → IsOk result }
-    ensures room { let ms = map (λ i. ⟦<Inst<R> as Instruction>⟧.meant i (S.state sink.old).offsets) insts.now in (j : ℕ) → j ≤ length insts.now → HasRoom (S.state sink.old).byte_room (total_len (take j ms)) → HasRoom (S.state sink.old).notice_room (total_notices (take j ms)) → IfErr result (λ e. j ≤ e.whole) }
+    ensures room { let ms = meants ⟦<Inst<R> as Instruction>⟧.meant (S.state sink.old) insts.now in (j : ℕ) → j ≤ length insts.now → HasRoom (S.state sink.old).byte_room (total_len (take j ms)) → HasRoom (S.state sink.old).notice_room (total_notices (take j ms)) → IfErr result (λ e. j ≤ e.whole) }
+    ensures byte_room { FallsBy (S.state sink.old).byte_room (S.state sink.new).byte_room (list_len (S.state sink.old) ⟦<Inst<R> as Instruction>⟧.meant insts.now) }
+    ensures notice_room { FallsBy (S.state sink.old).notice_room (S.state sink.new).notice_room (list_notices (S.state sink.old) ⟦<Inst<R> as Instruction>⟧.meant insts.now) }
 {
     encode_each(insts, sink)
 }

@@ -1,10 +1,11 @@
 use Rattle.std.proofs.Common.{◌≡◌, ◌∙◌, ap, ◌+◌, ◌*◌, ◌≤◌, List, [], ◌∷◌, ◌++◌, length, map, take, arith}
 use Rattle.cax64_encoder.specs.Instruction.{AddsInstruction, LeavesInstruction}
-use Rattle.cax64_encoder.specs.Meant.{Meant, len, notice_count}
+use Rattle.cax64_encoder.specs.Meant.{Meant, len}
+use Rattle.cax64_encoder.specs.Notices.{notice_count}
 use Rattle.cax64_sequence.specs.List.{total_len, total_notices}
 use Rattle.cax64_sink.specs.Room.{HasRoom, FallsBy}
 use Rattle.cax64_encoder.proofs.Instructions.{one_notice}
-use Rattle.cax64_sequence.proofs.Lists.{adds_none, adds_more, map_more, len_more, notice_count_more, keeps_on, keeps_self, falls_on, falls_zero, room_left, err_is_no_ok, refused_late, leaves_at}
+use Rattle.cax64_sequence.proofs.Lists.{adds_none, adds_more, map_more, len_more, notice_count_more, keeps_on, keeps_self, falls_on, falls_zero, room_left, err_is_no_ok, refused_late, stopped_bytes, stopped_notices, leaves_at}
 use Rattle.cax64_sequence.proofs.sequence.encode_each.Goals as goal
 
 pub loop-whole-init : goal.loop-whole-init
@@ -16,7 +17,7 @@ pub returns-in-Err-clause-leaves : goal.returns-in-Err-clause-leaves
 returns-in-Err-clause-leaves g c =
     let offsets = (g.S.CodeSink.state c.args.sink.now).offsets in
     let leaves : LeavesInstruction (g.I.Instruction.meant c.index-insts-whole.result offsets) (g.S.CodeSink.state c.loop-whole.sink) (g.S.CodeSink.state c.encode.new.sink) = rw c.loop-whole.invariant.keeps.offsets at c.in-Err.ensures.leaves in
-    leaves_at (λ i. g.I.Instruction.meant i offsets) c.args.insts.now c.loop-whole.whole c.index-insts-whole.result _ _ _ c.loop-whole-test.true c.index-insts-whole.is c.loop-whole.invariant.adds leaves
+    leaves_at (λ i. g.I.Instruction.meant i offsets) c.args.insts.now c.loop-whole.whole c.index-insts-whole.result _ _ _ c.loop-whole-test.true c.index-insts-whole.is c.loop-whole.invariant.adds c.loop-whole.invariant.keeps c.loop-whole.invariant.byte_room c.loop-whole.invariant.notice_room leaves
 
 pub returns-in-Err-clause-enough : goal.returns-in-Err-clause-enough
 returns-in-Err-clause-enough g c bytes notices =
@@ -30,10 +31,24 @@ returns-in-Err-clause-room g c j within bytes notices =
     let before = g.S.CodeSink.state c.args.sink.now in
     let now = g.S.CodeSink.state c.loop-whole.sink in
     let x = c.index-insts-whole.result in
-    let m : Meant g.row.I-Base.Denot = g.I.Instruction.meant x before.offsets in
+    let m : Meant g.row.I-Family-ReadGpr.Denot = g.I.Instruction.meant x before.offsets in
     let refused : HasRoom now.byte_room (len m) → HasRoom now.notice_room (notice_count m) → ⊥ =
     λ b n. err_is_no_ok c.in-Err.error ((rw c.loop-whole.invariant.keeps.offsets at c.in-Err.ensures.room) b n) in
     refused_late (λ i. g.I.Instruction.meant i before.offsets) c.args.insts.now c.loop-whole.whole j x before now c.loop-whole-test.true c.index-insts-whole.is c.loop-whole.invariant.byte_room c.loop-whole.invariant.notice_room refused bytes notices
+
+pub returns-in-Err-clause-byte_room : goal.returns-in-Err-clause-byte_room
+returns-in-Err-clause-byte_room g c =
+    let offsets = (g.S.CodeSink.state c.args.sink.now).offsets in
+    let now = g.S.CodeSink.state c.loop-whole.sink in
+    let last : FallsBy now.byte_room (g.S.CodeSink.state c.encode.new.sink).byte_room (len (g.I.Instruction.meant c.index-insts-whole.result offsets)) = rw c.loop-whole.invariant.keeps.offsets at c.in-Err.ensures.byte_room in
+    stopped_bytes (λ i. g.I.Instruction.meant i offsets) c.args.insts.now c.loop-whole.whole c.index-insts-whole.result _ now.byte_room _ c.loop-whole-test.true c.index-insts-whole.is c.loop-whole.invariant.byte_room last
+
+pub returns-in-Err-clause-notice_room : goal.returns-in-Err-clause-notice_room
+returns-in-Err-clause-notice_room g c =
+    let offsets = (g.S.CodeSink.state c.args.sink.now).offsets in
+    let now = g.S.CodeSink.state c.loop-whole.sink in
+    let last : FallsBy now.notice_room (g.S.CodeSink.state c.encode.new.sink).notice_room (notice_count (g.I.Instruction.meant c.index-insts-whole.result offsets)) = rw c.loop-whole.invariant.keeps.offsets at c.in-Err.ensures.notice_room in
+    stopped_notices (λ i. g.I.Instruction.meant i offsets) c.args.insts.now c.loop-whole.whole c.index-insts-whole.result _ now.notice_room _ c.loop-whole-test.true c.index-insts-whole.is c.loop-whole.invariant.notice_room last
 
 pub loop-whole-preserved : goal.loop-whole-preserved
 loop-whole-preserved g c =
@@ -42,9 +57,9 @@ loop-whole-preserved g c =
     let new = g.S.CodeSink.state c.encode.new.sink in
     let held = c.loop-whole.invariant in
     let x = c.index-insts-whole.result in
-    let before : List (Meant g.row.I-Base.Denot) = map (λ i. g.I.Instruction.meant i offsets) (take c.loop-whole.whole c.args.insts.now) in
-    let after : List (Meant g.row.I-Base.Denot) = map (λ i. g.I.Instruction.meant i offsets) (take (c.loop-whole.whole + 1) c.args.insts.now) in
-    let m : Meant g.row.I-Base.Denot = g.I.Instruction.meant x offsets in
+    let before : List (Meant g.row.I-Family-ReadGpr.Denot) = map (λ i. g.I.Instruction.meant i offsets) (take c.loop-whole.whole c.args.insts.now) in
+    let after : List (Meant g.row.I-Family-ReadGpr.Denot) = map (λ i. g.I.Instruction.meant i offsets) (take (c.loop-whole.whole + 1) c.args.insts.now) in
+    let m : Meant g.row.I-Family-ReadGpr.Denot = g.I.Instruction.meant x offsets in
     let adds : AddsInstruction m now new = rw held.keeps.offsets at c.in_default.ensures.adds in
     let bytes : FallsBy now.byte_room new.byte_room (len m) = rw held.keeps.offsets at c.in_default.ensures.byte_room in
     let notices : FallsBy now.notice_room new.notice_room (notice_count m) = rw held.keeps.offsets at c.in_default.ensures.notice_room in

@@ -1,5 +1,5 @@
 use Rattle.std.proofs.Common.{◌≡◌, ◌∙◌, subst, refl, map, IsOk}
-use Rattle.cax64_sequence.specs.List.{total_len, total_notices}
+use Rattle.cax64_sequence.specs.List.{StaysAs, total_len, total_notices}
 use Rattle.cax64_sequence.proofs.Lists.{whole_list, on_ok, no_err, never_err, keeps_on}
 use Rattle.cax64_sink.specs.Keeps.{Keeps}
 use Rattle.cax64_sink.specs.Recorder.{recorder_state}
@@ -20,7 +20,7 @@ returns g c =
     let same : Keeps s u = record { offsets = kept.offsets; records = refl; answers = refl } in
     record {
       adds = on_ok c.map_err.result all.1;
-      unchanged = no_err ((t.bytes ≡ s.bytes) × (t.notices ≡ s.notices)) c.map_err.result ok;
+      unchanged = no_err (StaysAs s t) c.map_err.result ok;
       error = never_err (λ e. e ≡ NoMemory) c.map_err.result ok;
       keeps = keeps_on same c.encode_each.ensures.keeps;
       room = λ b n. ok;

@@ -1,0 +1,50 @@
+//! `and`. (Intel SDM, volume 2, `AND`.)
+
+ghost use Rattle.std.specs.Prelude.{◌≡◌};
+ghost use Rattle.cax64_machine_code.specs.declared.row.Row.TheVariants as row;
+ghost use Rattle.arith.specs.Operands.{operands_andb_i};
+
+use cax64_immediate::Imm8;
+use cax64_machine_code::row::Row;
+use cax64_operand::{Immediate, Operand, Operands, RegisterVisitor, RowAndOperands};
+use cax64_register::{Fixed, Registers, Size};
+
+/// `al` AND `imm8`.
+#[derive(Drop)]
+pub struct andb_i<R: Registers> {
+    pub al: Fixed<R::ReadWriteGpr, 0>,
+    pub imm8: Imm8,
+}
+
+impl<R: Registers> andb_i<R> {
+    pub fn new(al: Fixed<R::ReadWriteGpr, 0>, imm8: Imm8) -> Self
+        ensures al { result.al ≡ al }
+        ensures imm8 { result.imm8 ≡ imm8 }
+    {
+        andb_i { al, imm8 }
+    }
+}
+
+impl<R: Registers> RowAndOperands for andb_i<R> {
+    type Family = R;
+
+    ghost row_of = { λ _. row.andb_i };
+
+    ghost operands_of = { operands_andb_i };
+
+    fn row(&self) -> Row {
+        Row::andb_i
+    }
+
+    #[tactic(auto, unfolding(cax64_machine_code::specs::Rows::line_of))]
+    fn operands(&self) -> Operands<R> {
+        Operands::Two(
+            Operand::FixedReadWriteGpr(self.al.0, 0, Some(Size::Byte)),
+            Operand::Imm(Immediate::Imm8(self.imm8.value())),
+        )
+    }
+
+    fn visit<V: RegisterVisitor<R>>(&mut self, visitor: &mut V) {
+        visitor.fixed_read_write_gpr(&mut self.al.0, 0);
+    }
+}

@@ -1,0 +1,124 @@
+//! `mulx`. (Intel SDM, volume 2, `MULX`.)
+
+ghost use Rattle.std.specs.Prelude.{◌≡◌};
+ghost use Rattle.cax64_machine_code.specs.declared.row.Row.TheVariants as row;
+ghost use Rattle.arith.specs.Operands.{operands_mulxl_rvm, operands_mulxq_rvm};
+
+use cax64_address::operand::GprMem;
+use cax64_machine_code::row::Row;
+use cax64_operand::{Operand, Operands, RegisterVisitor, RowAndOperands, visit_two_gprs};
+use cax64_register::{Fixed, Gpr, Registers, Size};
+
+/// Unsigned multiply of `rm32` with `edx`: the high half goes to `r32a`, the low half to `r32b`. No flags are changed.
+#[derive(Drop)]
+pub struct mulxl_rvm<R: Registers> {
+    pub r32a: Gpr<R::WriteGpr>,
+    pub r32b: Gpr<R::WriteGpr>,
+    pub rm32: GprMem<R::ReadGpr, R::ReadGpr>,
+    pub edx: Fixed<R::ReadGpr, 2>,
+}
+
+impl<R: Registers> mulxl_rvm<R> {
+    pub fn new(
+        r32a: Gpr<R::WriteGpr>,
+        r32b: Gpr<R::WriteGpr>,
+        rm32: GprMem<R::ReadGpr, R::ReadGpr>,
+        edx: Fixed<R::ReadGpr, 2>,
+    ) -> Self
+        ensures r32a { result.r32a ≡ r32a }
+        ensures r32b { result.r32b ≡ r32b }
+        ensures rm32 { result.rm32 ≡ rm32 }
+        ensures edx { result.edx ≡ edx }
+    {
+        mulxl_rvm {
+            r32a,
+            r32b,
+            rm32,
+            edx,
+        }
+    }
+}
+
+impl<R: Registers> RowAndOperands for mulxl_rvm<R> {
+    type Family = R;
+
+    ghost row_of = { λ _. row.mulxl_rvm };
+
+    ghost operands_of = { operands_mulxl_rvm };
+
+    fn row(&self) -> Row {
+        Row::mulxl_rvm
+    }
+
+    #[tactic(auto, unfolding(cax64_machine_code::specs::Rows::line_of))]
+    fn operands(&self) -> Operands<R> {
+        Operands::Three(
+            Operand::WriteTwoGprs(*self.r32a.as_ref(), *self.r32b.as_ref(), Size::Doubleword),
+            Operand::ReadGprMem(self.rm32, Size::Doubleword),
+            Operand::FixedReadGpr(self.edx.0, 2, None),
+        )
+    }
+
+    fn visit<V: RegisterVisitor<R>>(&mut self, visitor: &mut V) {
+        visit_two_gprs(&mut self.r32a, &mut self.r32b, visitor);
+        visitor.read_gpr_mem(&mut self.rm32);
+        visitor.fixed_read_gpr(&mut self.edx.0, 2);
+    }
+}
+
+/// Unsigned multiply of `rm64` with `rdx`: the high half goes to `r64a`, the low half to `r64b`. No flags are changed.
+#[derive(Drop)]
+pub struct mulxq_rvm<R: Registers> {
+    pub r64a: Gpr<R::WriteGpr>,
+    pub r64b: Gpr<R::WriteGpr>,
+    pub rm64: GprMem<R::ReadGpr, R::ReadGpr>,
+    pub rdx: Fixed<R::ReadGpr, 2>,
+}
+
+impl<R: Registers> mulxq_rvm<R> {
+    pub fn new(
+        r64a: Gpr<R::WriteGpr>,
+        r64b: Gpr<R::WriteGpr>,
+        rm64: GprMem<R::ReadGpr, R::ReadGpr>,
+        rdx: Fixed<R::ReadGpr, 2>,
+    ) -> Self
+        ensures r64a { result.r64a ≡ r64a }
+        ensures r64b { result.r64b ≡ r64b }
+        ensures rm64 { result.rm64 ≡ rm64 }
+        ensures rdx { result.rdx ≡ rdx }
+    {
+        mulxq_rvm {
+            r64a,
+            r64b,
+            rm64,
+            rdx,
+        }
+    }
+}
+
+impl<R: Registers> RowAndOperands for mulxq_rvm<R> {
+    type Family = R;
+
+    ghost row_of = { λ _. row.mulxq_rvm };
+
+    ghost operands_of = { operands_mulxq_rvm };
+
+    fn row(&self) -> Row {
+        Row::mulxq_rvm
+    }
+
+    #[tactic(auto, unfolding(cax64_machine_code::specs::Rows::line_of))]
+    fn operands(&self) -> Operands<R> {
+        Operands::Three(
+            Operand::WriteTwoGprs(*self.r64a.as_ref(), *self.r64b.as_ref(), Size::Quadword),
+            Operand::ReadGprMem(self.rm64, Size::Quadword),
+            Operand::FixedReadGpr(self.rdx.0, 2, None),
+        )
+    }
+
+    fn visit<V: RegisterVisitor<R>>(&mut self, visitor: &mut V) {
+        visit_two_gprs(&mut self.r64a, &mut self.r64b, visitor);
+        visitor.read_gpr_mem(&mut self.rm64);
+        visitor.fixed_read_gpr(&mut self.rdx.0, 2);
+    }
+}

@@ -1,0 +1,150 @@
+//! `rol` by one. (Intel SDM, volume 2, `RCL/RCR/ROL/ROR`.)
+
+ghost use Rattle.std.specs.Prelude.{◌≡◌};
+ghost use Rattle.cax64_machine_code.specs.declared.row.Row.TheVariants as row;
+ghost use Rattle.arith.specs.Operands.{operands_rolb_m1, operands_rolw_m1, operands_roll_m1, operands_rolq_m1};
+
+use cax64_address::operand::GprMem;
+use cax64_machine_code::row::Row;
+use cax64_operand::{Operand, Operands, RegisterVisitor, RowAndOperands};
+use cax64_register::{Registers, Size};
+
+/// Rotate 8 bits `rm8` left once.
+#[derive(Drop)]
+pub struct rolb_m1<R: Registers> {
+    pub rm8: GprMem<R::ReadWriteGpr, R::ReadGpr>,
+}
+
+impl<R: Registers> rolb_m1<R> {
+    pub fn new(rm8: GprMem<R::ReadWriteGpr, R::ReadGpr>) -> Self
+        ensures rm8 { result.rm8 ≡ rm8 }
+    {
+        rolb_m1 { rm8 }
+    }
+}
+
+impl<R: Registers> RowAndOperands for rolb_m1<R> {
+    type Family = R;
+
+    ghost row_of = { λ _. row.rolb_m1 };
+
+    ghost operands_of = { operands_rolb_m1 };
+
+    fn row(&self) -> Row {
+        Row::rolb_m1
+    }
+
+    #[tactic(auto, unfolding(cax64_machine_code::specs::Rows::line_of))]
+    fn operands(&self) -> Operands<R> {
+        Operands::One(Operand::ReadWriteGprMem(self.rm8, Size::Byte))
+    }
+
+    fn visit<V: RegisterVisitor<R>>(&mut self, visitor: &mut V) {
+        visitor.read_write_gpr_mem(&mut self.rm8);
+    }
+}
+
+/// Rotate 16 bits `rm16` left once.
+#[derive(Drop)]
+pub struct rolw_m1<R: Registers> {
+    pub rm16: GprMem<R::ReadWriteGpr, R::ReadGpr>,
+}
+
+impl<R: Registers> rolw_m1<R> {
+    pub fn new(rm16: GprMem<R::ReadWriteGpr, R::ReadGpr>) -> Self
+        ensures rm16 { result.rm16 ≡ rm16 }
+    {
+        rolw_m1 { rm16 }
+    }
+}
+
+impl<R: Registers> RowAndOperands for rolw_m1<R> {
+    type Family = R;
+
+    ghost row_of = { λ _. row.rolw_m1 };
+
+    ghost operands_of = { operands_rolw_m1 };
+
+    fn row(&self) -> Row {
+        Row::rolw_m1
+    }
+
+    #[tactic(auto, unfolding(cax64_machine_code::specs::Rows::line_of))]
+    fn operands(&self) -> Operands<R> {
+        Operands::One(Operand::ReadWriteGprMem(self.rm16, Size::Word))
+    }
+
+    fn visit<V: RegisterVisitor<R>>(&mut self, visitor: &mut V) {
+        visitor.read_write_gpr_mem(&mut self.rm16);
+    }
+}
+
+/// Rotate 32 bits `rm32` left once.
+#[derive(Drop)]
+pub struct roll_m1<R: Registers> {
+    pub rm32: GprMem<R::ReadWriteGpr, R::ReadGpr>,
+}
+
+impl<R: Registers> roll_m1<R> {
+    pub fn new(rm32: GprMem<R::ReadWriteGpr, R::ReadGpr>) -> Self
+        ensures rm32 { result.rm32 ≡ rm32 }
+    {
+        roll_m1 { rm32 }
+    }
+}
+
+impl<R: Registers> RowAndOperands for roll_m1<R> {
+    type Family = R;
+
+    ghost row_of = { λ _. row.roll_m1 };
+
+    ghost operands_of = { operands_roll_m1 };
+
+    fn row(&self) -> Row {
+        Row::roll_m1
+    }
+
+    #[tactic(auto, unfolding(cax64_machine_code::specs::Rows::line_of))]
+    fn operands(&self) -> Operands<R> {
+        Operands::One(Operand::ReadWriteGprMem(self.rm32, Size::Doubleword))
+    }
+
+    fn visit<V: RegisterVisitor<R>>(&mut self, visitor: &mut V) {
+        visitor.read_write_gpr_mem(&mut self.rm32);
+    }
+}
+
+/// Rotate 64 bits `rm64` left once.
+#[derive(Drop)]
+pub struct rolq_m1<R: Registers> {
+    pub rm64: GprMem<R::ReadWriteGpr, R::ReadGpr>,
+}
+
+impl<R: Registers> rolq_m1<R> {
+    pub fn new(rm64: GprMem<R::ReadWriteGpr, R::ReadGpr>) -> Self
+        ensures rm64 { result.rm64 ≡ rm64 }
+    {
+        rolq_m1 { rm64 }
+    }
+}
+
+impl<R: Registers> RowAndOperands for rolq_m1<R> {
+    type Family = R;
+
+    ghost row_of = { λ _. row.rolq_m1 };
+
+    ghost operands_of = { operands_rolq_m1 };
+
+    fn row(&self) -> Row {
+        Row::rolq_m1
+    }
+
+    #[tactic(auto, unfolding(cax64_machine_code::specs::Rows::line_of))]
+    fn operands(&self) -> Operands<R> {
+        Operands::One(Operand::ReadWriteGprMem(self.rm64, Size::Quadword))
+    }
+
+    fn visit<V: RegisterVisitor<R>>(&mut self, visitor: &mut V) {
+        visitor.read_write_gpr_mem(&mut self.rm64);
+    }
+}

@@ -1,0 +1,150 @@
+//! `ror` by one. (Intel SDM, volume 2, `RCL/RCR/ROL/ROR`.)
+
+ghost use Rattle.std.specs.Prelude.{◌≡◌};
+ghost use Rattle.cax64_machine_code.specs.declared.row.Row.TheVariants as row;
+ghost use Rattle.arith.specs.Operands.{operands_rorb_m1, operands_rorw_m1, operands_rorl_m1, operands_rorq_m1};
+
+use cax64_address::operand::GprMem;
+use cax64_machine_code::row::Row;
+use cax64_operand::{Operand, Operands, RegisterVisitor, RowAndOperands};
+use cax64_register::{Registers, Size};
+
+/// Rotate 8 bits `rm8` right once.
+#[derive(Drop)]
+pub struct rorb_m1<R: Registers> {
+    pub rm8: GprMem<R::ReadWriteGpr, R::ReadGpr>,
+}
+
+impl<R: Registers> rorb_m1<R> {
+    pub fn new(rm8: GprMem<R::ReadWriteGpr, R::ReadGpr>) -> Self
+        ensures rm8 { result.rm8 ≡ rm8 }
+    {
+        rorb_m1 { rm8 }
+    }
+}
+
+impl<R: Registers> RowAndOperands for rorb_m1<R> {
+    type Family = R;
+
+    ghost row_of = { λ _. row.rorb_m1 };
+
+    ghost operands_of = { operands_rorb_m1 };
+
+    fn row(&self) -> Row {
+        Row::rorb_m1
+    }
+
+    #[tactic(auto, unfolding(cax64_machine_code::specs::Rows::line_of))]
+    fn operands(&self) -> Operands<R> {
+        Operands::One(Operand::ReadWriteGprMem(self.rm8, Size::Byte))
+    }
+
+    fn visit<V: RegisterVisitor<R>>(&mut self, visitor: &mut V) {
+        visitor.read_write_gpr_mem(&mut self.rm8);
+    }
+}
+
+/// Rotate 16 bits `rm16` right once.
+#[derive(Drop)]
+pub struct rorw_m1<R: Registers> {
+    pub rm16: GprMem<R::ReadWriteGpr, R::ReadGpr>,
+}
+
+impl<R: Registers> rorw_m1<R> {
+    pub fn new(rm16: GprMem<R::ReadWriteGpr, R::ReadGpr>) -> Self
+        ensures rm16 { result.rm16 ≡ rm16 }
+    {
+        rorw_m1 { rm16 }
+    }
+}
+
+impl<R: Registers> RowAndOperands for rorw_m1<R> {
+    type Family = R;
+
+    ghost row_of = { λ _. row.rorw_m1 };
+
+    ghost operands_of = { operands_rorw_m1 };
+
+    fn row(&self) -> Row {
+        Row::rorw_m1
+    }
+
+    #[tactic(auto, unfolding(cax64_machine_code::specs::Rows::line_of))]
+    fn operands(&self) -> Operands<R> {
+        Operands::One(Operand::ReadWriteGprMem(self.rm16, Size::Word))
+    }
+
+    fn visit<V: RegisterVisitor<R>>(&mut self, visitor: &mut V) {
+        visitor.read_write_gpr_mem(&mut self.rm16);
+    }
+}
+
+/// Rotate 32 bits `rm32` right once.
+#[derive(Drop)]
+pub struct rorl_m1<R: Registers> {
+    pub rm32: GprMem<R::ReadWriteGpr, R::ReadGpr>,
+}
+
+impl<R: Registers> rorl_m1<R> {
+    pub fn new(rm32: GprMem<R::ReadWriteGpr, R::ReadGpr>) -> Self
+        ensures rm32 { result.rm32 ≡ rm32 }
+    {
+        rorl_m1 { rm32 }
+    }
+}
+
+impl<R: Registers> RowAndOperands for rorl_m1<R> {
+    type Family = R;
+
+    ghost row_of = { λ _. row.rorl_m1 };
+
+    ghost operands_of = { operands_rorl_m1 };
+
+    fn row(&self) -> Row {
+        Row::rorl_m1
+    }
+
+    #[tactic(auto, unfolding(cax64_machine_code::specs::Rows::line_of))]
+    fn operands(&self) -> Operands<R> {
+        Operands::One(Operand::ReadWriteGprMem(self.rm32, Size::Doubleword))
+    }
+
+    fn visit<V: RegisterVisitor<R>>(&mut self, visitor: &mut V) {
+        visitor.read_write_gpr_mem(&mut self.rm32);
+    }
+}
+
+/// Rotate 64 bits `rm64` right once.
+#[derive(Drop)]
+pub struct rorq_m1<R: Registers> {
+    pub rm64: GprMem<R::ReadWriteGpr, R::ReadGpr>,
+}
+
+impl<R: Registers> rorq_m1<R> {
+    pub fn new(rm64: GprMem<R::ReadWriteGpr, R::ReadGpr>) -> Self
+        ensures rm64 { result.rm64 ≡ rm64 }
+    {
+        rorq_m1 { rm64 }
+    }
+}
+
+impl<R: Registers> RowAndOperands for rorq_m1<R> {
+    type Family = R;
+
+    ghost row_of = { λ _. row.rorq_m1 };
+
+    ghost operands_of = { operands_rorq_m1 };
+
+    fn row(&self) -> Row {
+        Row::rorq_m1
+    }
+
+    #[tactic(auto, unfolding(cax64_machine_code::specs::Rows::line_of))]
+    fn operands(&self) -> Operands<R> {
+        Operands::One(Operand::ReadWriteGprMem(self.rm64, Size::Quadword))
+    }
+
+    fn visit<V: RegisterVisitor<R>>(&mut self, visitor: &mut V) {
+        visitor.read_write_gpr_mem(&mut self.rm64);
+    }
+}

@@ -1,0 +1,150 @@
+//! `shl` by one. (Intel SDM, volume 2, `SAL/SAR/SHL/SHR`.)
+
+ghost use Rattle.std.specs.Prelude.{◌≡◌};
+ghost use Rattle.cax64_machine_code.specs.declared.row.Row.TheVariants as row;
+ghost use Rattle.arith.specs.Operands.{operands_shlb_m1, operands_shlw_m1, operands_shll_m1, operands_shlq_m1};
+
+use cax64_address::operand::GprMem;
+use cax64_machine_code::row::Row;
+use cax64_operand::{Operand, Operands, RegisterVisitor, RowAndOperands};
+use cax64_register::{Registers, Size};
+
+/// Multiply `rm8` by 2, once.
+#[derive(Drop)]
+pub struct shlb_m1<R: Registers> {
+    pub rm8: GprMem<R::ReadWriteGpr, R::ReadGpr>,
+}
+
+impl<R: Registers> shlb_m1<R> {
+    pub fn new(rm8: GprMem<R::ReadWriteGpr, R::ReadGpr>) -> Self
+        ensures rm8 { result.rm8 ≡ rm8 }
+    {
+        shlb_m1 { rm8 }
+    }
+}
+
+impl<R: Registers> RowAndOperands for shlb_m1<R> {
+    type Family = R;
+
+    ghost row_of = { λ _. row.shlb_m1 };
+
+    ghost operands_of = { operands_shlb_m1 };
+
+    fn row(&self) -> Row {
+        Row::shlb_m1
+    }
+
+    #[tactic(auto, unfolding(cax64_machine_code::specs::Rows::line_of))]
+    fn operands(&self) -> Operands<R> {
+        Operands::One(Operand::ReadWriteGprMem(self.rm8, Size::Byte))
+    }
+
+    fn visit<V: RegisterVisitor<R>>(&mut self, visitor: &mut V) {
+        visitor.read_write_gpr_mem(&mut self.rm8);
+    }
+}
+
+/// Multiply `rm16` by 2, once.
+#[derive(Drop)]
+pub struct shlw_m1<R: Registers> {
+    pub rm16: GprMem<R::ReadWriteGpr, R::ReadGpr>,
+}
+
+impl<R: Registers> shlw_m1<R> {
+    pub fn new(rm16: GprMem<R::ReadWriteGpr, R::ReadGpr>) -> Self
+        ensures rm16 { result.rm16 ≡ rm16 }
+    {
+        shlw_m1 { rm16 }
+    }
+}
+
+impl<R: Registers> RowAndOperands for shlw_m1<R> {
+    type Family = R;
+
+    ghost row_of = { λ _. row.shlw_m1 };
+
+    ghost operands_of = { operands_shlw_m1 };
+
+    fn row(&self) -> Row {
+        Row::shlw_m1
+    }
+
+    #[tactic(auto, unfolding(cax64_machine_code::specs::Rows::line_of))]
+    fn operands(&self) -> Operands<R> {
+        Operands::One(Operand::ReadWriteGprMem(self.rm16, Size::Word))
+    }
+
+    fn visit<V: RegisterVisitor<R>>(&mut self, visitor: &mut V) {
+        visitor.read_write_gpr_mem(&mut self.rm16);
+    }
+}
+
+/// Multiply `rm32` by 2, once.
+#[derive(Drop)]
+pub struct shll_m1<R: Registers> {
+    pub rm32: GprMem<R::ReadWriteGpr, R::ReadGpr>,
+}
+
+impl<R: Registers> shll_m1<R> {
+    pub fn new(rm32: GprMem<R::ReadWriteGpr, R::ReadGpr>) -> Self
+        ensures rm32 { result.rm32 ≡ rm32 }
+    {
+        shll_m1 { rm32 }
+    }
+}
+
+impl<R: Registers> RowAndOperands for shll_m1<R> {
+    type Family = R;
+
+    ghost row_of = { λ _. row.shll_m1 };
+
+    ghost operands_of = { operands_shll_m1 };
+
+    fn row(&self) -> Row {
+        Row::shll_m1
+    }
+
+    #[tactic(auto, unfolding(cax64_machine_code::specs::Rows::line_of))]
+    fn operands(&self) -> Operands<R> {
+        Operands::One(Operand::ReadWriteGprMem(self.rm32, Size::Doubleword))
+    }
+
+    fn visit<V: RegisterVisitor<R>>(&mut self, visitor: &mut V) {
+        visitor.read_write_gpr_mem(&mut self.rm32);
+    }
+}
+
+/// Multiply `rm64` by 2, once.
+#[derive(Drop)]
+pub struct shlq_m1<R: Registers> {
+    pub rm64: GprMem<R::ReadWriteGpr, R::ReadGpr>,
+}
+
+impl<R: Registers> shlq_m1<R> {
+    pub fn new(rm64: GprMem<R::ReadWriteGpr, R::ReadGpr>) -> Self
+        ensures rm64 { result.rm64 ≡ rm64 }
+    {
+        shlq_m1 { rm64 }
+    }
+}
+
+impl<R: Registers> RowAndOperands for shlq_m1<R> {
+    type Family = R;
+
+    ghost row_of = { λ _. row.shlq_m1 };
+
+    ghost operands_of = { operands_shlq_m1 };
+
+    fn row(&self) -> Row {
+        Row::shlq_m1
+    }
+
+    #[tactic(auto, unfolding(cax64_machine_code::specs::Rows::line_of))]
+    fn operands(&self) -> Operands<R> {
+        Operands::One(Operand::ReadWriteGprMem(self.rm64, Size::Quadword))
+    }
+
+    fn visit<V: RegisterVisitor<R>>(&mut self, visitor: &mut V) {
+        visitor.read_write_gpr_mem(&mut self.rm64);
+    }
+}

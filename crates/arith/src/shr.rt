@@ -1,0 +1,150 @@
+//! `shr` by one. (Intel SDM, volume 2, `SAL/SAR/SHL/SHR`.)
+
+ghost use Rattle.std.specs.Prelude.{◌≡◌};
+ghost use Rattle.cax64_machine_code.specs.declared.row.Row.TheVariants as row;
+ghost use Rattle.arith.specs.Operands.{operands_shrb_m1, operands_shrw_m1, operands_shrl_m1, operands_shrq_m1};
+
+use cax64_address::operand::GprMem;
+use cax64_machine_code::row::Row;
+use cax64_operand::{Operand, Operands, RegisterVisitor, RowAndOperands};
+use cax64_register::{Registers, Size};
+
+/// Unsigned divide `rm8` by 2, once.
+#[derive(Drop)]
+pub struct shrb_m1<R: Registers> {
+    pub rm8: GprMem<R::ReadWriteGpr, R::ReadGpr>,
+}
+
+impl<R: Registers> shrb_m1<R> {
+    pub fn new(rm8: GprMem<R::ReadWriteGpr, R::ReadGpr>) -> Self
+        ensures rm8 { result.rm8 ≡ rm8 }
+    {
+        shrb_m1 { rm8 }
+    }
+}
+
+impl<R: Registers> RowAndOperands for shrb_m1<R> {
+    type Family = R;
+
+    ghost row_of = { λ _. row.shrb_m1 };
+
+    ghost operands_of = { operands_shrb_m1 };
+
+    fn row(&self) -> Row {
+        Row::shrb_m1
+    }
+
+    #[tactic(auto, unfolding(cax64_machine_code::specs::Rows::line_of))]
+    fn operands(&self) -> Operands<R> {
+        Operands::One(Operand::ReadWriteGprMem(self.rm8, Size::Byte))
+    }
+
+    fn visit<V: RegisterVisitor<R>>(&mut self, visitor: &mut V) {
+        visitor.read_write_gpr_mem(&mut self.rm8);
+    }
+}
+
+/// Unsigned divide `rm16` by 2, once.
+#[derive(Drop)]
+pub struct shrw_m1<R: Registers> {
+    pub rm16: GprMem<R::ReadWriteGpr, R::ReadGpr>,
+}
+
+impl<R: Registers> shrw_m1<R> {
+    pub fn new(rm16: GprMem<R::ReadWriteGpr, R::ReadGpr>) -> Self
+        ensures rm16 { result.rm16 ≡ rm16 }
+    {
+        shrw_m1 { rm16 }
+    }
+}
+
+impl<R: Registers> RowAndOperands for shrw_m1<R> {
+    type Family = R;
+
+    ghost row_of = { λ _. row.shrw_m1 };
+
+    ghost operands_of = { operands_shrw_m1 };
+
+    fn row(&self) -> Row {
+        Row::shrw_m1
+    }
+
+    #[tactic(auto, unfolding(cax64_machine_code::specs::Rows::line_of))]
+    fn operands(&self) -> Operands<R> {
+        Operands::One(Operand::ReadWriteGprMem(self.rm16, Size::Word))
+    }
+
+    fn visit<V: RegisterVisitor<R>>(&mut self, visitor: &mut V) {
+        visitor.read_write_gpr_mem(&mut self.rm16);
+    }
+}
+
+/// Unsigned divide `rm32` by 2, once.
+#[derive(Drop)]
+pub struct shrl_m1<R: Registers> {
+    pub rm32: GprMem<R::ReadWriteGpr, R::ReadGpr>,
+}
+
+impl<R: Registers> shrl_m1<R> {
+    pub fn new(rm32: GprMem<R::ReadWriteGpr, R::ReadGpr>) -> Self
+        ensures rm32 { result.rm32 ≡ rm32 }
+    {
+        shrl_m1 { rm32 }
+    }
+}
+
+impl<R: Registers> RowAndOperands for shrl_m1<R> {
+    type Family = R;
+
+    ghost row_of = { λ _. row.shrl_m1 };
+
+    ghost operands_of = { operands_shrl_m1 };
+
+    fn row(&self) -> Row {
+        Row::shrl_m1
+    }
+
+    #[tactic(auto, unfolding(cax64_machine_code::specs::Rows::line_of))]
+    fn operands(&self) -> Operands<R> {
+        Operands::One(Operand::ReadWriteGprMem(self.rm32, Size::Doubleword))
+    }
+
+    fn visit<V: RegisterVisitor<R>>(&mut self, visitor: &mut V) {
+        visitor.read_write_gpr_mem(&mut self.rm32);
+    }
+}
+
+/// Unsigned divide `rm64` by 2, once.
+#[derive(Drop)]
+pub struct shrq_m1<R: Registers> {
+    pub rm64: GprMem<R::ReadWriteGpr, R::ReadGpr>,
+}
+
+impl<R: Registers> shrq_m1<R> {
+    pub fn new(rm64: GprMem<R::ReadWriteGpr, R::ReadGpr>) -> Self
+        ensures rm64 { result.rm64 ≡ rm64 }
+    {
+        shrq_m1 { rm64 }
+    }
+}
+
+impl<R: Registers> RowAndOperands for shrq_m1<R> {
+    type Family = R;
+
+    ghost row_of = { λ _. row.shrq_m1 };
+
+    ghost operands_of = { operands_shrq_m1 };
+
+    fn row(&self) -> Row {
+        Row::shrq_m1
+    }
+
+    #[tactic(auto, unfolding(cax64_machine_code::specs::Rows::line_of))]
+    fn operands(&self) -> Operands<R> {
+        Operands::One(Operand::ReadWriteGprMem(self.rm64, Size::Quadword))
+    }
+
+    fn visit<V: RegisterVisitor<R>>(&mut self, visitor: &mut V) {
+        visitor.read_write_gpr_mem(&mut self.rm64);
+    }
+}

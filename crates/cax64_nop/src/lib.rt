@@ -1,7 +1,0 @@
-//! Instructions that do nothing.
-#![tactic(auto)]
-#![allow(non_camel_case_types)]
-
-pub mod nop;
-
-pub use nop::{nop_1b, nop_2b, nop_3b, nop_4b, nop_5b, nop_6b, nop_7b, nop_8b, nop_9b};

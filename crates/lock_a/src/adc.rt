@@ -1,0 +1,385 @@
+//! `lock adc`. (Intel SDM, volume 2, `ADC`.)
+
+ghost use Rattle.std.specs.Prelude.{◌≡◌};
+ghost use Rattle.cax64_machine_code.specs.declared.row.Row.TheVariants as row;
+ghost use Rattle.lock_a.specs.Operands.{operands_lock_adcb_mi, operands_lock_adcw_mi, operands_lock_adcl_mi, operands_lock_adcq_mi_sxl, operands_lock_adcl_mi_sxb, operands_lock_adcq_mi_sxb, operands_lock_adcb_mr, operands_lock_adcw_mr, operands_lock_adcl_mr, operands_lock_adcq_mr};
+
+use cax64_address::amode::Amode;
+use cax64_immediate::{Extension, Imm8, Imm16, Imm32, Simm8, Simm32};
+use cax64_machine_code::row::Row;
+use cax64_operand::{Immediate, Operand, Operands, RegisterVisitor, RowAndOperands};
+use cax64_register::{Gpr, Registers, Size};
+
+/// Add with carry `imm8` to `m8`. Locked.
+#[derive(Drop)]
+pub struct lock_adcb_mi<R: Registers> {
+    pub m8: Amode<R::ReadGpr>,
+    pub imm8: Imm8,
+}
+
+impl<R: Registers> lock_adcb_mi<R> {
+    pub fn new(m8: Amode<R::ReadGpr>, imm8: Imm8) -> Self
+        ensures m8 { result.m8 ≡ m8 }
+        ensures imm8 { result.imm8 ≡ imm8 }
+    {
+        lock_adcb_mi { m8, imm8 }
+    }
+}
+
+impl<R: Registers> RowAndOperands for lock_adcb_mi<R> {
+    type Family = R;
+
+    ghost row_of = { λ _. row.lock_adcb_mi };
+
+    ghost operands_of = { operands_lock_adcb_mi };
+
+    fn row(&self) -> Row {
+        Row::lock_adcb_mi
+    }
+
+    #[tactic(auto, unfolding(cax64_machine_code::specs::Rows::line_of))]
+    fn operands(&self) -> Operands<R> {
+        Operands::Two(Operand::ReadAmode(self.m8), Operand::Imm(Immediate::Imm8(self.imm8.value())))
+    }
+
+    fn visit<V: RegisterVisitor<R>>(&mut self, visitor: &mut V) {
+        visitor.read_amode(&mut self.m8);
+    }
+}
+
+/// Add with carry `imm16` to `m16`. Locked.
+#[derive(Drop)]
+pub struct lock_adcw_mi<R: Registers> {
+    pub m16: Amode<R::ReadGpr>,
+    pub imm16: Imm16,
+}
+
+impl<R: Registers> lock_adcw_mi<R> {
+    pub fn new(m16: Amode<R::ReadGpr>, imm16: Imm16) -> Self
+        ensures m16 { result.m16 ≡ m16 }
+        ensures imm16 { result.imm16 ≡ imm16 }
+    {
+        lock_adcw_mi { m16, imm16 }
+    }
+}
+
+impl<R: Registers> RowAndOperands for lock_adcw_mi<R> {
+    type Family = R;
+
+    ghost row_of = { λ _. row.lock_adcw_mi };
+
+    ghost operands_of = { operands_lock_adcw_mi };
+
+    fn row(&self) -> Row {
+        Row::lock_adcw_mi
+    }
+
+    #[tactic(auto, unfolding(cax64_machine_code::specs::Rows::line_of))]
+    fn operands(&self) -> Operands<R> {
+        Operands::Two(Operand::ReadAmode(self.m16), Operand::Imm(Immediate::Imm16(self.imm16.value())))
+    }
+
+    fn visit<V: RegisterVisitor<R>>(&mut self, visitor: &mut V) {
+        visitor.read_amode(&mut self.m16);
+    }
+}
+
+/// Add with carry `imm32` to `m32`. Locked.
+#[derive(Drop)]
+pub struct lock_adcl_mi<R: Registers> {
+    pub m32: Amode<R::ReadGpr>,
+    pub imm32: Imm32,
+}
+
+impl<R: Registers> lock_adcl_mi<R> {
+    pub fn new(m32: Amode<R::ReadGpr>, imm32: Imm32) -> Self
+        ensures m32 { result.m32 ≡ m32 }
+        ensures imm32 { result.imm32 ≡ imm32 }
+    {
+        lock_adcl_mi { m32, imm32 }
+    }
+}
+
+impl<R: Registers> RowAndOperands for lock_adcl_mi<R> {
+    type Family = R;
+
+    ghost row_of = { λ _. row.lock_adcl_mi };
+
+    ghost operands_of = { operands_lock_adcl_mi };
+
+    fn row(&self) -> Row {
+        Row::lock_adcl_mi
+    }
+
+    #[tactic(auto, unfolding(cax64_machine_code::specs::Rows::line_of))]
+    fn operands(&self) -> Operands<R> {
+        Operands::Two(Operand::ReadAmode(self.m32), Operand::Imm(Immediate::Imm32(self.imm32.value())))
+    }
+
+    fn visit<V: RegisterVisitor<R>>(&mut self, visitor: &mut V) {
+        visitor.read_amode(&mut self.m32);
+    }
+}
+
+/// Add with carry `imm32` sign-extended to 64 bits to `m64`. Locked.
+#[derive(Drop)]
+pub struct lock_adcq_mi_sxl<R: Registers> {
+    pub m64: Amode<R::ReadGpr>,
+    pub imm32: Simm32,
+}
+
+impl<R: Registers> lock_adcq_mi_sxl<R> {
+    pub fn new(m64: Amode<R::ReadGpr>, imm32: Simm32) -> Self
+        ensures m64 { result.m64 ≡ m64 }
+        ensures imm32 { result.imm32 ≡ imm32 }
+    {
+        lock_adcq_mi_sxl { m64, imm32 }
+    }
+}
+
+impl<R: Registers> RowAndOperands for lock_adcq_mi_sxl<R> {
+    type Family = R;
+
+    ghost row_of = { λ _. row.lock_adcq_mi_sxl };
+
+    ghost operands_of = { operands_lock_adcq_mi_sxl };
+
+    fn row(&self) -> Row {
+        Row::lock_adcq_mi_sxl
+    }
+
+    #[tactic(auto, unfolding(cax64_machine_code::specs::Rows::line_of))]
+    fn operands(&self) -> Operands<R> {
+        Operands::Two(Operand::ReadAmode(self.m64), Operand::Imm(Immediate::Simm32(self.imm32.value(), Extension::SignExtendQuad)))
+    }
+
+    fn visit<V: RegisterVisitor<R>>(&mut self, visitor: &mut V) {
+        visitor.read_amode(&mut self.m64);
+    }
+}
+
+/// Add with carry sign-extended `imm8` to `m32`. Locked.
+#[derive(Drop)]
+pub struct lock_adcl_mi_sxb<R: Registers> {
+    pub m32: Amode<R::ReadGpr>,
+    pub imm8: Simm8,
+}
+
+impl<R: Registers> lock_adcl_mi_sxb<R> {
+    pub fn new(m32: Amode<R::ReadGpr>, imm8: Simm8) -> Self
+        ensures m32 { result.m32 ≡ m32 }
+        ensures imm8 { result.imm8 ≡ imm8 }
+    {
+        lock_adcl_mi_sxb { m32, imm8 }
+    }
+}
+
+impl<R: Registers> RowAndOperands for lock_adcl_mi_sxb<R> {
+    type Family = R;
+
+    ghost row_of = { λ _. row.lock_adcl_mi_sxb };
+
+    ghost operands_of = { operands_lock_adcl_mi_sxb };
+
+    fn row(&self) -> Row {
+        Row::lock_adcl_mi_sxb
+    }
+
+    #[tactic(auto, unfolding(cax64_machine_code::specs::Rows::line_of))]
+    fn operands(&self) -> Operands<R> {
+        Operands::Two(Operand::ReadAmode(self.m32), Operand::Imm(Immediate::Simm8(self.imm8.value(), Extension::SignExtendLong)))
+    }
+
+    fn visit<V: RegisterVisitor<R>>(&mut self, visitor: &mut V) {
+        visitor.read_amode(&mut self.m32);
+    }
+}
+
+/// Add with carry sign-extended `imm8` to `m64`. Locked.
+#[derive(Drop)]
+pub struct lock_adcq_mi_sxb<R: Registers> {
+    pub m64: Amode<R::ReadGpr>,
+    pub imm8: Simm8,
+}
+
+impl<R: Registers> lock_adcq_mi_sxb<R> {
+    pub fn new(m64: Amode<R::ReadGpr>, imm8: Simm8) -> Self
+        ensures m64 { result.m64 ≡ m64 }
+        ensures imm8 { result.imm8 ≡ imm8 }
+    {
+        lock_adcq_mi_sxb { m64, imm8 }
+    }
+}
+
+impl<R: Registers> RowAndOperands for lock_adcq_mi_sxb<R> {
+    type Family = R;
+
+    ghost row_of = { λ _. row.lock_adcq_mi_sxb };
+
+    ghost operands_of = { operands_lock_adcq_mi_sxb };
+
+    fn row(&self) -> Row {
+        Row::lock_adcq_mi_sxb
+    }
+
+    #[tactic(auto, unfolding(cax64_machine_code::specs::Rows::line_of))]
+    fn operands(&self) -> Operands<R> {
+        Operands::Two(Operand::ReadAmode(self.m64), Operand::Imm(Immediate::Simm8(self.imm8.value(), Extension::SignExtendQuad)))
+    }
+
+    fn visit<V: RegisterVisitor<R>>(&mut self, visitor: &mut V) {
+        visitor.read_amode(&mut self.m64);
+    }
+}
+
+/// Add with carry `r8` to `m8`. Locked.
+#[derive(Drop)]
+pub struct lock_adcb_mr<R: Registers> {
+    pub m8: Amode<R::ReadGpr>,
+    pub r8: Gpr<R::ReadGpr>,
+}
+
+impl<R: Registers> lock_adcb_mr<R> {
+    pub fn new(m8: Amode<R::ReadGpr>, r8: Gpr<R::ReadGpr>) -> Self
+        ensures m8 { result.m8 ≡ m8 }
+        ensures r8 { result.r8 ≡ r8 }
+    {
+        lock_adcb_mr { m8, r8 }
+    }
+}
+
+impl<R: Registers> RowAndOperands for lock_adcb_mr<R> {
+    type Family = R;
+
+    ghost row_of = { λ _. row.lock_adcb_mr };
+
+    ghost operands_of = { operands_lock_adcb_mr };
+
+    fn row(&self) -> Row {
+        Row::lock_adcb_mr
+    }
+
+    #[tactic(auto, unfolding(cax64_machine_code::specs::Rows::line_of))]
+    fn operands(&self) -> Operands<R> {
+        Operands::Two(Operand::ReadAmode(self.m8), Operand::ReadGpr(*self.r8.as_ref(), Size::Byte))
+    }
+
+    fn visit<V: RegisterVisitor<R>>(&mut self, visitor: &mut V) {
+        visitor.read_amode(&mut self.m8);
+        visitor.read_gpr(self.r8.as_mut());
+    }
+}
+
+/// Add with carry `r16` to `m16`. Locked.
+#[derive(Drop)]
+pub struct lock_adcw_mr<R: Registers> {
+    pub m16: Amode<R::ReadGpr>,
+    pub r16: Gpr<R::ReadGpr>,
+}
+
+impl<R: Registers> lock_adcw_mr<R> {
+    pub fn new(m16: Amode<R::ReadGpr>, r16: Gpr<R::ReadGpr>) -> Self
+        ensures m16 { result.m16 ≡ m16 }
+        ensures r16 { result.r16 ≡ r16 }
+    {
+        lock_adcw_mr { m16, r16 }
+    }
+}
+
+impl<R: Registers> RowAndOperands for lock_adcw_mr<R> {
+    type Family = R;
+
+    ghost row_of = { λ _. row.lock_adcw_mr };
+
+    ghost operands_of = { operands_lock_adcw_mr };
+
+    fn row(&self) -> Row {
+        Row::lock_adcw_mr
+    }
+
+    #[tactic(auto, unfolding(cax64_machine_code::specs::Rows::line_of))]
+    fn operands(&self) -> Operands<R> {
+        Operands::Two(Operand::ReadAmode(self.m16), Operand::ReadGpr(*self.r16.as_ref(), Size::Word))
+    }
+
+    fn visit<V: RegisterVisitor<R>>(&mut self, visitor: &mut V) {
+        visitor.read_amode(&mut self.m16);
+        visitor.read_gpr(self.r16.as_mut());
+    }
+}
+
+/// Add with carry `r32` to `m32`. Locked.
+#[derive(Drop)]
+pub struct lock_adcl_mr<R: Registers> {
+    pub m32: Amode<R::ReadGpr>,
+    pub r32: Gpr<R::ReadGpr>,
+}
+
+impl<R: Registers> lock_adcl_mr<R> {
+    pub fn new(m32: Amode<R::ReadGpr>, r32: Gpr<R::ReadGpr>) -> Self
+        ensures m32 { result.m32 ≡ m32 }
+        ensures r32 { result.r32 ≡ r32 }
+    {
+        lock_adcl_mr { m32, r32 }
+    }
+}
+
+impl<R: Registers> RowAndOperands for lock_adcl_mr<R> {
+    type Family = R;
+
+    ghost row_of = { λ _. row.lock_adcl_mr };
+
+    ghost operands_of = { operands_lock_adcl_mr };
+
+    fn row(&self) -> Row {
+        Row::lock_adcl_mr
+    }
+
+    #[tactic(auto, unfolding(cax64_machine_code::specs::Rows::line_of))]
+    fn operands(&self) -> Operands<R> {
+        Operands::Two(Operand::ReadAmode(self.m32), Operand::ReadGpr(*self.r32.as_ref(), Size::Doubleword))
+    }
+
+    fn visit<V: RegisterVisitor<R>>(&mut self, visitor: &mut V) {
+        visitor.read_amode(&mut self.m32);
+        visitor.read_gpr(self.r32.as_mut());
+    }
+}
+
+/// Add with carry `r64` to `m64`. Locked.
+#[derive(Drop)]
+pub struct lock_adcq_mr<R: Registers> {
+    pub m64: Amode<R::ReadGpr>,
+    pub r64: Gpr<R::ReadGpr>,
+}
+
+impl<R: Registers> lock_adcq_mr<R> {
+    pub fn new(m64: Amode<R::ReadGpr>, r64: Gpr<R::ReadGpr>) -> Self
+        ensures m64 { result.m64 ≡ m64 }
+        ensures r64 { result.r64 ≡ r64 }
+    {
+        lock_adcq_mr { m64, r64 }
+    }
+}
+
+impl<R: Registers> RowAndOperands for lock_adcq_mr<R> {
+    type Family = R;
+
+    ghost row_of = { λ _. row.lock_adcq_mr };
+
+    ghost operands_of = { operands_lock_adcq_mr };
+
+    fn row(&self) -> Row {
+        Row::lock_adcq_mr
+    }
+
+    #[tactic(auto, unfolding(cax64_machine_code::specs::Rows::line_of))]
+    fn operands(&self) -> Operands<R> {
+        Operands::Two(Operand::ReadAmode(self.m64), Operand::ReadGpr(*self.r64.as_ref(), Size::Quadword))
+    }
+
+    fn visit<V: RegisterVisitor<R>>(&mut self, visitor: &mut V) {
+        visitor.read_amode(&mut self.m64);
+        visitor.read_gpr(self.r64.as_mut());
+    }
+}

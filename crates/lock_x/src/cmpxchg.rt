@@ -1,0 +1,226 @@
+//! `lock cmpxchg`. (Intel SDM, volume 2, `CMPXCHG` and `CMPXCHG8B/CMPXCHG16B`.)
+
+ghost use Rattle.std.specs.Prelude.{◌≡◌};
+ghost use Rattle.cax64_machine_code.specs.declared.row.Row.TheVariants as row;
+ghost use Rattle.lock_x.specs.Operands.{operands_lock_cmpxchgb_mr, operands_lock_cmpxchgw_mr, operands_lock_cmpxchgl_mr, operands_lock_cmpxchgq_mr, operands_lock_cmpxchg16b_m};
+
+use cax64_address::amode::Amode;
+use cax64_machine_code::row::Row;
+use cax64_operand::{Operand, Operands, RegisterVisitor, RowAndOperands};
+use cax64_register::{Fixed, Gpr, Registers, Size};
+
+/// Compare `al` with `m8`. If equal, ZF is set and `r8` is loaded into `m8`. Else, clear ZF and load `m8` into `al`.
+/// Locked.
+#[derive(Drop)]
+pub struct lock_cmpxchgb_mr<R: Registers> {
+    pub m8: Amode<R::ReadGpr>,
+    pub r8: Gpr<R::ReadGpr>,
+    pub al: Fixed<R::ReadWriteGpr, 0>,
+}
+
+impl<R: Registers> lock_cmpxchgb_mr<R> {
+    pub fn new(m8: Amode<R::ReadGpr>, r8: Gpr<R::ReadGpr>, al: Fixed<R::ReadWriteGpr, 0>) -> Self
+        ensures m8 { result.m8 ≡ m8 }
+        ensures r8 { result.r8 ≡ r8 }
+        ensures al { result.al ≡ al }
+    {
+        lock_cmpxchgb_mr { m8, r8, al }
+    }
+}
+
+impl<R: Registers> RowAndOperands for lock_cmpxchgb_mr<R> {
+    type Family = R;
+
+    ghost row_of = { λ _. row.lock_cmpxchgb_mr };
+
+    ghost operands_of = { operands_lock_cmpxchgb_mr };
+
+    fn row(&self) -> Row {
+        Row::lock_cmpxchgb_mr
+    }
+
+    #[tactic(auto, unfolding(cax64_machine_code::specs::Rows::line_of))]
+    fn operands(&self) -> Operands<R> {
+        Operands::Three(Operand::ReadAmode(self.m8), Operand::ReadGpr(*self.r8.as_ref(), Size::Byte), Operand::FixedReadWriteGpr(self.al.0, 0, None))
+    }
+
+    fn visit<V: RegisterVisitor<R>>(&mut self, visitor: &mut V) {
+        visitor.read_amode(&mut self.m8);
+        visitor.read_gpr(self.r8.as_mut());
+        visitor.fixed_read_write_gpr(&mut self.al.0, 0);
+    }
+}
+
+/// Compare `ax` with `m16`. If equal, ZF is set and `r16` is loaded into `m16`. Else, clear ZF and load `m16` into
+/// `ax`. Locked.
+#[derive(Drop)]
+pub struct lock_cmpxchgw_mr<R: Registers> {
+    pub m16: Amode<R::ReadGpr>,
+    pub r16: Gpr<R::ReadGpr>,
+    pub ax: Fixed<R::ReadWriteGpr, 0>,
+}
+
+impl<R: Registers> lock_cmpxchgw_mr<R> {
+    pub fn new(m16: Amode<R::ReadGpr>, r16: Gpr<R::ReadGpr>, ax: Fixed<R::ReadWriteGpr, 0>) -> Self
+        ensures m16 { result.m16 ≡ m16 }
+        ensures r16 { result.r16 ≡ r16 }
+        ensures ax { result.ax ≡ ax }
+    {
+        lock_cmpxchgw_mr { m16, r16, ax }
+    }
+}
+
+impl<R: Registers> RowAndOperands for lock_cmpxchgw_mr<R> {
+    type Family = R;
+
+    ghost row_of = { λ _. row.lock_cmpxchgw_mr };
+
+    ghost operands_of = { operands_lock_cmpxchgw_mr };
+
+    fn row(&self) -> Row {
+        Row::lock_cmpxchgw_mr
+    }
+
+    #[tactic(auto, unfolding(cax64_machine_code::specs::Rows::line_of))]
+    fn operands(&self) -> Operands<R> {
+        Operands::Three(Operand::ReadAmode(self.m16), Operand::ReadGpr(*self.r16.as_ref(), Size::Word), Operand::FixedReadWriteGpr(self.ax.0, 0, None))
+    }
+
+    fn visit<V: RegisterVisitor<R>>(&mut self, visitor: &mut V) {
+        visitor.read_amode(&mut self.m16);
+        visitor.read_gpr(self.r16.as_mut());
+        visitor.fixed_read_write_gpr(&mut self.ax.0, 0);
+    }
+}
+
+/// Compare `eax` with `m32`. If equal, ZF is set and `r32` is loaded into `m32`. Else, clear ZF and load `m32` into
+/// `eax`. Locked.
+#[derive(Drop)]
+pub struct lock_cmpxchgl_mr<R: Registers> {
+    pub m32: Amode<R::ReadGpr>,
+    pub r32: Gpr<R::ReadGpr>,
+    pub eax: Fixed<R::ReadWriteGpr, 0>,
+}
+
+impl<R: Registers> lock_cmpxchgl_mr<R> {
+    pub fn new(m32: Amode<R::ReadGpr>, r32: Gpr<R::ReadGpr>, eax: Fixed<R::ReadWriteGpr, 0>) -> Self
+        ensures m32 { result.m32 ≡ m32 }
+        ensures r32 { result.r32 ≡ r32 }
+        ensures eax { result.eax ≡ eax }
+    {
+        lock_cmpxchgl_mr { m32, r32, eax }
+    }
+}
+
+impl<R: Registers> RowAndOperands for lock_cmpxchgl_mr<R> {
+    type Family = R;
+
+    ghost row_of = { λ _. row.lock_cmpxchgl_mr };
+
+    ghost operands_of = { operands_lock_cmpxchgl_mr };
+
+    fn row(&self) -> Row {
+        Row::lock_cmpxchgl_mr
+    }
+
+    #[tactic(auto, unfolding(cax64_machine_code::specs::Rows::line_of))]
+    fn operands(&self) -> Operands<R> {
+        Operands::Three(Operand::ReadAmode(self.m32), Operand::ReadGpr(*self.r32.as_ref(), Size::Doubleword), Operand::FixedReadWriteGpr(self.eax.0, 0, None))
+    }
+
+    fn visit<V: RegisterVisitor<R>>(&mut self, visitor: &mut V) {
+        visitor.read_amode(&mut self.m32);
+        visitor.read_gpr(self.r32.as_mut());
+        visitor.fixed_read_write_gpr(&mut self.eax.0, 0);
+    }
+}
+
+/// Compare `rax` with `m64`. If equal, ZF is set and `r64` is loaded into `m64`. Else, clear ZF and load `m64` into
+/// `rax`. Locked.
+#[derive(Drop)]
+pub struct lock_cmpxchgq_mr<R: Registers> {
+    pub m64: Amode<R::ReadGpr>,
+    pub r64: Gpr<R::ReadGpr>,
+    pub rax: Fixed<R::ReadWriteGpr, 0>,
+}
+
+impl<R: Registers> lock_cmpxchgq_mr<R> {
+    pub fn new(m64: Amode<R::ReadGpr>, r64: Gpr<R::ReadGpr>, rax: Fixed<R::ReadWriteGpr, 0>) -> Self
+        ensures m64 { result.m64 ≡ m64 }
+        ensures r64 { result.r64 ≡ r64 }
+        ensures rax { result.rax ≡ rax }
+    {
+        lock_cmpxchgq_mr { m64, r64, rax }
+    }
+}
+
+impl<R: Registers> RowAndOperands for lock_cmpxchgq_mr<R> {
+    type Family = R;
+
+    ghost row_of = { λ _. row.lock_cmpxchgq_mr };
+
+    ghost operands_of = { operands_lock_cmpxchgq_mr };
+
+    fn row(&self) -> Row {
+        Row::lock_cmpxchgq_mr
+    }
+
+    #[tactic(auto, unfolding(cax64_machine_code::specs::Rows::line_of))]
+    fn operands(&self) -> Operands<R> {
+        Operands::Three(Operand::ReadAmode(self.m64), Operand::ReadGpr(*self.r64.as_ref(), Size::Quadword), Operand::FixedReadWriteGpr(self.rax.0, 0, None))
+    }
+
+    fn visit<V: RegisterVisitor<R>>(&mut self, visitor: &mut V) {
+        visitor.read_amode(&mut self.m64);
+        visitor.read_gpr(self.r64.as_mut());
+        visitor.fixed_read_write_gpr(&mut self.rax.0, 0);
+    }
+}
+
+/// Compare `rdx:rax` with `m128`. If equal, set ZF and load `rcx:rbx` into `m128`. Else, clear ZF and load `m128` into
+/// `rdx:rax`. Locked.
+#[derive(Drop)]
+pub struct lock_cmpxchg16b_m<R: Registers> {
+    pub m128: Amode<R::ReadGpr>,
+    pub rax: Fixed<R::ReadWriteGpr, 0>,
+    pub rdx: Fixed<R::ReadWriteGpr, 2>,
+    pub rcx: Fixed<R::ReadGpr, 1>,
+    pub rbx: Fixed<R::ReadGpr, 3>,
+}
+
+impl<R: Registers> lock_cmpxchg16b_m<R> {
+    pub fn new(m128: Amode<R::ReadGpr>, rax: Fixed<R::ReadWriteGpr, 0>, rdx: Fixed<R::ReadWriteGpr, 2>, rcx: Fixed<R::ReadGpr, 1>, rbx: Fixed<R::ReadGpr, 3>) -> Self
+        ensures m128 { result.m128 ≡ m128 }
+        ensures rax { result.rax ≡ rax }
+        ensures rdx { result.rdx ≡ rdx }
+        ensures rcx { result.rcx ≡ rcx }
+        ensures rbx { result.rbx ≡ rbx }
+    {
+        lock_cmpxchg16b_m { m128, rax, rdx, rcx, rbx }
+    }
+}
+
+impl<R: Registers> RowAndOperands for lock_cmpxchg16b_m<R> {
+    type Family = R;
+
+    ghost row_of = { λ _. row.lock_cmpxchg16b_m };
+
+    ghost operands_of = { operands_lock_cmpxchg16b_m };
+
+    fn row(&self) -> Row {
+        Row::lock_cmpxchg16b_m
+    }
+
+    #[tactic(auto, unfolding(cax64_machine_code::specs::Rows::line_of))]
+    fn operands(&self) -> Operands<R> {
+        Operands::Five(Operand::ReadAmode(self.m128), Operand::FixedReadWriteGpr(self.rax.0, 0, None), Operand::FixedReadWriteGpr(self.rdx.0, 2, None), Operand::FixedReadGpr(self.rcx.0, 1, None), Operand::FixedReadGpr(self.rbx.0, 3, None))
+    }
+
+    fn visit<V: RegisterVisitor<R>>(&mut self, visitor: &mut V) {
+        visitor.read_amode(&mut self.m128);
+        visitor.fixed_read_write_gpr(&mut self.rax.0, 0);
+        visitor.fixed_read_write_gpr(&mut self.rdx.0, 2);
+        visitor.fixed_read_gpr(&mut self.rcx.0, 1);
+        visitor.fixed_read_gpr(&mut self.rbx.0, 3);
+    }
+}

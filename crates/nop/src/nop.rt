@@ -1,0 +1,324 @@
+//! Instructions that do nothing. (Intel SDM, volume 2, `NOP`, table 4-12.)
+
+ghost use Rattle.cax64_machine_code.specs.declared.row.Row.TheVariants as row;
+ghost use Rattle.cax64_operand.specs.Run.{OperandsRun};
+ghost use Rattle.nop.specs.Operands.{operands_nop_1b, operands_nop_2b, operands_nop_3b, operands_nop_4b, operands_nop_5b, operands_nop_6b, operands_nop_7b, operands_nop_8b, operands_nop_9b};
+
+use cax64_machine_code::row::Row;
+use cax64_operand::{Nop, Numbers, Operands, RegisterVisitor, RowAndOperands};
+use cax64_register::Registers;
+
+/// No operation, in one byte.
+#[derive(Drop)]
+pub struct nop_1b;
+
+impl nop_1b {
+    pub fn new() -> Self {
+        nop_1b
+    }
+
+    /// It has no registers; the visitor stays as it is.
+    pub fn visit<R: Registers, V: RegisterVisitor<R>>(&mut self, visitor: &mut V)
+        ensures { OperandsRun R.WriteGpr.eq V.steps visitor.old (operands_nop_1b {R = R} self.old) (operands_nop_1b {R = R} self.new) visitor.new }
+    {}
+}
+
+impl RowAndOperands for nop_1b {
+    type Family = Numbers;
+
+    ghost row_of = { λ _. row.nop_1b };
+
+    ghost operands_of = { operands_nop_1b };
+
+    fn row(&self) -> Row {
+        Row::nop_1b
+    }
+
+    fn operands(&self) -> Operands<Numbers> {
+        Operands::Nop(Nop::One)
+    }
+
+    fn visit<V: RegisterVisitor<Numbers>>(&mut self, visitor: &mut V) {
+        nop_1b::visit(self, visitor);
+    }
+}
+
+/// No operation, in two bytes.
+#[derive(Drop)]
+pub struct nop_2b;
+
+impl nop_2b {
+    pub fn new() -> Self {
+        nop_2b
+    }
+
+    /// It has no registers; the visitor stays as it is.
+    pub fn visit<R: Registers, V: RegisterVisitor<R>>(&mut self, visitor: &mut V)
+        ensures { OperandsRun R.WriteGpr.eq V.steps visitor.old (operands_nop_2b {R = R} self.old) (operands_nop_2b {R = R} self.new) visitor.new }
+    {}
+}
+
+impl RowAndOperands for nop_2b {
+    type Family = Numbers;
+
+    ghost row_of = { λ _. row.nop_2b };
+
+    ghost operands_of = { operands_nop_2b };
+
+    fn row(&self) -> Row {
+        Row::nop_2b
+    }
+
+    fn operands(&self) -> Operands<Numbers> {
+        Operands::Nop(Nop::Two)
+    }
+
+    fn visit<V: RegisterVisitor<Numbers>>(&mut self, visitor: &mut V) {
+        nop_2b::visit(self, visitor);
+    }
+}
+
+/// No operation, in three bytes.
+#[derive(Drop)]
+pub struct nop_3b;
+
+impl nop_3b {
+    pub fn new() -> Self {
+        nop_3b
+    }
+
+    /// It has no registers; the visitor stays as it is.
+    pub fn visit<R: Registers, V: RegisterVisitor<R>>(&mut self, visitor: &mut V)
+        ensures { OperandsRun R.WriteGpr.eq V.steps visitor.old (operands_nop_3b {R = R} self.old) (operands_nop_3b {R = R} self.new) visitor.new }
+    {}
+}
+
+impl RowAndOperands for nop_3b {
+    type Family = Numbers;
+
+    ghost row_of = { λ _. row.nopl_rm };
+
+    ghost operands_of = { operands_nop_3b };
+
+    fn row(&self) -> Row {
+        Row::nopl_rm
+    }
+
+    fn operands(&self) -> Operands<Numbers> {
+        Operands::Nop(Nop::Three)
+    }
+
+    fn visit<V: RegisterVisitor<Numbers>>(&mut self, visitor: &mut V) {
+        nop_3b::visit(self, visitor);
+    }
+}
+
+/// No operation, in four bytes.
+#[derive(Drop)]
+pub struct nop_4b;
+
+impl nop_4b {
+    pub fn new() -> Self {
+        nop_4b
+    }
+
+    /// It has no registers; the visitor stays as it is.
+    pub fn visit<R: Registers, V: RegisterVisitor<R>>(&mut self, visitor: &mut V)
+        ensures { OperandsRun R.WriteGpr.eq V.steps visitor.old (operands_nop_4b {R = R} self.old) (operands_nop_4b {R = R} self.new) visitor.new }
+    {}
+}
+
+impl RowAndOperands for nop_4b {
+    type Family = Numbers;
+
+    ghost row_of = { λ _. row.nopl_rm };
+
+    ghost operands_of = { operands_nop_4b };
+
+    fn row(&self) -> Row {
+        Row::nopl_rm
+    }
+
+    fn operands(&self) -> Operands<Numbers> {
+        Operands::Nop(Nop::Four)
+    }
+
+    fn visit<V: RegisterVisitor<Numbers>>(&mut self, visitor: &mut V) {
+        nop_4b::visit(self, visitor);
+    }
+}
+
+/// No operation, in five bytes.
+#[derive(Drop)]
+pub struct nop_5b;
+
+impl nop_5b {
+    pub fn new() -> Self {
+        nop_5b
+    }
+
+    /// It has no registers; the visitor stays as it is.
+    pub fn visit<R: Registers, V: RegisterVisitor<R>>(&mut self, visitor: &mut V)
+        ensures { OperandsRun R.WriteGpr.eq V.steps visitor.old (operands_nop_5b {R = R} self.old) (operands_nop_5b {R = R} self.new) visitor.new }
+    {}
+}
+
+impl RowAndOperands for nop_5b {
+    type Family = Numbers;
+
+    ghost row_of = { λ _. row.nopl_rm };
+
+    ghost operands_of = { operands_nop_5b };
+
+    fn row(&self) -> Row {
+        Row::nopl_rm
+    }
+
+    fn operands(&self) -> Operands<Numbers> {
+        Operands::Nop(Nop::Five)
+    }
+
+    fn visit<V: RegisterVisitor<Numbers>>(&mut self, visitor: &mut V) {
+        nop_5b::visit(self, visitor);
+    }
+}
+
+/// No operation, in six bytes.
+#[derive(Drop)]
+pub struct nop_6b;
+
+impl nop_6b {
+    pub fn new() -> Self {
+        nop_6b
+    }
+
+    /// It has no registers; the visitor stays as it is.
+    pub fn visit<R: Registers, V: RegisterVisitor<R>>(&mut self, visitor: &mut V)
+        ensures { OperandsRun R.WriteGpr.eq V.steps visitor.old (operands_nop_6b {R = R} self.old) (operands_nop_6b {R = R} self.new) visitor.new }
+    {}
+}
+
+impl RowAndOperands for nop_6b {
+    type Family = Numbers;
+
+    ghost row_of = { λ _. row.nopw_rm };
+
+    ghost operands_of = { operands_nop_6b };
+
+    fn row(&self) -> Row {
+        Row::nopw_rm
+    }
+
+    fn operands(&self) -> Operands<Numbers> {
+        Operands::Nop(Nop::Six)
+    }
+
+    fn visit<V: RegisterVisitor<Numbers>>(&mut self, visitor: &mut V) {
+        nop_6b::visit(self, visitor);
+    }
+}
+
+/// No operation, in seven bytes.
+#[derive(Drop)]
+pub struct nop_7b;
+
+impl nop_7b {
+    pub fn new() -> Self {
+        nop_7b
+    }
+
+    /// It has no registers; the visitor stays as it is.
+    pub fn visit<R: Registers, V: RegisterVisitor<R>>(&mut self, visitor: &mut V)
+        ensures { OperandsRun R.WriteGpr.eq V.steps visitor.old (operands_nop_7b {R = R} self.old) (operands_nop_7b {R = R} self.new) visitor.new }
+    {}
+}
+
+impl RowAndOperands for nop_7b {
+    type Family = Numbers;
+
+    ghost row_of = { λ _. row.nopl_rm };
+
+    ghost operands_of = { operands_nop_7b };
+
+    fn row(&self) -> Row {
+        Row::nopl_rm
+    }
+
+    fn operands(&self) -> Operands<Numbers> {
+        Operands::Nop(Nop::Seven)
+    }
+
+    fn visit<V: RegisterVisitor<Numbers>>(&mut self, visitor: &mut V) {
+        nop_7b::visit(self, visitor);
+    }
+}
+
+/// No operation, in eight bytes.
+#[derive(Drop)]
+pub struct nop_8b;
+
+impl nop_8b {
+    pub fn new() -> Self {
+        nop_8b
+    }
+
+    /// It has no registers; the visitor stays as it is.
+    pub fn visit<R: Registers, V: RegisterVisitor<R>>(&mut self, visitor: &mut V)
+        ensures { OperandsRun R.WriteGpr.eq V.steps visitor.old (operands_nop_8b {R = R} self.old) (operands_nop_8b {R = R} self.new) visitor.new }
+    {}
+}
+
+impl RowAndOperands for nop_8b {
+    type Family = Numbers;
+
+    ghost row_of = { λ _. row.nopl_rm };
+
+    ghost operands_of = { operands_nop_8b };
+
+    fn row(&self) -> Row {
+        Row::nopl_rm
+    }
+
+    fn operands(&self) -> Operands<Numbers> {
+        Operands::Nop(Nop::Eight)
+    }
+
+    fn visit<V: RegisterVisitor<Numbers>>(&mut self, visitor: &mut V) {
+        nop_8b::visit(self, visitor);
+    }
+}
+
+/// No operation, in nine bytes.
+#[derive(Drop)]
+pub struct nop_9b;
+
+impl nop_9b {
+    pub fn new() -> Self {
+        nop_9b
+    }
+
+    /// It has no registers; the visitor stays as it is.
+    pub fn visit<R: Registers, V: RegisterVisitor<R>>(&mut self, visitor: &mut V)
+        ensures { OperandsRun R.WriteGpr.eq V.steps visitor.old (operands_nop_9b {R = R} self.old) (operands_nop_9b {R = R} self.new) visitor.new }
+    {}
+}
+
+impl RowAndOperands for nop_9b {
+    type Family = Numbers;
+
+    ghost row_of = { λ _. row.nopw_rm };
+
+    ghost operands_of = { operands_nop_9b };
+
+    fn row(&self) -> Row {
+        Row::nopw_rm
+    }
+
+    fn operands(&self) -> Operands<Numbers> {
+        Operands::Nop(Nop::Nine)
+    }
+
+    fn visit<V: RegisterVisitor<Numbers>>(&mut self, visitor: &mut V) {
+        nop_9b::visit(self, visitor);
+    }
+}

@@ -1,0 +1,51 @@
+//! `andps`. (Intel SDM, volume 2, `ANDPS`.)
+
+ghost use Rattle.std.specs.Prelude.{◌≡◌};
+ghost use Rattle.cax64_machine_code.specs.declared.row.Row.TheVariants as row;
+ghost use Rattle.simd.specs.Operands.{operands_andps_a};
+
+use cax64_address::operand::XmmMem;
+use cax64_machine_code::row::Row;
+use cax64_operand::{Operand, Operands, RegisterVisitor, RowAndOperands};
+use cax64_register::{Registers, Xmm};
+
+/// Bitwise logical AND of packed single precision floating-point values in `xmm1` and `xmm_m128`.
+#[derive(Drop)]
+pub struct andps_a<R: Registers> {
+    pub xmm1: Xmm<R::ReadWriteXmm>,
+    pub xmm_m128: XmmMem<R::ReadXmm, R::ReadGpr>,
+}
+
+impl<R: Registers> andps_a<R> {
+    pub fn new(xmm1: Xmm<R::ReadWriteXmm>, xmm_m128: XmmMem<R::ReadXmm, R::ReadGpr>) -> Self
+        ensures xmm1 { result.xmm1 ≡ xmm1 }
+        ensures xmm_m128 { result.xmm_m128 ≡ xmm_m128 }
+    {
+        andps_a { xmm1, xmm_m128 }
+    }
+}
+
+impl<R: Registers> RowAndOperands for andps_a<R> {
+    type Family = R;
+
+    ghost row_of = { λ _. row.andps_a };
+
+    ghost operands_of = { operands_andps_a };
+
+    fn row(&self) -> Row {
+        Row::andps_a
+    }
+
+    #[tactic(auto, unfolding(cax64_machine_code::specs::Rows::line_of))]
+    fn operands(&self) -> Operands<R> {
+        Operands::Two(
+            Operand::ReadWriteXmm(*self.xmm1.as_ref()),
+            Operand::ReadXmmMem(self.xmm_m128),
+        )
+    }
+
+    fn visit<V: RegisterVisitor<R>>(&mut self, visitor: &mut V) {
+        visitor.read_write_xmm(self.xmm1.as_mut());
+        visitor.read_xmm_mem(&mut self.xmm_m128);
+    }
+}

@@ -1,0 +1,223 @@
+//! Comparisons. (Intel SDM, volume 2, `CMPPS`, `CMPPD`, `CMPSS` and `CMPSD`.)
+
+ghost use Rattle.std.specs.Prelude.{◌≡◌};
+ghost use Rattle.cax64_machine_code.specs.declared.row.Row.TheVariants as row;
+ghost use Rattle.simd.specs.Operands.{operands_cmpps_a, operands_cmppd_a, operands_cmpss_a, operands_cmpsd_a};
+
+use cax64_address::operand::XmmMem;
+use cax64_immediate::Imm8;
+use cax64_machine_code::row::Row;
+use cax64_operand::{Immediate, Operand, Operands, RegisterVisitor, RowAndOperands};
+use cax64_register::{Registers, Xmm};
+
+/// Compare packed single precision floating-point values in `xmm_m128` and `xmm1` using bits 2:0 of `imm8` as a
+/// comparison predicate.
+#[derive(Drop)]
+pub struct cmpps_a<R: Registers> {
+    pub xmm1: Xmm<R::ReadWriteXmm>,
+    pub xmm_m128: XmmMem<R::ReadXmm, R::ReadGpr>,
+    pub imm8: Imm8,
+}
+
+impl<R: Registers> cmpps_a<R> {
+    pub fn new(
+        xmm1: Xmm<R::ReadWriteXmm>,
+        xmm_m128: XmmMem<R::ReadXmm, R::ReadGpr>,
+        imm8: Imm8,
+    ) -> Self
+        ensures xmm1 { result.xmm1 ≡ xmm1 }
+        ensures xmm_m128 { result.xmm_m128 ≡ xmm_m128 }
+        ensures imm8 { result.imm8 ≡ imm8 }
+    {
+        cmpps_a {
+            xmm1,
+            xmm_m128,
+            imm8,
+        }
+    }
+}
+
+impl<R: Registers> RowAndOperands for cmpps_a<R> {
+    type Family = R;
+
+    ghost row_of = { λ _. row.cmpps_a };
+
+    ghost operands_of = { operands_cmpps_a };
+
+    fn row(&self) -> Row {
+        Row::cmpps_a
+    }
+
+    #[tactic(auto, unfolding(cax64_machine_code::specs::Rows::line_of))]
+    fn operands(&self) -> Operands<R> {
+        Operands::Three(
+            Operand::ReadWriteXmm(*self.xmm1.as_ref()),
+            Operand::ReadXmmMem(self.xmm_m128),
+            Operand::Imm(Immediate::Predicate(self.imm8.value())),
+        )
+    }
+
+    fn visit<V: RegisterVisitor<R>>(&mut self, visitor: &mut V) {
+        visitor.read_write_xmm(self.xmm1.as_mut());
+        visitor.read_xmm_mem(&mut self.xmm_m128);
+    }
+}
+
+/// Compare packed double precision floating-point values in `xmm_m128` and `xmm1` using bits 2:0 of `imm8` as a
+/// comparison predicate.
+#[derive(Drop)]
+pub struct cmppd_a<R: Registers> {
+    pub xmm1: Xmm<R::ReadWriteXmm>,
+    pub xmm_m128: XmmMem<R::ReadXmm, R::ReadGpr>,
+    pub imm8: Imm8,
+}
+
+impl<R: Registers> cmppd_a<R> {
+    pub fn new(
+        xmm1: Xmm<R::ReadWriteXmm>,
+        xmm_m128: XmmMem<R::ReadXmm, R::ReadGpr>,
+        imm8: Imm8,
+    ) -> Self
+        ensures xmm1 { result.xmm1 ≡ xmm1 }
+        ensures xmm_m128 { result.xmm_m128 ≡ xmm_m128 }
+        ensures imm8 { result.imm8 ≡ imm8 }
+    {
+        cmppd_a {
+            xmm1,
+            xmm_m128,
+            imm8,
+        }
+    }
+}
+
+impl<R: Registers> RowAndOperands for cmppd_a<R> {
+    type Family = R;
+
+    ghost row_of = { λ _. row.cmppd_a };
+
+    ghost operands_of = { operands_cmppd_a };
+
+    fn row(&self) -> Row {
+        Row::cmppd_a
+    }
+
+    #[tactic(auto, unfolding(cax64_machine_code::specs::Rows::line_of))]
+    fn operands(&self) -> Operands<R> {
+        Operands::Three(
+            Operand::ReadWriteXmm(*self.xmm1.as_ref()),
+            Operand::ReadXmmMem(self.xmm_m128),
+            Operand::Imm(Immediate::Predicate(self.imm8.value())),
+        )
+    }
+
+    fn visit<V: RegisterVisitor<R>>(&mut self, visitor: &mut V) {
+        visitor.read_write_xmm(self.xmm1.as_mut());
+        visitor.read_xmm_mem(&mut self.xmm_m128);
+    }
+}
+
+/// Compare low single precision floating-point value in `xmm_m32` and `xmm1` using bits 2:0 of `imm8` as a comparison
+/// predicate.
+#[derive(Drop)]
+pub struct cmpss_a<R: Registers> {
+    pub xmm1: Xmm<R::ReadWriteXmm>,
+    pub xmm_m32: XmmMem<R::ReadXmm, R::ReadGpr>,
+    pub imm8: Imm8,
+}
+
+impl<R: Registers> cmpss_a<R> {
+    pub fn new(
+        xmm1: Xmm<R::ReadWriteXmm>,
+        xmm_m32: XmmMem<R::ReadXmm, R::ReadGpr>,
+        imm8: Imm8,
+    ) -> Self
+        ensures xmm1 { result.xmm1 ≡ xmm1 }
+        ensures xmm_m32 { result.xmm_m32 ≡ xmm_m32 }
+        ensures imm8 { result.imm8 ≡ imm8 }
+    {
+        cmpss_a {
+            xmm1,
+            xmm_m32,
+            imm8,
+        }
+    }
+}
+
+impl<R: Registers> RowAndOperands for cmpss_a<R> {
+    type Family = R;
+
+    ghost row_of = { λ _. row.cmpss_a };
+
+    ghost operands_of = { operands_cmpss_a };
+
+    fn row(&self) -> Row {
+        Row::cmpss_a
+    }
+
+    #[tactic(auto, unfolding(cax64_machine_code::specs::Rows::line_of))]
+    fn operands(&self) -> Operands<R> {
+        Operands::Three(
+            Operand::ReadWriteXmm(*self.xmm1.as_ref()),
+            Operand::ReadXmmMem(self.xmm_m32),
+            Operand::Imm(Immediate::Predicate(self.imm8.value())),
+        )
+    }
+
+    fn visit<V: RegisterVisitor<R>>(&mut self, visitor: &mut V) {
+        visitor.read_write_xmm(self.xmm1.as_mut());
+        visitor.read_xmm_mem(&mut self.xmm_m32);
+    }
+}
+
+/// Compare low double precision floating-point value in `xmm_m64` and `xmm1` using bits 2:0 of `imm8` as a comparison
+/// predicate.
+#[derive(Drop)]
+pub struct cmpsd_a<R: Registers> {
+    pub xmm1: Xmm<R::ReadWriteXmm>,
+    pub xmm_m64: XmmMem<R::ReadXmm, R::ReadGpr>,
+    pub imm8: Imm8,
+}
+
+impl<R: Registers> cmpsd_a<R> {
+    pub fn new(
+        xmm1: Xmm<R::ReadWriteXmm>,
+        xmm_m64: XmmMem<R::ReadXmm, R::ReadGpr>,
+        imm8: Imm8,
+    ) -> Self
+        ensures xmm1 { result.xmm1 ≡ xmm1 }
+        ensures xmm_m64 { result.xmm_m64 ≡ xmm_m64 }
+        ensures imm8 { result.imm8 ≡ imm8 }
+    {
+        cmpsd_a {
+            xmm1,
+            xmm_m64,
+            imm8,
+        }
+    }
+}
+
+impl<R: Registers> RowAndOperands for cmpsd_a<R> {
+    type Family = R;
+
+    ghost row_of = { λ _. row.cmpsd_a };
+
+    ghost operands_of = { operands_cmpsd_a };
+
+    fn row(&self) -> Row {
+        Row::cmpsd_a
+    }
+
+    #[tactic(auto, unfolding(cax64_machine_code::specs::Rows::line_of))]
+    fn operands(&self) -> Operands<R> {
+        Operands::Three(
+            Operand::ReadWriteXmm(*self.xmm1.as_ref()),
+            Operand::ReadXmmMem(self.xmm_m64),
+            Operand::Imm(Immediate::Predicate(self.imm8.value())),
+        )
+    }
+
+    fn visit<V: RegisterVisitor<R>>(&mut self, visitor: &mut V) {
+        visitor.read_write_xmm(self.xmm1.as_mut());
+        visitor.read_xmm_mem(&mut self.xmm_m64);
+    }
+}

@@ -1,0 +1,247 @@
+//! VEX comparisons. (Intel SDM, volume 2, `CMPPS`, `CMPPD`, `CMPSS` and `CMPSD`.)
+
+ghost use Rattle.std.specs.Prelude.{◌≡◌};
+ghost use Rattle.cax64_machine_code.specs.declared.row.Row.TheVariants as row;
+ghost use Rattle.simd.specs.Operands.{operands_vcmpps_b, operands_vcmppd_b, operands_vcmpss_b, operands_vcmpsd_b};
+
+use cax64_address::operand::XmmMem;
+use cax64_immediate::Imm8;
+use cax64_machine_code::row::Row;
+use cax64_operand::{Immediate, Operand, Operands, RegisterVisitor, RowAndOperands};
+use cax64_register::{Registers, Xmm};
+
+/// Compare packed single precision floating-point values in `xmm_m128` and `xmm2` using bits 4:0 of `imm8` as a
+/// comparison predicate.
+#[derive(Drop)]
+pub struct vcmpps_b<R: Registers> {
+    pub xmm1: Xmm<R::WriteXmm>,
+    pub xmm2: Xmm<R::ReadXmm>,
+    pub xmm_m128: XmmMem<R::ReadXmm, R::ReadGpr>,
+    pub imm8: Imm8,
+}
+
+impl<R: Registers> vcmpps_b<R> {
+    pub fn new(
+        xmm1: Xmm<R::WriteXmm>,
+        xmm2: Xmm<R::ReadXmm>,
+        xmm_m128: XmmMem<R::ReadXmm, R::ReadGpr>,
+        imm8: Imm8,
+    ) -> Self
+        ensures xmm1 { result.xmm1 ≡ xmm1 }
+        ensures xmm2 { result.xmm2 ≡ xmm2 }
+        ensures xmm_m128 { result.xmm_m128 ≡ xmm_m128 }
+        ensures imm8 { result.imm8 ≡ imm8 }
+    {
+        vcmpps_b {
+            xmm1,
+            xmm2,
+            xmm_m128,
+            imm8,
+        }
+    }
+}
+
+impl<R: Registers> RowAndOperands for vcmpps_b<R> {
+    type Family = R;
+
+    ghost row_of = { λ _. row.vcmpps_b };
+
+    ghost operands_of = { operands_vcmpps_b };
+
+    fn row(&self) -> Row {
+        Row::vcmpps_b
+    }
+
+    #[tactic(auto, unfolding(cax64_machine_code::specs::Rows::line_of))]
+    fn operands(&self) -> Operands<R> {
+        Operands::Four(
+            Operand::WriteXmm(*self.xmm1.as_ref()),
+            Operand::ReadXmm(*self.xmm2.as_ref()),
+            Operand::ReadXmmMem(self.xmm_m128),
+            Operand::Imm(Immediate::VexPredicate(self.imm8.value())),
+        )
+    }
+
+    fn visit<V: RegisterVisitor<R>>(&mut self, visitor: &mut V) {
+        visitor.write_xmm(self.xmm1.as_mut());
+        visitor.read_xmm(self.xmm2.as_mut());
+        visitor.read_xmm_mem(&mut self.xmm_m128);
+    }
+}
+
+/// Compare packed double precision floating-point values in `xmm_m128` and `xmm2` using bits 4:0 of `imm8` as a
+/// comparison predicate.
+#[derive(Drop)]
+pub struct vcmppd_b<R: Registers> {
+    pub xmm1: Xmm<R::WriteXmm>,
+    pub xmm2: Xmm<R::ReadXmm>,
+    pub xmm_m128: XmmMem<R::ReadXmm, R::ReadGpr>,
+    pub imm8: Imm8,
+}
+
+impl<R: Registers> vcmppd_b<R> {
+    pub fn new(
+        xmm1: Xmm<R::WriteXmm>,
+        xmm2: Xmm<R::ReadXmm>,
+        xmm_m128: XmmMem<R::ReadXmm, R::ReadGpr>,
+        imm8: Imm8,
+    ) -> Self
+        ensures xmm1 { result.xmm1 ≡ xmm1 }
+        ensures xmm2 { result.xmm2 ≡ xmm2 }
+        ensures xmm_m128 { result.xmm_m128 ≡ xmm_m128 }
+        ensures imm8 { result.imm8 ≡ imm8 }
+    {
+        vcmppd_b {
+            xmm1,
+            xmm2,
+            xmm_m128,
+            imm8,
+        }
+    }
+}
+
+impl<R: Registers> RowAndOperands for vcmppd_b<R> {
+    type Family = R;
+
+    ghost row_of = { λ _. row.vcmppd_b };
+
+    ghost operands_of = { operands_vcmppd_b };
+
+    fn row(&self) -> Row {
+        Row::vcmppd_b
+    }
+
+    #[tactic(auto, unfolding(cax64_machine_code::specs::Rows::line_of))]
+    fn operands(&self) -> Operands<R> {
+        Operands::Four(
+            Operand::WriteXmm(*self.xmm1.as_ref()),
+            Operand::ReadXmm(*self.xmm2.as_ref()),
+            Operand::ReadXmmMem(self.xmm_m128),
+            Operand::Imm(Immediate::VexPredicate(self.imm8.value())),
+        )
+    }
+
+    fn visit<V: RegisterVisitor<R>>(&mut self, visitor: &mut V) {
+        visitor.write_xmm(self.xmm1.as_mut());
+        visitor.read_xmm(self.xmm2.as_mut());
+        visitor.read_xmm_mem(&mut self.xmm_m128);
+    }
+}
+
+/// Compare low single precision floating-point value in `xmm_m32` and `xmm2` using bits 4:0 of `imm8` as a comparison
+/// predicate.
+#[derive(Drop)]
+pub struct vcmpss_b<R: Registers> {
+    pub xmm1: Xmm<R::WriteXmm>,
+    pub xmm2: Xmm<R::ReadXmm>,
+    pub xmm_m32: XmmMem<R::ReadXmm, R::ReadGpr>,
+    pub imm8: Imm8,
+}
+
+impl<R: Registers> vcmpss_b<R> {
+    pub fn new(
+        xmm1: Xmm<R::WriteXmm>,
+        xmm2: Xmm<R::ReadXmm>,
+        xmm_m32: XmmMem<R::ReadXmm, R::ReadGpr>,
+        imm8: Imm8,
+    ) -> Self
+        ensures xmm1 { result.xmm1 ≡ xmm1 }
+        ensures xmm2 { result.xmm2 ≡ xmm2 }
+        ensures xmm_m32 { result.xmm_m32 ≡ xmm_m32 }
+        ensures imm8 { result.imm8 ≡ imm8 }
+    {
+        vcmpss_b {
+            xmm1,
+            xmm2,
+            xmm_m32,
+            imm8,
+        }
+    }
+}
+
+impl<R: Registers> RowAndOperands for vcmpss_b<R> {
+    type Family = R;
+
+    ghost row_of = { λ _. row.vcmpss_b };
+
+    ghost operands_of = { operands_vcmpss_b };
+
+    fn row(&self) -> Row {
+        Row::vcmpss_b
+    }
+
+    #[tactic(auto, unfolding(cax64_machine_code::specs::Rows::line_of))]
+    fn operands(&self) -> Operands<R> {
+        Operands::Four(
+            Operand::WriteXmm(*self.xmm1.as_ref()),
+            Operand::ReadXmm(*self.xmm2.as_ref()),
+            Operand::ReadXmmMem(self.xmm_m32),
+            Operand::Imm(Immediate::VexPredicate(self.imm8.value())),
+        )
+    }
+
+    fn visit<V: RegisterVisitor<R>>(&mut self, visitor: &mut V) {
+        visitor.write_xmm(self.xmm1.as_mut());
+        visitor.read_xmm(self.xmm2.as_mut());
+        visitor.read_xmm_mem(&mut self.xmm_m32);
+    }
+}
+
+/// Compare low double precision floating-point value in `xmm_m64` and `xmm2` using bits 4:0 of `imm8` as a comparison
+/// predicate.
+#[derive(Drop)]
+pub struct vcmpsd_b<R: Registers> {
+    pub xmm1: Xmm<R::WriteXmm>,
+    pub xmm2: Xmm<R::ReadXmm>,
+    pub xmm_m64: XmmMem<R::ReadXmm, R::ReadGpr>,
+    pub imm8: Imm8,
+}
+
+impl<R: Registers> vcmpsd_b<R> {
+    pub fn new(
+        xmm1: Xmm<R::WriteXmm>,
+        xmm2: Xmm<R::ReadXmm>,
+        xmm_m64: XmmMem<R::ReadXmm, R::ReadGpr>,
+        imm8: Imm8,
+    ) -> Self
+        ensures xmm1 { result.xmm1 ≡ xmm1 }
+        ensures xmm2 { result.xmm2 ≡ xmm2 }
+        ensures xmm_m64 { result.xmm_m64 ≡ xmm_m64 }
+        ensures imm8 { result.imm8 ≡ imm8 }
+    {
+        vcmpsd_b {
+            xmm1,
+            xmm2,
+            xmm_m64,
+            imm8,
+        }
+    }
+}
+
+impl<R: Registers> RowAndOperands for vcmpsd_b<R> {
+    type Family = R;
+
+    ghost row_of = { λ _. row.vcmpsd_b };
+
+    ghost operands_of = { operands_vcmpsd_b };
+
+    fn row(&self) -> Row {
+        Row::vcmpsd_b
+    }
+
+    #[tactic(auto, unfolding(cax64_machine_code::specs::Rows::line_of))]
+    fn operands(&self) -> Operands<R> {
+        Operands::Four(
+            Operand::WriteXmm(*self.xmm1.as_ref()),
+            Operand::ReadXmm(*self.xmm2.as_ref()),
+            Operand::ReadXmmMem(self.xmm_m64),
+            Operand::Imm(Immediate::VexPredicate(self.imm8.value())),
+        )
+    }
+
+    fn visit<V: RegisterVisitor<R>>(&mut self, visitor: &mut V) {
+        visitor.write_xmm(self.xmm1.as_mut());
+        visitor.read_xmm(self.xmm2.as_mut());
+        visitor.read_xmm_mem(&mut self.xmm_m64);
+    }
+}

@@ -1,0 +1,94 @@
+//! Conversions. (Intel SDM, volume 2, `CVTPD2PS` and `CVTTPD2DQ`.)
+
+ghost use Rattle.std.specs.Prelude.{◌≡◌};
+ghost use Rattle.cax64_machine_code.specs.declared.row.Row.TheVariants as row;
+ghost use Rattle.simd.specs.Operands.{operands_vcvtpd2ps_a, operands_vcvttpd2dq_a};
+
+use cax64_address::operand::XmmMem;
+use cax64_machine_code::row::Row;
+use cax64_operand::{Operand, Operands, RegisterVisitor, RowAndOperands};
+use cax64_register::{Registers, Xmm};
+
+/// Convert two packed double precision floating-point values in `xmm_m128` to two single precision floating-point
+/// values in `xmm1`.
+#[derive(Drop)]
+pub struct vcvtpd2ps_a<R: Registers> {
+    pub xmm1: Xmm<R::WriteXmm>,
+    pub xmm_m128: XmmMem<R::ReadXmm, R::ReadGpr>,
+}
+
+impl<R: Registers> vcvtpd2ps_a<R> {
+    pub fn new(xmm1: Xmm<R::WriteXmm>, xmm_m128: XmmMem<R::ReadXmm, R::ReadGpr>) -> Self
+        ensures xmm1 { result.xmm1 ≡ xmm1 }
+        ensures xmm_m128 { result.xmm_m128 ≡ xmm_m128 }
+    {
+        vcvtpd2ps_a { xmm1, xmm_m128 }
+    }
+}
+
+impl<R: Registers> RowAndOperands for vcvtpd2ps_a<R> {
+    type Family = R;
+
+    ghost row_of = { λ _. row.vcvtpd2ps_a };
+
+    ghost operands_of = { operands_vcvtpd2ps_a };
+
+    fn row(&self) -> Row {
+        Row::vcvtpd2ps_a
+    }
+
+    #[tactic(auto, unfolding(cax64_machine_code::specs::Rows::line_of))]
+    fn operands(&self) -> Operands<R> {
+        Operands::Two(
+            Operand::WriteXmm(*self.xmm1.as_ref()),
+            Operand::ReadXmmMem(self.xmm_m128),
+        )
+    }
+
+    fn visit<V: RegisterVisitor<R>>(&mut self, visitor: &mut V) {
+        visitor.write_xmm(self.xmm1.as_mut());
+        visitor.read_xmm_mem(&mut self.xmm_m128);
+    }
+}
+
+/// Convert two packed double precision floating-point values in `xmm_m128` to two signed doubleword integers in `xmm1`
+/// using truncation.
+#[derive(Drop)]
+pub struct vcvttpd2dq_a<R: Registers> {
+    pub xmm1: Xmm<R::WriteXmm>,
+    pub xmm_m128: XmmMem<R::ReadXmm, R::ReadGpr>,
+}
+
+impl<R: Registers> vcvttpd2dq_a<R> {
+    pub fn new(xmm1: Xmm<R::WriteXmm>, xmm_m128: XmmMem<R::ReadXmm, R::ReadGpr>) -> Self
+        ensures xmm1 { result.xmm1 ≡ xmm1 }
+        ensures xmm_m128 { result.xmm_m128 ≡ xmm_m128 }
+    {
+        vcvttpd2dq_a { xmm1, xmm_m128 }
+    }
+}
+
+impl<R: Registers> RowAndOperands for vcvttpd2dq_a<R> {
+    type Family = R;
+
+    ghost row_of = { λ _. row.vcvttpd2dq_a };
+
+    ghost operands_of = { operands_vcvttpd2dq_a };
+
+    fn row(&self) -> Row {
+        Row::vcvttpd2dq_a
+    }
+
+    #[tactic(auto, unfolding(cax64_machine_code::specs::Rows::line_of))]
+    fn operands(&self) -> Operands<R> {
+        Operands::Two(
+            Operand::WriteXmm(*self.xmm1.as_ref()),
+            Operand::ReadXmmMem(self.xmm_m128),
+        )
+    }
+
+    fn visit<V: RegisterVisitor<R>>(&mut self, visitor: &mut V) {
+        visitor.write_xmm(self.xmm1.as_mut());
+        visitor.read_xmm_mem(&mut self.xmm_m128);
+    }
+}
