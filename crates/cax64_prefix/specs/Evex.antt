@@ -1,6 +1,7 @@
 use Rattle.std.specs.Prelude.{◌≡◌, ℕ, ◌/◌, ◌%◌, Bool, Option, Some, unwrap_or, List, ◌++◌}
 use Rattle.std.specs.Int.{from_bool}
-use Rattle.cax64_machine_code.specs.Evex.{Evex, evex_at, Apx, apx_at}
+use Rattle.cax64_machine_code.specs.Evex.{Evex, evex_at}
+use Rattle.cax64_machine_code.specs.Apx.{Apx, apx_at}
 
 -- the fields of an operation on reg, vvvv, and a register or base and an index; one that is absent reads as 0
 abbrev pub evex_fields : ℕ → ℕ → Option ℕ × Option ℕ → ℕ → ℕ → ℕ → Bool → Bool → Evex
