@@ -1,5 +1,6 @@
 use Rattle.std.proofs.Common.{◌≡◌, ◌↔◌, ◌&&◌, Bool, true, false, ℕ, nat_eq, int_eq, ℤ, refl, rules, ap, Option, Some, None}
 use Rattle.std.specs.Option.{option_eq}
+use Rattle.std.proofs.lemmas.Option.{same_Some}
 use denote.Enum.Bare.{same_true, true_same}
 use Rattle.cax64_machine_code.specs.contracts.row.Row.{the_type}
 use Rattle.cax64_machine_code.specs.contracts.row.RowPartialEq.TheImpl as row
@@ -28,14 +29,11 @@ joined false b h k = cc
 tells_both : {P Q : Type 0} (a b : Bool) → Tells a P → Tells b Q → Tells (a && b) (P × Q)
 tells_both a b p q = (λ h. let parts = both a b h in (p.0 parts.0, q.0 parts.1), λ h. joined a b (p.1 h.0) (q.1 h.1))
 
-some_same : {A : Type 0} (a b : A) → ◌≡◌ {A = Option A} (Some a) (Some b) → a ≡ b
-some_same a b e = cc
-
 tells_option : {A : Type 0} (eq : A → A → Bool) → ((a b : A) → Tells (eq a b) (a ≡ b)) → (a b : Option A) → Tells (option_eq eq a b) (a ≡ b)
 tells_option eq tells None None = (λ h. refl, λ h. refl)
 tells_option eq tells None (Some b) = (λ h. cc, λ h. cc)
 tells_option eq tells (Some a) None = (λ h. cc, λ h. cc)
-tells_option {A} eq tells (Some a) (Some b) = (λ h. ap (λ (x : A). Some x) ((tells a b).0 h), λ h. (tells a b).1 (some_same a b h))
+tells_option {A} eq tells (Some a) (Some b) = (λ h. ap (λ (x : A). Some x) ((tells a b).0 h), λ h. (tells a b).1 (same_Some a b h))
 
 tells_number : (a b : ℕ) → Tells (nat_eq a b) (a ≡ b)
 tells_number a b = search rules

@@ -4,18 +4,17 @@ use Rattle.std.specs.Int.{w8}
 use Rattle.std.specs.Int.RustNames.{FitsSigned}
 use Rattle.std.proofs.lemmas.Bool.Decides.{nat_tests}
 use Rattle.std.proofs.lemmas.Int.{ints}
+use Rattle.std.proofs.lemmas.Option.{same_Some}
 use Rattle.cax64_machine_code.specs.Fields.{IsBytes, mod_of, reg_of, rm_of, base_of, s8, number_at}
 use Rattle.cax64_machine_code.specs.Len.{disp_len, base_disp_len, at_least_one, sib_len, one_if, least_tail}
 use Rattle.cax64_machine_code.specs.Tail.{Tail, read_tail, sib_at, disp_at, disp8_at, disp32_at, displaced, scaled_index}
 use Rattle.cax64_machine_code.specs.declared.reading.RegView.TheVariants.{Low}
 use Rattle.cax64_machine_code.specs.declared.reading.Place.{Place}
 use Rattle.cax64_machine_code.specs.declared.reading.Place.TheVariants.{Reg, Mem, Rip}
-use Rattle.cax64_machine_code.proofs.Forms.{first_byte, later_bytes, disp32_length}
+use Rattle.cax64_machine_code.proofs.Forms.{first_byte, later_bytes, disp32_length, true_is, not_both}
+use Rattle.cax64_machine_code.proofs.Tails.{differ}
 
 -- no string of bytes that reads as a tail is shorter than `least_tail` says
-
-some_same : {A : Type 0} (a b : A) → ◌≡◌ {A = Option A} (Some a) (Some b) → a ≡ b
-some_same a b e = cc
 
 -- a choice of two numbers
 choice_most : (t : Bool) (a b n : ℕ) → a ≤ n → b ≤ n → (if t then a else b) ≤ n
@@ -40,12 +39,6 @@ byte_most (negsuc n) f =
 base_disp_most : (base : ℕ) (v : ℤ) (n : ℕ) → 1 ≤ n → disp_len v ≤ n → base_disp_len base v ≤ n
 base_disp_most base v n h k = choice_most (base % 8 == 5) (at_least_one (disp_len v)) (disp_len v) n (choice_most (disp_len v == 0) 1 (disp_len v) n h k) k
 
-differ : (a b : ℕ) → a ≢ b → (a == b) ≡ false
-differ a b h = grind (arith, nat_tests)
-
-true_is : (a b : ℕ) → (a == b) ≡ true → a ≡ b
-true_is a b h = grind (arith, nat_tests)
-
 pub byte_fits : (c : ℕ) → c < 256 → FitsSigned w8 (s8 c)
 byte_fits c h = grind (arith, ints)
 
@@ -57,7 +50,7 @@ pub disp8_is : (bytes : List ℕ) (d : ℤ × List ℕ) → IsBytes bytes → di
 unfolding number_at
 disp8_is [] d hb h = cc
 disp8_is (c ∷ bytes) d hb h =
-    let e = some_same _ _ h in
+    let e = same_Some _ _ h in
     let value : s8 (c + 256 * 0) *ℤ pos 1 ≡ d.0 = ap (λ (z : ℤ × List ℕ). z.0) e in
     let left : bytes ≡ d.1 = ap (λ (z : ℤ × List ℕ). z.1) e in
     let same : c + 256 * 0 ≡ c = omega arith in
@@ -67,7 +60,7 @@ disp8_is (c ∷ bytes) d hb h =
 -- a displacement beside a base has no fewer bytes than are counted
 disp_by_mode : (base mode : ℕ) (bytes : List ℕ) (d : ℤ × List ℕ) (t0 t1 : Bool) → (mode == 0) ≡ t0 → IsBytes bytes → (base % 8 ≡ 5 → mode ≢ 0) → (if t0 then Some (pos 0, bytes) else (if t1 then disp8_at 1 bytes else disp32_at bytes)) ≡ Some d → base_disp_len base d.0 + length d.1 ≤ length bytes
 disp_by_mode base mode bytes d true t1 m hb h5 h =
-    let e = some_same _ _ h in
+    let e = same_Some _ _ h in
     let value : pos 0 ≡ d.0 = ap (λ (z : ℤ × List ℕ). z.0) e in
     let left : bytes ≡ d.1 = ap (λ (z : ℤ × List ℕ). z.1) e in
     let zero : mode ≡ 0 = true_is mode 0 m in
@@ -95,13 +88,10 @@ pub record IsDisplaced (reg : ℕ) (place : ℤ → Place) (o : Option (ℤ × L
 
 pub displaced_is : (reg : ℕ) (place : ℤ → Place) (o : Option (ℤ × List ℕ)) (t : Tail) → displaced reg place o ≡ Some t → IsDisplaced reg place o t
 displaced_is reg place None t h = cc
-displaced_is reg place (Some d) t h = record { disp = d.0; rest = d.1; found = refl; tail = sym (some_same _ _ h) }
+displaced_is reg place (Some d) t h = record { disp = d.0; rest = d.1; found = refl; tail = sym (same_Some _ _ h) }
 
 low_of : (low b : ℕ) → low < 8 → (low + 8 * b) % 8 ≡ low
 low_of low b h = omega arith
-
-not_both : (low mode : ℕ) → ((low == 5) && (mode == 0)) ≡ false → low ≡ 5 → mode ≢ 0
-not_both low mode h = grind (arith, nat_tests)
 
 sib_most : (base : ℕ) (index : Option (ℕ × ℕ)) → sib_len base index ≤ 1
 sib_most base None = choice (base % 8 == 4)
@@ -154,7 +144,7 @@ sib_least x b modrm (sib ∷ bytes) t hb h = sib_tests x b modrm sib bytes t ((b
 
 tail_tests : (x b modrm : ℕ) (bytes : List ℕ) (t : Tail) (t3 t4 t5 : Bool) → IsBytes bytes → (rm_of modrm == 4) ≡ t4 → ((rm_of modrm == 5) && (mod_of modrm == 0)) ≡ t5 → (if t3 then Some (record { reg = reg_of modrm; place = Reg (Low (rm_of modrm + 8 * b)); rest = bytes }) else (if t4 then sib_at x b 1 (mod_of modrm) (reg_of modrm) bytes else (if t5 then displaced (reg_of modrm) Rip (disp32_at bytes) else displaced (reg_of modrm) (Mem (Some (rm_of modrm + 8 * b)) None) (disp_at (mod_of modrm) 1 bytes)))) ≡ Some t → AtLeast (modrm ∷ bytes) t
 tail_tests x b modrm bytes t true t4 t5 hb h4 h5 h =
-    let e : t ≡ record { reg = reg_of modrm; place = Reg (Low (rm_of modrm + 8 * b)); rest = bytes } = sym (some_same _ _ h) in
+    let e : t ≡ record { reg = reg_of modrm; place = Reg (Low (rm_of modrm + 8 * b)); rest = bytes } = sym (same_Some _ _ h) in
     rw e (omega arith)
 tail_tests x b modrm bytes t false true t5 hb h4 h5 h = sib_least x b modrm bytes t hb h
 tail_tests x b modrm bytes t false false true hb h4 h5 h = relative_least (reg_of modrm) modrm bytes t h

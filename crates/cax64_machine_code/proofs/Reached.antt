@@ -6,6 +6,7 @@ use Rattle.std.proofs.lemmas.Bool.Decides.{nat_tests}
 use Rattle.std.proofs.lemmas.Int.{ints}
 use Rattle.std.proofs.lemmas.List.{append-nil}
 use Rattle.std.proofs.lemmas.List.Elements.{All-nil, All-cons}
+use Rattle.std.proofs.lemmas.Option.{same_Some}
 use Rattle.cax64_machine_code.specs.Fields.{IsBytes, mod_of, reg_of, rm_of, base_of, s32, number_at}
 use Rattle.cax64_machine_code.specs.Len.{disp_len, base_disp_len, at_least_one, sib_len, least_tail}
 use Rattle.cax64_machine_code.specs.Shortest.{Shortest}
@@ -14,14 +15,11 @@ use Rattle.cax64_machine_code.specs.declared.reading.RegView.TheVariants.{Low}
 use Rattle.cax64_machine_code.specs.declared.reading.Place.{Place}
 use Rattle.cax64_machine_code.specs.declared.reading.Place.TheVariants.{Reg, Mem, Rip}
 use Rattle.cax64_machine_code.proofs.Bytes.{mod_is, reg_is, rm_is, s8_back, s32_back, one_back, four_back}
-use Rattle.cax64_machine_code.proofs.Forms.{first_byte, later_bytes}
+use Rattle.cax64_machine_code.proofs.Forms.{first_byte, later_bytes, true_is, false_is}
 use Rattle.cax64_machine_code.proofs.NoShorter.{no_shorter, alone, disp8_is, displaced_is}
 use Rattle.cax64_machine_code.proofs.Tails.{base_back, unless_both, differ}
 
 -- of each place that has a tail, some tail is as short as `least_tail` says
-
-some_same : {A : Type 0} (a b : A) → ◌≡◌ {A = Option A} (Some a) (Some b) → a ≡ b
-some_same a b e = cc
 
 pub no_bytes : IsBytes []
 no_bytes = All-nil (λ (byte : ℕ). byte < 256)
@@ -44,7 +42,7 @@ disp32_fits (a ∷ []) r hb h = cc
 disp32_fits (a ∷ b ∷ []) r hb h = cc
 disp32_fits (a ∷ b ∷ c ∷ []) r hb h = cc
 disp32_fits (a ∷ b ∷ c ∷ d ∷ rest) r hb h =
-    let value : s32 (a + 256 * (b + 256 * (c + 256 * (d + 256 * 0)))) ≡ r.0 = ap (λ (z : ℤ × List ℕ). z.0) (some_same _ _ h) in
+    let value : s32 (a + 256 * (b + 256 * (c + 256 * (d + 256 * 0)))) ≡ r.0 = ap (λ (z : ℤ × List ℕ). z.0) (same_Some _ _ h) in
     let hb1 = later_bytes a (b ∷ c ∷ d ∷ rest) hb in
     let hb2 = later_bytes b (c ∷ d ∷ rest) hb1 in
     let hb3 = later_bytes c (d ∷ rest) hb2 in
@@ -52,7 +50,7 @@ disp32_fits (a ∷ b ∷ c ∷ d ∷ rest) r hb h =
 
 fits_by_mode : (bytes : List ℕ) (r : ℤ × List ℕ) (t0 t1 : Bool) → IsBytes bytes → (if t0 then Some (pos 0, bytes) else (if t1 then disp8_at 1 bytes else disp32_at bytes)) ≡ Some r → FitsSigned w32 r.0
 fits_by_mode bytes r true t1 hb h =
-    let value : pos 0 ≡ r.0 = ap (λ (z : ℤ × List ℕ). z.0) (some_same _ _ h) in
+    let value : pos 0 ≡ r.0 = ap (λ (z : ℤ × List ℕ). z.0) (same_Some _ _ h) in
     rw (← value) (omega (arith, ints))
 fits_by_mode bytes r false true hb h = let o = disp8_is bytes r hb h in omega (arith, ints, o.0)
 fits_by_mode bytes r false false hb h = disp32_fits bytes r hb h
@@ -110,9 +108,6 @@ long_field base disp f e = record {
   length_is = sym e;
 }
 
-is_true : (a b : ℕ) → (a == b) ≡ true → a ≡ b
-is_true a b h = grind (arith, nat_tests)
-
 below : (a b : ℕ) → nat_lt a b ≡ true → a < b
 below a b h = grind (arith, nat_tests)
 
@@ -131,7 +126,7 @@ zero_field base true h = byte_field base (pos 0) (omega (arith, ints)) (rw h ref
 zero_field base false h = none_field base h
 
 positive_field : (base n : ℕ) (zero small : Bool) → (n == 0) ≡ zero → nat_lt n 128 ≡ small → FitsSigned w32 (pos n) → Field base (pos n)
-positive_field base n true small hz hs f = rw (is_true n 0 hz) (zero_field base (base % 8 == 5) refl)
+positive_field base n true small hz hs f = rw (true_is n 0 hz) (zero_field base (base % 8 == 5) refl)
 positive_field base n false true hz hs f =
     let h = below n 128 hs in
     byte_field base (pos n) (omega (arith, ints)) (any_base base 1 (pos n) (omega arith) (rw (hz, hs) refl))
@@ -263,12 +258,9 @@ unfolding sib_at
 sib_bytes x b modrm [] t hb h3 h4 h = cc
 sib_bytes x b modrm (sib ∷ bytes) t hb h3 h4 h = sib_tests x b modrm sib bytes t ((base_of sib == 5) && (mod_of modrm == 0)) hb h3 h4 refl h
 
-false_is : (a b : ℕ) → (a == b) ≡ false → a ≢ b
-false_is a b h = grind (arith, nat_tests)
-
 tail_tests : (x b modrm : ℕ) (bytes : List ℕ) (t : Tail) (t3 t4 t5 : Bool) → IsBytes (modrm ∷ bytes) → (mod_of modrm == 3) ≡ t3 → (rm_of modrm == 4) ≡ t4 → ((rm_of modrm == 5) && (mod_of modrm == 0)) ≡ t5 → (if t3 then Some (record { reg = reg_of modrm; place = Reg (Low (rm_of modrm + 8 * b)); rest = bytes }) else (if t4 then sib_at x b 1 (mod_of modrm) (reg_of modrm) bytes else (if t5 then displaced (reg_of modrm) Rip (disp32_at bytes) else displaced (reg_of modrm) (Mem (Some (rm_of modrm + 8 * b)) None) (disp_at (mod_of modrm) 1 bytes)))) ≡ Some t → ReachedBy x b t
 tail_tests x b modrm bytes t true t4 t5 hb h3 h4 h5 h =
-    let e : t ≡ record { reg = reg_of modrm; place = Reg (Low (rm_of modrm + 8 * b)); rest = bytes } = sym (some_same _ _ h) in
+    let e : t ≡ record { reg = reg_of modrm; place = Reg (Low (rm_of modrm + 8 * b)); rest = bytes } = sym (same_Some _ _ h) in
     rw e (modrm ∷ [], more_bytes modrm [] (first_byte modrm bytes hb) no_bytes, record { reads = λ rest. register_reads x b modrm rest h3 }, refl)
 tail_tests x b modrm bytes t false true t5 hb h3 h4 h5 h = sib_bytes x b modrm bytes t hb h3 h4 h
 tail_tests x b modrm bytes t false false true hb h3 h4 h5 h =
