@@ -1,6 +1,7 @@
 use Rattle.std.proofs.Common.{◌≡◌, ◌≢◌, ℕ, ◌+◌, ◌*◌, ◌<◌, ◌≤◌, ◌%◌, arith, List, [], ◌∷◌, Bool, true, false, Some, None, Option, refl, ℤ, ◌∙◌, ap, sym, suc, length}
 use Rattle.std.specs.Prelude.{◌==◌, ◌&&◌, if◌then◌else◌, is_some}
 use Rattle.std.proofs.lemmas.Bool.Decides.{nat_tests}
+use Rattle.std.proofs.lemmas.Option.{same_Some}
 use Rattle.cax64_machine_code.specs.Fields.{IsBytes, mod_of, reg_of, rm_of, base_of, number_at}
 use Rattle.cax64_machine_code.specs.Tail.{Tail, read_tail, sib_at, disp_at, disp32_at, displaced, scaled_index}
 use Rattle.cax64_machine_code.specs.declared.reading.RegView.TheVariants.{Low}
@@ -21,16 +22,13 @@ first_byte byte bytes h = h 0 0 (zero_below (length bytes))
 pub later_bytes : (byte : ℕ) (bytes : List ℕ) → IsBytes (byte ∷ bytes) → IsBytes bytes
 later_bytes byte bytes h k d lt = h (suc k) d (suc_below k (length bytes) lt)
 
-some_same : {A : Type 0} (a b : A) → ◌≡◌ {A = Option A} (Some a) (Some b) → a ≡ b
-some_same a b e = cc
-
-true_is : (a b : ℕ) → (a == b) ≡ true → a ≡ b
+pub true_is : (a b : ℕ) → (a == b) ≡ true → a ≡ b
 true_is a b h = grind (arith, nat_tests)
 
-false_is : (a b : ℕ) → (a == b) ≡ false → a ≢ b
+pub false_is : (a b : ℕ) → (a == b) ≡ false → a ≢ b
 false_is a b h = grind (arith, nat_tests)
 
-not_both : (low mode : ℕ) → ((low == 5) && (mode == 0)) ≡ false → low ≡ 5 → mode ≢ 0
+pub not_both : (low mode : ℕ) → ((low == 5) && (mode == 0)) ≡ false → low ≡ 5 → mode ≢ 0
 not_both low mode h = grind (arith, nat_tests)
 
 -- a string that reads as a base, an index and a displacement: one byte or two, then the displacement
@@ -49,7 +47,7 @@ pub record MemForm (x b factor base : ℕ) (index : Option (ℕ × ℕ)) (disp :
 
 displaced_is : (reg : ℕ) (place : ℤ → Place) (o : Option (ℤ × List ℕ)) (t : Tail) → displaced reg place o ≡ Some t → (d : ℤ × List ℕ) × (o ≡ Some d) × (place d.0 ≡ t.place) × (d.1 ≡ t.rest)
 displaced_is reg place None t h = cc
-displaced_is reg place (Some d) t h = let e = some_same _ _ h in (d, refl, ap (λ (z : Tail). z.place) e, ap (λ (z : Tail). z.rest) e)
+displaced_is reg place (Some d) t h = let e = same_Some _ _ h in (d, refl, ap (λ (z : Tail). z.place) e, ap (λ (z : Tail). z.rest) e)
 
 same_mem : (a c : Option ℕ) (i j : Option (ℕ × ℕ)) (v w : ℤ) → ◌≡◌ {A = Place} (Mem a i v) (Mem c j w) → (a ≡ c) × (i ≡ j) × (v ≡ w)
 same_mem a c i j v w e = (cc, cc, cc)
@@ -68,7 +66,7 @@ plain_form x b factor base index disp modrm bytes t hb hp hr h3 h4 h5 h =
     let below : modrm < 256 = first_byte modrm bytes hb in
     let not_three : mod_of modrm ≢ 3 = false_is (mod_of modrm) 3 h3 in
     let not_four : rm_of modrm ≢ 4 = false_is (rm_of modrm) 4 h4 in
-    let is_base : rm_of modrm + 8 * b ≡ base = some_same _ _ parts.0 in
+    let is_base : rm_of modrm + 8 * b ≡ base = same_Some _ _ parts.0 in
     let low : base % 8 ≡ rm_of modrm = low_of (rm_of modrm) b base (omega arith) is_base in
     record {
       mode = mod_of modrm;
@@ -91,7 +89,7 @@ sib_form x b factor base index disp modrm sib bytes t hb hp hr h3 h5 h =
     let parts = same_mem _ _ _ _ _ _ (d.2 ∙ hp) in
     let below : modrm < 256 = first_byte modrm (sib ∷ bytes) hb in
     let not_three : mod_of modrm ≢ 3 = false_is (mod_of modrm) 3 h3 in
-    let is_base : base_of sib + 8 * b ≡ base = some_same _ _ parts.0 in
+    let is_base : base_of sib + 8 * b ≡ base = same_Some _ _ parts.0 in
     let low : base % 8 ≡ base_of sib = low_of (base_of sib) b base (omega arith) is_base in
     record {
       mode = mod_of modrm;
@@ -124,7 +122,7 @@ sib_bytes x b factor base index disp modrm (sib ∷ bytes) t hb hp hr h3 h = sib
 
 by_tests : (x b factor base : ℕ) (index : Option (ℕ × ℕ)) (disp : ℤ) (modrm : ℕ) (bytes : List ℕ) (t : Tail) (t3 t4 t5 : Bool) → IsBytes (modrm ∷ bytes) → t.place ≡ Mem (Some base) index disp → t.rest ≡ [] → (mod_of modrm == 3) ≡ t3 → (rm_of modrm == 4) ≡ t4 → ((rm_of modrm == 5) && (mod_of modrm == 0)) ≡ t5 → (if t3 then Some (record { reg = reg_of modrm; place = Reg (Low (rm_of modrm + 8 * b)); rest = bytes }) else (if t4 then sib_at x b factor (mod_of modrm) (reg_of modrm) bytes else (if t5 then displaced (reg_of modrm) Rip (disp32_at bytes) else displaced (reg_of modrm) (Mem (Some (rm_of modrm + 8 * b)) None) (disp_at (mod_of modrm) factor bytes)))) ≡ Some t → MemForm x b factor base index disp (modrm ∷ bytes)
 by_tests x b factor base index disp modrm bytes t true t4 t5 hb hp hr h3 h4 h5 h =
-    let e : Reg (Low (rm_of modrm + 8 * b)) ≡ t.place = ap (λ (z : Tail). z.place) (some_same _ _ h) in cc
+    let e : Reg (Low (rm_of modrm + 8 * b)) ≡ t.place = ap (λ (z : Tail). z.place) (same_Some _ _ h) in cc
 by_tests x b factor base index disp modrm bytes t false true t5 hb hp hr h3 h4 h5 h = sib_bytes x b factor base index disp modrm bytes t hb hp hr h3 h
 by_tests x b factor base index disp modrm bytes t false false true hb hp hr h3 h4 h5 h =
     let d = displaced_is (reg_of modrm) Rip (disp32_at bytes) t h in
@@ -146,7 +144,7 @@ disp32_length (a ∷ []) r h = cc
 disp32_length (a ∷ b ∷ []) r h = cc
 disp32_length (a ∷ b ∷ c ∷ []) r h = cc
 disp32_length (a ∷ b ∷ c ∷ d ∷ rest) r h =
-    let e : rest ≡ r.1 = ap (λ (z : ℤ × List ℕ). z.1) (some_same _ _ h) in
+    let e : rest ≡ r.1 = ap (λ (z : ℤ × List ℕ). z.1) (same_Some _ _ h) in
     let same : length rest ≡ length r.1 = ap length e in
     omega arith
 
@@ -168,7 +166,7 @@ no_sib x b factor mode reg (sib ∷ bytes) disp t hp h = choose ((base_of sib ==
 
 rip_tests : (x b factor : ℕ) (disp : ℤ) (modrm : ℕ) (bytes : List ℕ) (t : Tail) (t3 t4 t5 : Bool) → t.place ≡ Rip disp → t.rest ≡ [] → (if t3 then Some (record { reg = reg_of modrm; place = Reg (Low (rm_of modrm + 8 * b)); rest = bytes }) else (if t4 then sib_at x b factor (mod_of modrm) (reg_of modrm) bytes else (if t5 then displaced (reg_of modrm) Rip (disp32_at bytes) else displaced (reg_of modrm) (Mem (Some (rm_of modrm + 8 * b)) None) (disp_at (mod_of modrm) factor bytes)))) ≡ Some t → 5 ≤ length (modrm ∷ bytes)
 rip_tests x b factor disp modrm bytes t true t4 t5 hp hr h =
-    let e : Reg (Low (rm_of modrm + 8 * b)) ≡ t.place = ap (λ (z : Tail). z.place) (some_same _ _ h) in cc
+    let e : Reg (Low (rm_of modrm + 8 * b)) ≡ t.place = ap (λ (z : Tail). z.place) (same_Some _ _ h) in cc
 rip_tests x b factor disp modrm bytes t false true t5 hp hr h = absurd (no_sib x b factor (mod_of modrm) (reg_of modrm) bytes disp t hp h)
 rip_tests x b factor disp modrm bytes t false false true hp hr h =
     let d = displaced_is (reg_of modrm) Rip (disp32_at bytes) t h in

@@ -1,4 +1,5 @@
 pub mod Bytes
+pub mod Apart
 pub mod Table
 pub mod Uniqueness
 pub mod Matched
@@ -7,3 +8,6 @@ pub mod Extended
 pub mod Whole
 pub mod Forms
 pub mod Written
+pub mod NoShorter
+pub mod Reached
+pub mod Equality

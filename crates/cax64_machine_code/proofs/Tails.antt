@@ -6,11 +6,11 @@ use Rattle.cax64_machine_code.specs.declared.reading.RegView.TheVariants.{Low}
 use Rattle.cax64_machine_code.specs.declared.reading.Place.TheVariants.{Reg, Mem, Rip}
 use Rattle.cax64_machine_code.proofs.Bytes.{mod_is, reg_is, rm_is}
 
-differ : (a b : ℕ) → a ≢ b → (a == b) ≡ false
+pub differ : (a b : ℕ) → a ≢ b → (a == b) ≡ false
 differ a b h = grind (arith, nat_tests)
 
 -- the mode and low bits do not name a relative place or a missing base
-unless_both : (low mode : ℕ) → (low ≡ 5 → mode ≢ 0) → ((low == 5) && (mode == 0)) ≡ false
+pub unless_both : (low mode : ℕ) → (low ≡ 5 → mode ≢ 0) → ((low == 5) && (mode == 0)) ≡ false
 unless_both low mode h = grind (arith, nat_tests)
 
 -- a register

@@ -1,6 +1,7 @@
 use Rattle.std.proofs.Common.{◌≡◌, ℕ, ◌-◌, ◌/◌, ◌%◌, arith, List, [], ◌∷◌, ◌++◌, Bool, true, false, Some, None, Option, refl, ℤ, pos, ◌∙◌, ap, sym, length}
 use Rattle.std.specs.Prelude.{◌==◌, ◌&&◌, ◌||◌, not, if◌then◌else◌, option_map, option_and_then}
 use Rattle.std.proofs.lemmas.List.{length-append}
+use Rattle.std.proofs.lemmas.Option.{same_Some}
 use Rattle.cax64_machine_code.specs.Fields.{number_at, signed_of}
 use Rattle.cax64_machine_code.specs.Tail.{Tail, read_tail}
 use Rattle.cax64_machine_code.specs.Prefix.{no_legacy, legacy_at, Rex, rex_of, rex_at, Vex, vex_two_byte, vex_three_byte, is_vex_map, vex_at, Prefix, legacy_prefix, vex_prefix, begins_vex, is_no_legacy, after_vex, after_legacy, prefix_at, x_of, b_of}
@@ -34,9 +35,6 @@ first_same {A} {B} a c b d e = ap (λ (z : A × B). z.0) e
 second_same : {A B : Type 0} (a c : A) (b d : B) → ◌≡◌ {A = A × B} (a, b) (c, d) → b ≡ d
 second_same {A} {B} a c b d e = ap (λ (z : A × B). z.1) e
 
-some_same : {A : Type 0} (a b : A) → ◌≡◌ {A = Option A} (Some a) (Some b) → a ≡ b
-some_same a b e = cc
-
 stopped : (seen l : LegacySet) (c d : ℕ) (rest bytes more : List ℕ) → ◌≡◌ {A = LegacySet × List ℕ} (seen, d ∷ bytes) (l, c ∷ rest) → ◌≡◌ {A = LegacySet × List ℕ} (seen, d ∷ (bytes ++ more)) (l, c ∷ (rest ++ more))
 stopped seen l c d rest bytes more h =
     let p : seen ≡ l = first_same _ _ _ _ h in
@@ -64,7 +62,7 @@ rex_at_more byte bytes more o c rest h =
 
 vex_found : (v w : Vex) (bytes rest more : List ℕ) → ◌≡◌ {A = Option (Vex × List ℕ)} (Some (v, bytes)) (Some (w, rest)) → ◌≡◌ {A = Option (Vex × List ℕ)} (Some (v, bytes ++ more)) (Some (w, rest ++ more))
 vex_found v w bytes rest more e =
-    let h = some_same _ _ e in
+    let h = same_Some _ _ e in
     let p : bytes ≡ rest = second_same _ _ _ _ h in
     let q : v ≡ w = first_same _ _ _ _ h in
     rw (p, q) refl
@@ -84,14 +82,14 @@ vex_at_more (byte ∷ second ∷ third ∷ bytes) more v rest h =
 after_vex_more : (o o' : Option (Vex × List ℕ)) (more : List ℕ) (p : Prefix) (c : ℕ) (rest : List ℕ) → ((v : Vex) (left : List ℕ) → o ≡ Some (v, left) → o' ≡ Some (v, left ++ more)) → after_vex o ≡ Some (p, c ∷ rest) → after_vex o' ≡ Some (p, c ∷ (rest ++ more))
 after_vex_more None o' more p c rest later h = cc
 after_vex_more (Some found) o' more p c rest later h =
-    let e = some_same _ _ h in
+    let e = same_Some _ _ h in
     let q : vex_prefix found.0 ≡ p = first_same _ _ _ _ e in
     let r : found.1 ≡ c ∷ rest = second_same _ _ _ _ e in
     rw (later found.0 found.1 refl, q, r) refl
 
 after_legacy_more : (l : LegacySet) (byte : ℕ) (bytes more : List ℕ) (p : Prefix) (c : ℕ) (rest : List ℕ) → after_legacy l (rex_at (byte ∷ bytes)) ≡ Some (p, c ∷ rest) → after_legacy l (rex_at (byte ∷ (bytes ++ more))) ≡ Some (p, c ∷ (rest ++ more))
 after_legacy_more l byte bytes more p c rest h =
-    let e = some_same _ _ h in
+    let e = same_Some _ _ h in
     let r : (rex_at (byte ∷ bytes)).1 ≡ c ∷ rest = second_same _ _ _ _ e in
     let q : legacy_prefix l (rex_at (byte ∷ bytes)).0 ≡ p = first_same _ _ _ _ e in
     let pair : rex_at (byte ∷ bytes) ≡ ((rex_at (byte ∷ bytes)).0, c ∷ rest) = ap (λ (z : List ℕ). ((rex_at (byte ∷ bytes)).0, z)) r in
@@ -99,8 +97,8 @@ after_legacy_more l byte bytes more p c rest h =
 
 none_left : (l : LegacySet) (t : Bool) (p : Prefix) (c : ℕ) (rest : List ℕ) → (if t && false then after_vex (vex_at []) else after_legacy l (rex_at [])) ≡ Some (p, c ∷ rest) → ⊥
 unfolding vex_at rex_at
-none_left l true p c rest h = let q : ◌≡◌ {A = List ℕ} [] (c ∷ rest) = second_same _ _ _ _ (some_same _ _ h) in cc
-none_left l false p c rest h = let q : ◌≡◌ {A = List ℕ} [] (c ∷ rest) = second_same _ _ _ _ (some_same _ _ h) in cc
+none_left l true p c rest h = let q : ◌≡◌ {A = List ℕ} [] (c ∷ rest) = second_same _ _ _ _ (same_Some _ _ h) in cc
+none_left l false p c rest h = let q : ◌≡◌ {A = List ℕ} [] (c ∷ rest) = second_same _ _ _ _ (same_Some _ _ h) in cc
 
 prefix_by : (l : LegacySet) (ls bytes more : List ℕ) (p : Prefix) (c : ℕ) (rest : List ℕ) → legacy_at no_legacy bytes ≡ (l, ls) → (if is_no_legacy l && begins_vex ls then after_vex (vex_at ls) else after_legacy l (rex_at ls)) ≡ Some (p, c ∷ rest) → prefix_at (bytes ++ more) ≡ Some (p, c ∷ (rest ++ more))
 unfolding prefix_at
@@ -144,14 +142,14 @@ row_matches p bytes (other ∷ rows) row rest h = first_or_later p bytes other r
     first_or_later : (p : Prefix) (bytes : List ℕ) (other row : Row) (rest : List ℕ) (rows : List Row) (o : Option (List ℕ)) → matched_at (line_of other) p bytes ≡ o → or_later (option_map {T = List ℕ} {U = Row × List ℕ} (λ r. (other, r)) o) (row_at rows p bytes) ≡ Some (row, rest) → (row_at rows p bytes ≡ Some (row, rest) → matched_at (line_of row) p bytes ≡ Some rest) → matched_at (line_of row) p bytes ≡ Some rest
     first_or_later p bytes other row rest rows None e h later = later h
     first_or_later p bytes other row rest rows (Some r) e h later =
-        let k = some_same _ _ h in
+        let k = same_Some _ _ h in
         let same : other ≡ row = first_same _ _ _ _ k in
         let left : r ≡ rest = second_same _ _ _ _ k in
         rw (← same, ← left) e
 
 imm_at_more : (field : ImmField) (bytes more : List ℕ) (r : Option ℤ × List ℕ) → imm_at field bytes ≡ Some r → imm_at field (bytes ++ more) ≡ Some (r.0, r.1 ++ more)
 imm_at_more NoImm bytes more r h =
-    let e = some_same _ _ h in
+    let e = same_Some _ _ h in
     let p : ◌≡◌ {A = Option ℤ} None r.0 = ap (λ (z : Option ℤ × List ℕ). z.0) e in
     let q : bytes ≡ r.1 = ap (λ (z : Option ℤ × List ℕ). z.1) e in
     rw (← p, ← q) refl
@@ -165,7 +163,7 @@ with_more more found = record { parts = found.parts; tail = found.tail; rest = f
 bare_more : (row : Row) (line : Line) (p : Prefix) (o o' : Option (Option ℤ × List ℕ)) (more : List ℕ) (found : Found) → ((r : Option ℤ × List ℕ) → o ≡ Some r → o' ≡ Some (r.0, r.1 ++ more)) → option_map {T = Option ℤ × List ℕ} {U = Found} (λ i. record { parts = record { row = row; reg = None; vvvv = vvvv_at line.prefix p; place = None; imm = i.0 }; tail = 0; rest = i.1 }) o ≡ Some found → option_map {T = Option ℤ × List ℕ} {U = Found} (λ i. record { parts = record { row = row; reg = None; vvvv = vvvv_at line.prefix p; place = None; imm = i.0 }; tail = 0; rest = i.1 }) o' ≡ Some (with_more more found)
 bare_more row line p None o' more found later h = cc
 bare_more row line p (Some r) o' more found later h =
-    let e = some_same _ _ h in
+    let e = same_Some _ _ h in
     rw (later r refl, ← e) refl
 
 left_length : (bytes rest more : List ℕ) → length (bytes ++ more) - length (rest ++ more) ≡ length bytes - length rest
@@ -174,7 +172,7 @@ left_length bytes rest more = omega (arith, length-append bytes more, length-app
 imm_more : (row : Row) (line : Line) (reg : RegField) (p : Prefix) (bytes more : List ℕ) (t : Tail) (place : Place) (o o' : Option (Option ℤ × List ℕ)) (found : Found) → ((r : Option ℤ × List ℕ) → o ≡ Some r → o' ≡ Some (r.0, r.1 ++ more)) → option_map {T = Option ℤ × List ℕ} {U = Found} (λ i. record { parts = record { row = row; reg = reg_view reg p t.reg; vvvv = vvvv_at line.prefix p; place = Some place; imm = i.0 }; tail = length bytes - length t.rest; rest = i.1 }) o ≡ Some found → option_map {T = Option ℤ × List ℕ} {U = Found} (λ i. record { parts = record { row = row; reg = reg_view reg p t.reg; vvvv = vvvv_at line.prefix p; place = Some place; imm = i.0 }; tail = length (bytes ++ more) - length (t.rest ++ more); rest = i.1 }) o' ≡ Some (with_more more found)
 imm_more row line reg p bytes more t place None o' found later h = cc
 imm_more row line reg p bytes more t place (Some r) o' found later h =
-    let e = some_same _ _ h in
+    let e = same_Some _ _ h in
     rw (later r refl, ← e, left_length bytes t.rest more) refl
 
 place_more : (row : Row) (line : Line) (reg : RegField) (field : PlaceField) (p : Prefix) (bytes more : List ℕ) (t : Tail) (o : Option Place) (found : Found) → option_and_then {T = Place} {U = Found} (λ place. option_map (λ i. record { parts = record { row = row; reg = reg_view reg p t.reg; vvvv = vvvv_at line.prefix p; place = Some place; imm = i.0 }; tail = length bytes - length t.rest; rest = i.1 }) (imm_at line.imm t.rest)) o ≡ Some found → option_and_then {T = Place} {U = Found} (λ place. option_map (λ i. record { parts = record { row = row; reg = reg_view reg p t.reg; vvvv = vvvv_at line.prefix p; place = Some place; imm = i.0 }; tail = length (bytes ++ more) - length (t.rest ++ more); rest = i.1 }) (imm_at line.imm (t.rest ++ more))) o ≡ Some (with_more more found)
@@ -251,7 +249,7 @@ nothing_more (c ∷ a) more h = cc
 -- no bytes of an instruction are a proper front of another's
 pub whole_no_front : (b more : List ℕ) (first second : Found) → find b ≡ Some first → first.rest ≡ [] → find (b ++ more) ≡ Some second → second.rest ≡ [] → more ≡ []
 whole_no_front b more first second h he k ke =
-    let e : second ≡ with_more more first = some_same _ _ (sym k ∙ find_more b more first h) in
+    let e : second ≡ with_more more first = same_Some _ _ (sym k ∙ find_more b more first h) in
     let r : second.rest ≡ first.rest ++ more = ap (λ (z : Found). z.rest) e in
     nothing_more first.rest more (sym r ∙ ke)
 
@@ -262,7 +260,7 @@ find_nothing = refl
 
 read_by : (bytes : List ℕ) (o : Option Found) (r : Reading) → option_map {T = Found} {U = Reading} (reading_of bytes) o ≡ Some r → (found : Found) × (o ≡ Some found) × (reading_of bytes found ≡ r)
 read_by bytes None r h = cc
-read_by bytes (Some found) r h = (found, refl, some_same _ _ h)
+read_by bytes (Some found) r h = (found, refl, same_Some _ _ h)
 
 -- a reading is of an instruction that is found
 pub read_found : (bytes : List ℕ) (r : Reading) → read bytes ≡ Some r → (found : Found) × (find bytes ≡ Some found) × (reading_of bytes found ≡ r)

@@ -2,6 +2,7 @@ use Rattle.std.proofs.Common.{◌≡◌, ℕ, ◌-◌, arith, List, [], ◌∷�
 use Rattle.std.specs.Prelude.{◌==◌, ◌&&◌, if◌then◌else◌}
 use Rattle.std.proofs.lemmas.Bool.Decides.{nat_tests}
 use Rattle.std.proofs.lemmas.List.{length-append}
+use Rattle.std.proofs.lemmas.Option.{same_Some}
 use Rattle.cax64_machine_code.specs.Fields.{reg_of, rm_of, mod_of}
 use Rattle.cax64_machine_code.specs.Tail.{Tail, IsTail, read_tail, sib_at, displaced}
 use Rattle.cax64_machine_code.specs.Prefix.{Prefix, prefix_at, x_of, b_of}
@@ -48,12 +49,9 @@ choose : {X : Type 0} (P : Type 0) (t : Bool) (a b r : X) → (a ≡ r → P) �
 choose P true a b r f g h = f h
 choose P false a b r f g h = g h
 
-some_same : {A : Type 0} (a b : A) → ◌≡◌ {A = Option A} (Some a) (Some b) → a ≡ b
-some_same a b e = cc
-
 displaced_reg : (reg : ℕ) (place : ℤ → Place) (o : Option (ℤ × List ℕ)) (t : Tail) → displaced reg place o ≡ Some t → t.reg ≡ reg
 displaced_reg reg place None t h = cc
-displaced_reg reg place (Some d) t h = sym (ap (λ (z : Tail). z.reg) (some_same _ _ h))
+displaced_reg reg place (Some d) t h = sym (ap (λ (z : Tail). z.reg) (same_Some _ _ h))
 
 sib_reg : (x b n mode reg : ℕ) (bytes : List ℕ) (t : Tail) → sib_at x b n mode reg bytes ≡ Some t → t.reg ≡ reg
 unfolding sib_at
@@ -64,7 +62,7 @@ sib_reg x b n mode reg (sib ∷ bytes) t h = choose (t.reg ≡ reg) _ _ _ (Some 
 tail_reg : (x b n m : ℕ) (bytes : List ℕ) (t : Tail) → read_tail x b n (m ∷ bytes) ≡ Some t → t.reg ≡ reg_of m
 unfolding read_tail
 tail_reg x b n m bytes t h =
-    choose (t.reg ≡ reg_of m) (mod_of m == 3) _ _ (Some t) (λ e. sym (ap (λ (z : Tail). z.reg) (some_same _ _ e)))
+    choose (t.reg ≡ reg_of m) (mod_of m == 3) _ _ (Some t) (λ e. sym (ap (λ (z : Tail). z.reg) (same_Some _ _ e)))
     (choose (t.reg ≡ reg_of m) (rm_of m == 4) _ _ (Some t) (sib_reg x b n (mod_of m) (reg_of m) bytes t)
     (choose (t.reg ≡ reg_of m) ((rm_of m == 5) && (mod_of m == 0)) _ _ (Some t) (displaced_reg (reg_of m) _ _ t) (displaced_reg (reg_of m) _ _ t))) h
 

@@ -1,12 +1,13 @@
+-- What the clauses of public functions say.
 pub mod Fields
 pub mod Tail
 pub mod Address
 pub mod Prefix
 pub mod Evex
+pub mod Apx
 pub mod Line
 pub mod Rows
 pub mod Names
-pub mod Apart
 pub mod Reading
 pub mod Sequence
 pub mod Shortest

@@ -1,13 +1,20 @@
 //! Laws of the definitions, each on a function that does nothing.
 
-ghost use Rattle.std.specs.Prelude.{◌≡◌, ◌≤◌, ◌<◌, ◌+◌, ◌++◌, Some, List, [], ℕ, length};
+ghost use Rattle.std.specs.Prelude.{◌≡◌, ◌↔◌, ◌≤◌, ◌<◌, ◌+◌, ◌++◌, true, Some, List, [], ℕ, length};
+ghost use Rattle.cax64_machine_code.specs.Fields.{IsBytes};
+ghost use Rattle.cax64_machine_code.specs.Len.{least_tail};
 ghost use Rattle.cax64_machine_code.specs.Prefix.{Prefix};
 ghost use Rattle.cax64_machine_code.specs.Reading.{matched_at, read};
 ghost use Rattle.cax64_machine_code.specs.Rows.{line_of};
 ghost use Rattle.cax64_machine_code.specs.Sequence.{IsProperFront};
-ghost use Rattle.cax64_machine_code.specs.Tail.{Tail, read_tail};
+ghost use Rattle.cax64_machine_code.specs.Shortest.{Shortest};
+ghost use Rattle.cax64_machine_code.specs.Tail.{IsTail, Tail, read_tail};
+ghost use Rattle.cax64_machine_code.specs.declared.reading.Place.{Place};
+ghost use Rattle.cax64_machine_code.specs.declared.reading.Reading.{Reading};
+ghost use Rattle.cax64_machine_code.specs.declared.reading.RegView.{RegView};
+ghost use Rattle.cax64_machine_code.specs.declared.row.Row.{Row};
 
-use crate::reading::Reading;
+use crate::reading::{Place, Reading, RegView};
 use crate::row::Row;
 
 /// A prefix and what follows it match one row of the table at most.
@@ -23,6 +30,21 @@ pub fn no_tail_begins_another()
         → IsProperFront t u → ⊥ }
 {}
 
+/// `least_tail` is the least number of bytes of a tail of this place, whatever X and B are and whatever the reg field:
+/// none that is read, with whatever follows it, has fewer, and where there is one at all, there is one of so many. So a
+/// tail is the shortest exactly where it has so many.
+pub fn least_tail_is_least()
+    ensures no_shorter { (x b : ℕ) (bytes : List ℕ) (tail : Tail)
+        → IsBytes bytes → read_tail x b 1 bytes ≡ Some tail
+        → least_tail tail.place + length tail.rest ≤ length bytes }
+    ensures reached { (x b : ℕ) (bytes : List ℕ) (tail : Tail)
+        → IsBytes bytes → read_tail x b 1 bytes ≡ Some tail
+        → (t : List ℕ) × IsBytes t × IsTail x b 1 tail.reg tail.place t × (length t ≡ least_tail tail.place) }
+    ensures shortest { (x b reg : ℕ) (place : Place) (t : List ℕ)
+        → IsBytes t → IsTail x b 1 reg place t
+        → Shortest x b 1 reg place t ↔ (length t ≡ least_tail place) }
+{}
+
 /// The bytes of no reading are a proper front of those of another.
 pub fn no_reading_begins_another(first: Reading, second: Reading)
     ensures { (t u : List ℕ)
@@ -34,4 +56,12 @@ pub fn no_reading_begins_another(first: Reading, second: Reading)
 /// A reading is read whatever follows its bytes.
 pub fn what_follows_is_not_read(reading: Reading)
     ensures { (t more : List ℕ) → read t ≡ Some reading → read (t ++ more) ≡ Some reading }
+{}
+
+/// Rows, registers, places and readings compare equal where they are equal, and nowhere else.
+pub fn laws_of_equality()
+    ensures rows { (a b : Row) → (⟦<Row as PartialEq>⟧.eq a b ≡ true) ↔ (a ≡ b) }
+    ensures registers { (a b : RegView) → (⟦<RegView as PartialEq>⟧.eq a b ≡ true) ↔ (a ≡ b) }
+    ensures places { (a b : Place) → (⟦<Place as PartialEq>⟧.eq a b ≡ true) ↔ (a ≡ b) }
+    ensures readings { (a b : Reading) → (⟦<Reading as PartialEq>⟧.eq a b ≡ true) ↔ (a ≡ b) }
 {}

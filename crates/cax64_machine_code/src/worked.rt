@@ -2,11 +2,13 @@
 
 ghost use Rattle.std.specs.Prelude.{◌≡◌, ◌≢◌, ◌-◌, ◌^◌, [], ◌∷◌, ℕ, List, length, Some, None, pos, negsuc};
 ghost use Rattle.cax64_machine_code.specs.Address.{address_of};
+ghost use Rattle.cax64_machine_code.specs.Fields.{IsBytes};
 ghost use Rattle.cax64_machine_code.specs.Len.{len_of, least_tail};
-ghost use Rattle.cax64_machine_code.specs.Tail.{Tail, read_tail};
+ghost use Rattle.cax64_machine_code.specs.Shortest.{Shortest};
+ghost use Rattle.cax64_machine_code.specs.Tail.{IsTail, Tail, read_tail};
 ghost use Rattle.cax64_machine_code.specs.Reading.{read};
 
-use crate::laws::{no_reading_begins_another, no_tail_begins_another};
+use crate::laws::{least_tail_is_least, no_reading_begins_another, no_tail_begins_another};
 use crate::reading::{Place, Reading, RegView};
 use crate::row::Row;
 
@@ -74,6 +76,15 @@ pub fn longer_than_a_tail()
         → second.rest ≢ [] }
 {
     no_tail_begins_another();
+}
+
+/// The place of `(%rbp)` is named by five bytes, with four of displacement; so there is a tail of two, and one of two is
+/// the shortest.
+pub fn shorter_than_a_tail()
+    ensures some { (t : List ℕ) × IsBytes t × IsTail 0 0 1 0 (Place.Mem (Some 5) None (pos 0)) t × (length t ≡ 2) }
+    ensures shortest { Shortest 0 0 1 0 (Place.Mem (Some 5) None (pos 0)) (0x45 ∷ 0 ∷ []) }
+{
+    least_tail_is_least();
 }
 
 /// What begins with an instruction and is longer doesn't read as one of its own length.

@@ -1,6 +1,8 @@
 use Rattle.std.proofs.Common.{◌≡◌, ℕ, ◌+◌, ◌-◌, ◌*◌, ◌/◌, ◌%◌, ◌<◌, arith, refl, List, [], ◌∷◌, Some, ap}
-use Rattle.cax64_machine_code.specs.Evex.{Evex, evex_of, evex_at, Apx, apx_of, apx_at}
-use Rattle.cax64_prefix.specs.Evex.{EvexReadsAs, ApxReadsAs}
+use Rattle.cax64_machine_code.specs.Evex.{Evex, evex_of, evex_at}
+use Rattle.cax64_machine_code.specs.Apx.{Apx, apx_of, apx_at}
+use Rattle.cax64_prefix.specs.Evex.{EvexReadsAs}
+use Rattle.cax64_prefix.specs.Apx.{ApxReadsAs}
 use Rattle.cax64_prefix.proofs.RexBits.{equal}
 
 -- fields that an EVEX prefix without a mask can hold

@@ -1,6 +1,6 @@
 use Rattle.std.specs.Prelude.{◌≡◌, ℕ, ◌/◌, ◌%◌, Bool, Option, Some, unwrap_or, List, ◌++◌}
 use Rattle.std.specs.Int.{from_bool}
-use Rattle.cax64_machine_code.specs.Evex.{Evex, evex_at, Apx, apx_at}
+use Rattle.cax64_machine_code.specs.Evex.{Evex, evex_at}
 
 -- the fields of an operation on reg, vvvv, and a register or base and an index; one that is absent reads as 0
 abbrev pub evex_fields : ℕ → ℕ → Option ℕ × Option ℕ → ℕ → ℕ → ℕ → Bool → Bool → Evex
@@ -19,27 +19,6 @@ evex_fields reg vvvv operand ll pp mmm w broadcast = record {
   aaa = 0;
 }
 
--- the same for an operation on general registers
-abbrev pub apx_fields : ℕ → ℕ → Option ℕ × Option ℕ → ℕ → ℕ → Bool → Bool → Bool → Apx
-apx_fields reg vvvv operand pp mmm w nd nf = record {
-  r3 = reg / 8 % 2;
-  r4 = reg / 16;
-  b3 = unwrap_or operand.0 0 / 8 % 2;
-  b4 = unwrap_or operand.0 0 / 16;
-  x3 = unwrap_or operand.1 0 / 8 % 2;
-  x4 = unwrap_or operand.1 0 / 16;
-  vvvv = vvvv;
-  pp = pp;
-  mmm = mmm;
-  w = from_bool w;
-  nd = from_bool nd;
-  nf = from_bool nf;
-}
-
 -- the bytes are read as the fields, whatever follows
 pub record EvexReadsAs (evex : Evex) (bytes : List ℕ) : Type 0 where
   pub reads : (rest : List ℕ) → evex_at (bytes ++ rest) ≡ Some (evex, rest)
-
--- the same in the form for general registers
-pub record ApxReadsAs (apx : Apx) (bytes : List ℕ) : Type 0 where
-  pub reads : (rest : List ℕ) → apx_at (bytes ++ rest) ≡ Some (apx, rest)

@@ -1,4 +1,8 @@
-pub mod Evex
+-- What the clauses of public functions say.
 pub mod Puts
 pub mod Rex
 pub mod Vex
+pub mod Evex
+pub mod Apx
+-- Steps of the proofs.
+pub mod HeldByte

@@ -1,6 +1,5 @@
-use Rattle.std.specs.Prelude.{◌≡◌, ℕ, ◌+◌, ◌*◌, ◌/◌, ◌==◌, ◌&&◌, nat_le, Bool, false, Option, Some, None, IfSome, option_map, List, [], ◌∷◌, ◌++◌}
-use Rattle.std.proofs.Common.{arith, ap, refl}
-use Rattle.cax64_machine_code.specs.Prefix.{Rex, rex_of, rex_at}
+use Rattle.std.specs.Prelude.{◌≡◌, ℕ, ◌+◌, ◌*◌, ◌/◌, ◌==◌, ◌&&◌, nat_le, Bool, false, Option, Some, None, List, [], ◌∷◌, ◌++◌}
+use Rattle.cax64_machine_code.specs.Prefix.{Rex, rex_at}
 
 -- the REX byte that holds some bits
 abbrev pub rex_byte : Rex → ℕ
@@ -22,11 +21,3 @@ begins_rex (byte ∷ bytes) = byte / 16 == 4
 -- the bytes read back as the prefix, whatever follows that isn't itself a REX byte
 pub record RexReadsBack (rex : Option Rex) : Type 0 where
   pub reads : (rest : List ℕ) → begins_rex rest ≡ false → rex_at (rex_bytes rex ++ rest) ≡ (rex, rest)
-
--- a byte from 40 to 4F, or none
-abbrev pub IsRexByte : Option ℕ → Type 0
-IsRexByte byte = IfSome byte (λ b. b / 16 ≡ 4)
-
-pub rex_byte-rex_of : (byte : Option ℕ) → IsRexByte byte → option_map rex_byte (option_map rex_of byte) ≡ byte
-rex_byte-rex_of None h = refl
-rex_byte-rex_of (Some byte) h = let e : rex_byte (rex_of byte) ≡ byte = omega arith in ap Some e

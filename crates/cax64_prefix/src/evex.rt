@@ -4,7 +4,8 @@ ghost use Rattle.std.specs.Prelude.{◌≡◌, ◌+◌, ◌-◌, ◌*◌, ◌/�
 ghost use Rattle.std.specs.Int.{from_bool};
 ghost use Rattle.cax64_sink.specs.Sink.{Ran};
 ghost use Rattle.cax64_prefix.specs.Puts.{puts};
-ghost use Rattle.cax64_prefix.specs.Evex.{evex_fields, apx_fields, EvexReadsAs, ApxReadsAs};
+ghost use Rattle.cax64_prefix.specs.Evex.{evex_fields, EvexReadsAs};
+ghost use Rattle.cax64_prefix.specs.Apx.{apx_fields, ApxReadsAs};
 
 use crate::fields::{invert_top_bit, operation_byte, register_byte};
 use crate::puts::put_each;

@@ -24,7 +24,8 @@ impl Model for RexPrefix {
     ghost Value = { Option Rex };
 
     ghost use Rattle.std.proofs.Common.{ap};
-    ghost use Rattle.cax64_prefix.specs.Rex.{rex_byte, IsRexByte, rex_byte-rex_of};
+    ghost use Rattle.cax64_prefix.specs.Rex.{rex_byte};
+    ghost use Rattle.cax64_prefix.specs.HeldByte.{IsRexByte, rex_byte-rex_of};
 
     ghost view = { λ p. option_map rex_of p.byte };
 

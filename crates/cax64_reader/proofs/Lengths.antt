@@ -2,7 +2,7 @@ use Rattle.std.proofs.Common.{◌≡◌, ℕ, zero, suc, ◌+◌, ◌<◌, ◌�
 use Rattle.std.specs.Prelude.{◌==◌, ◌&&◌, if◌then◌else◌, option_map, option_and_then}
 use Rattle.cax64_machine_code.specs.Fields.{number_at, mod_of, reg_of, rm_of, base_of}
 use Rattle.cax64_machine_code.specs.Tail.{Tail, disp8_at, disp32_at, disp_at, displaced, sib_at, read_tail}
-use Rattle.cax64_reader.specs.Tail.{Within}
+use Rattle.cax64_reader.specs.Lengths.{Within}
 use Rattle.cax64_machine_code.specs.declared.reading.Place.{Place}
 
 pub some_same : {A : Type 0} (a b : A) → ◌≡◌ {A = Option A} (Some a) (Some b) → a ≡ b

@@ -20,8 +20,7 @@ use Rattle.cax64_machine_code.specs.declared.row.Row.{Row}
 use Rattle.cax64_machine_code.specs.declared.row.Row.TheVariants.{lock_addb_mi}
 use Rattle.cax64_machine_code.proofs.Uniqueness.{behind, some_if, legacy_same}
 use Rattle.cax64_machine_code.proofs.Whole.{steps, row_matches}
-use Rattle.cax64_reader.specs.Operands.{HasSize}
-use Rattle.cax64_reader.specs.Tail.{Within}
+use Rattle.cax64_reader.specs.Lengths.{Within, HasSize}
 use Rattle.cax64_reader.proofs.Lengths.{some_same, mapped_from, chained_from, either_from, number_length, tail_length}
 
 one : Bool → ℕ

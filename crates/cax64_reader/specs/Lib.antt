@@ -1,3 +1,4 @@
-pub mod Tail
-pub mod Prefix
-pub mod Operands
+-- Steps of the proofs.
+pub mod Found
+pub mod Lengths
+pub mod Legacy

@@ -4,8 +4,9 @@ ghost use Rattle.std.specs.Prelude.{◌≡◌, ◌<◌, ◌≤◌, ◌^◌, opti
 ghost use Rattle.cax64_machine_code.specs.Fields.{signed_of};
 ghost use Rattle.cax64_machine_code.specs.Reading.{view_of, reg_view, reg_place, place_at, vvvv_at, imm_at, bare_operands, tail_operands, operands_of};
 ghost use Rattle.cax64_table.specs.Cursor.{behind};
-ghost use Rattle.cax64_table.specs.Read.{prefix_of};
-ghost use Rattle.cax64_reader.specs.Operands.{found_of, HasSize};
+ghost use Rattle.cax64_table.specs.Prefix.{prefix_of};
+ghost use Rattle.cax64_reader.specs.Lengths.{HasSize};
+ghost use Rattle.cax64_reader.specs.Found.{found_of};
 
 use crate::number::number;
 use crate::tail::read_tail;

@@ -5,8 +5,8 @@ ghost use Rattle.std.specs.Int.{from_bool};
 ghost use Rattle.cax64_machine_code.specs.Prefix.{no_legacy, is_no_legacy, legacy_at, rex_of, rex_at, vex_two_byte, vex_three_byte, is_vex_map, vex_at, begins_vex, prefix_at};
 ghost use Rattle.cax64_machine_code.specs.declared.line.LegacySet.{LegacySet};
 ghost use Rattle.cax64_machine_code.specs.Prefix as definitions;
-ghost use Rattle.cax64_table.specs.Read.{rex_bits_of, vex_fields_of, prefix_of};
-ghost use Rattle.cax64_reader.specs.Prefix.{added};
+ghost use Rattle.cax64_table.specs.Prefix.{rex_bits_of, vex_fields_of, prefix_of};
+ghost use Rattle.cax64_reader.specs.Legacy.{added};
 
 use cax64_machine_code::line::LegacySet;
 use cax64_table::cursor::next;

@@ -2,7 +2,7 @@
 
 ghost use Rattle.std.specs.Prelude.{◌≡◌, ◌≤◌, ◌+◌, IfSome, option_map, length};
 ghost use Rattle.cax64_machine_code.specs.Reading.{find, read};
-ghost use Rattle.cax64_reader.specs.Operands.{found_of};
+ghost use Rattle.cax64_reader.specs.Found.{found_of};
 
 use crate::operands::{Found, operands};
 use crate::prefix::read_prefix;

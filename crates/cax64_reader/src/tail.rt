@@ -4,7 +4,8 @@ ghost use Rattle.std.specs.Prelude.{◌≡◌, ◌<◌, ◌∷◌, ℕ, option_m
 ghost use Rattle.std.specs.Int.{from_bool};
 ghost use Rattle.cax64_machine_code.specs.Tail.{disp8_at, disp32_at, disp_at, scaled_index, sib_at, read_tail};
 ghost use Rattle.cax64_table.specs.Cursor.{behind};
-ghost use Rattle.cax64_reader.specs.Tail.{tail_of, Within};
+ghost use Rattle.cax64_reader.specs.Lengths.{Within};
+ghost use Rattle.cax64_reader.specs.Found.{tail_of};
 
 use crate::number::number;
 use cax64_machine_code::reading::{Place, RegView};

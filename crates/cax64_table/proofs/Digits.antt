@@ -6,7 +6,7 @@ use Rattle.cax64_machine_code.specs.Rows.{line_of, all_rows}
 use Rattle.cax64_machine_code.specs.declared.line.Opcode.{Opcode}
 use Rattle.cax64_machine_code.specs.declared.row.Row.{Row}
 use Rattle.cax64_machine_code.specs.declared.row.Row.TheVariants.{lock_addb_mi}
-use Rattle.cax64_table.specs.Key.{digit_of}
+use Rattle.cax64_table.specs.Digit.{digit_of}
 
 has_digit : Row → Bool
 has_digit row = is_some (digit_of (line_of row).tail)

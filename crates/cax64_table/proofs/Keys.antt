@@ -11,7 +11,8 @@ use Rattle.cax64_machine_code.specs.Rows.{line_of}
 use Rattle.cax64_machine_code.specs.declared.row.Row.{Row}
 use Rattle.cax64_machine_code.specs.declared.row.Row.TheVariants.{lock_addb_mi}
 use Rattle.cax64_table.specs.Packed.{number_of}
-use Rattle.cax64_table.specs.Key.{digit_of, HasKey, key_of, row_key}
+use Rattle.cax64_table.specs.Key.{HasKey, key_of, row_key}
+use Rattle.cax64_table.specs.Digit.{digit_of}
 use Rattle.cax64_table.specs.declared.packed.TheConstants.{BY_KEY}
 
 -- each row's key is no higher than that of the next

@@ -16,7 +16,9 @@ use Rattle.cax64_machine_code.specs.Fields.{reg_of}
 use Rattle.cax64_machine_code.specs.declared.line.TailField.{TailField}
 use Rattle.cax64_machine_code.specs.declared.line.TailField.TheVariants.{NoTail, Modrm}
 use Rattle.cax64_machine_code.specs.declared.line.RegField.TheVariants.{Digit, Register8, Register}
-use Rattle.cax64_table.specs.Key.{HasKey, digit_of, front_opcode, fits, escaped_opcode, plain_opcode}
+use Rattle.cax64_table.specs.Key.{HasKey}
+use Rattle.cax64_table.specs.Matching.{front_opcode, fits, escaped_opcode, plain_opcode}
+use Rattle.cax64_table.specs.Digit.{digit_of}
 
 equal : (a b : ℕ) → (a == b) ≡ true → a ≡ b
 equal a b h = grind (arith, nat_tests)

@@ -1,4 +1,8 @@
+-- What the clauses of public functions say.
+pub mod Cursor
+pub mod Prefix
+pub mod Digit
+-- Steps of the proofs.
 pub mod Packed
 pub mod Key
-pub mod Read
-pub mod Cursor
+pub mod Matching

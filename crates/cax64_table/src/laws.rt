@@ -2,7 +2,7 @@
 
 ghost use Rattle.std.specs.Prelude.{◌≡◌, is_some};
 ghost use Rattle.cax64_machine_code.specs.Rows.{line_of};
-ghost use Rattle.cax64_table.specs.Key.{digit_of};
+ghost use Rattle.cax64_table.specs.Digit.{digit_of};
 
 use cax64_machine_code::row::Row;
 

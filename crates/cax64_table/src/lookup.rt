@@ -7,8 +7,9 @@ ghost use Rattle.cax64_machine_code.specs.Reading.{row_at};
 ghost use Rattle.cax64_machine_code.specs.Rows.{line_of, all_rows};
 ghost use Rattle.cax64_machine_code.specs.declared.row.Row.{Row};
 ghost use Rattle.cax64_table.specs.Cursor.{behind};
-ghost use Rattle.cax64_table.specs.Key.{HasKey, front_opcode, fits};
-ghost use Rattle.cax64_table.specs.Read.{prefix_of};
+ghost use Rattle.cax64_table.specs.Key.{HasKey};
+ghost use Rattle.cax64_table.specs.Matching.{front_opcode, fits};
+ghost use Rattle.cax64_table.specs.Prefix.{prefix_of};
 
 use crate::cursor::next;
 use crate::packed::{line, rows_of};

@@ -4,7 +4,7 @@ ghost use Rattle.std.specs.Prelude.{◌≡◌};
 ghost use Rattle.std.specs.Int.{from_bool};
 ghost use Rattle.cax64_machine_code.specs.Line.{same_legacy, w_matches, vvvv_matches, field_matches, prefix_matches};
 ghost use Rattle.cax64_machine_code.specs.Prefix.{w_of, r_of, x_of, b_of, vvvv_of, has_rex};
-ghost use Rattle.cax64_table.specs.Read.{prefix_of};
+ghost use Rattle.cax64_table.specs.Prefix.{prefix_of};
 
 use cax64_machine_code::line::{LegacySet, Line, PrefixField, VvvvField};
 

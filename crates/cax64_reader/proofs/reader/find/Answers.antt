@@ -2,7 +2,7 @@ use Rattle.std.proofs.Common.{◌≡◌, ◌∙◌, ◌≤◌, ◌+◌, length, 
 use Rattle.std.specs.Prelude.{IfSome, option_map}
 use Rattle.cax64_machine_code.specs.Reading as definitions
 use Rattle.cax64_machine_code.specs.Reading.{find, operands_at}
-use Rattle.cax64_reader.specs.Operands.{found_of}
+use Rattle.cax64_reader.specs.Found.{found_of}
 use Rattle.cax64_reader.specs.declared.operands.Found.{Found}
 use Rattle.cax64_reader.proofs.Longest.{find_length, row_size}
 use Rattle.cax64_reader.proofs.reader.find.Goals as goal

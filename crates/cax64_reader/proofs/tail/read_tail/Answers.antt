@@ -3,7 +3,8 @@ use Rattle.std.specs.Prelude.{IfSome, option_map}
 use Rattle.std.specs.Int.{from_bool}
 use Rattle.cax64_machine_code.specs.Tail as definitions
 use Rattle.cax64_machine_code.specs.Tail.{read_tail}
-use Rattle.cax64_reader.specs.Tail.{tail_of, Within}
+use Rattle.cax64_reader.specs.Lengths.{Within}
+use Rattle.cax64_reader.specs.Found.{tail_of}
 use Rattle.cax64_reader.specs.declared.tail.Tail.{Tail}
 use Rattle.cax64_reader.proofs.Numbers.{nothing_left}
 use Rattle.cax64_reader.proofs.Prefixes.{front_is}

@@ -1,5 +1,5 @@
 use Rattle.std.proofs.Common.{refl, sym}
-use Rattle.cax64_table.specs.Read.{prefix_of}
+use Rattle.cax64_table.specs.Prefix.{prefix_of}
 use Rattle.cax64_table.proofs.Matching.{found_is, no_opcode, no_row}
 use Rattle.cax64_table.proofs.lookup.row_at.Goals as goal
 

@@ -1,6 +1,6 @@
 use Rattle.std.proofs.Common.{Option, None, Some, sym}
 use Rattle.std.specs.Prelude.{IfNone}
-use Rattle.cax64_table.specs.Read.{prefix_of}
+use Rattle.cax64_table.specs.Prefix.{prefix_of}
 use Rattle.cax64_table.proofs.Matching.{unfit_of_digit}
 use Rattle.cax64_table.proofs.lookup.row_of.Goals as goal
 

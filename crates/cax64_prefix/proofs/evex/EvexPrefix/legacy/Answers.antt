@@ -1,6 +1,6 @@
 use Rattle.std.proofs.Common.{◌<◌, arith, unwrap_or}
 use Rattle.std.specs.Int.{from_bool}
-use Rattle.cax64_prefix.specs.Evex.{apx_fields}
+use Rattle.cax64_prefix.specs.Apx.{apx_fields}
 use Rattle.cax64_prefix.proofs.Bits.{bool_below}
 use Rattle.cax64_prefix.proofs.VexBits.{register_below}
 use Rattle.cax64_prefix.proofs.EvexBits.{apx_reads}
