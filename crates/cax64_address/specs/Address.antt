@@ -69,3 +69,9 @@ abbrev pub target_notices : {R : Type 0} → Amode R → ℕ → List Notice
 target_notices (ImmReg base simm32 trap) at = []
 target_notices (ImmRegRegShift base index scale simm32 trap) at = []
 target_notices (RipRelative target) at = Target (at + 1) target ∷ []
+
+-- and how many notices that is
+abbrev pub target_count : {R : Type 0} → Amode R → ℕ
+target_count (ImmReg base simm32 trap) = 0
+target_count (ImmRegRegShift base index scale simm32 trap) = 0
+target_count (RipRelative target) = 1

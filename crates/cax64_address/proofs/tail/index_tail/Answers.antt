@@ -5,7 +5,7 @@ use Rattle.cax64_address.specs.Address.{scale_number}
 use Rattle.cax64_address.specs.Displacement.{GivesBack, IsClassOf, factor_of, mode_of}
 use Rattle.cax64_address.proofs.Emits.{Chosen, chosen_five, chosen_other, emits_index}
 use Rattle.cax64_address.proofs.TailBytes.{sib_bytes}
-use Rattle.cax64_address.proofs.TailLengths.{index_length}
+use Rattle.cax64_address.proofs.TailLengths.{index_length, some_factor}
 use Rattle.cax64_address.proofs.tail.index_tail.Goals as goal
 use Rattle.cax64_address.proofs.tail.index_tail.Goals.{then-low-eq5, else-low-eq5}
 
@@ -36,11 +36,11 @@ returns-clause-bytes c =
     sib_bytes _ _ _ _ _ _ _ _ _ chosen c.requires.reg four byte small
 
 pub returns-clause-length : goal.returns-clause-length
-returns-clause-length c none =
+returns-clause-length c =
     let class : IsClassOf (factor_of c.args.evex_scaling) c.args.displacement c.new-disp.result = rw (to_z-of_z w32 c.args.displacement c.ranges.displacement) at c.new-disp.ensures.class in
     let back : GivesBack (factor_of c.args.evex_scaling) c.args.displacement c.new-disp.result = rw (to_z-of_z w32 c.args.displacement c.ranges.displacement) at c.new-disp.ensures.gives_back in
     let chosen : Chosen (factor_of c.args.evex_scaling) c.args.base c.args.displacement c.new-disp.result c.if-low-eq5.disp = elim c.if-low-eq5.branch [
       | then-low-eq5 w ↦ rw (w.disp-is, w.force_immediate.ensures) (chosen_five _ _ _ _ class back (omega (arith, and_mask c.args.base 3)))
       | else-low-eq5 w ↦ rw w.disp-is (chosen_other _ _ _ _ class back (omega (arith, and_mask c.args.base 3)))
     ] in
-    index_length _ _ (c.args.index, 2 ^ scale_number c.args.scale) _ _ _ chosen none
+    index_length _ _ (c.args.index, 2 ^ scale_number c.args.scale) _ _ _ (some_factor c.args.evex_scaling c.requires.factor) chosen

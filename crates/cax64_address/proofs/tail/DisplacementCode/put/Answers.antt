@@ -1,7 +1,7 @@
 use Rattle.std.proofs.Common.{◌∙◌, ap, Err}
 use Rattle.std.proofs.lemmas.Result.{err_from_is_err_and}
 use Rattle.cax64_sink.proofs.Runs.{ran_next, ran_halt, ran_one}
-use Rattle.cax64_address.proofs.tail.TailField.put.Goals as goal
+use Rattle.cax64_address.proofs.tail.DisplacementCode.put.Goals as goal
 
 pub returns-in_err-use_target-in-Relative : goal.returns-in_err-use_target-in-Relative
 returns-in_err-use_target-in-Relative g c =
