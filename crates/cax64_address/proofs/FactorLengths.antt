@@ -100,10 +100,10 @@ not_held f v true h none = let q = holds f v h in absurd (none q.0 q.1 q.2)
 not_held f v false h none = h
 
 -- a class has as many bytes as its displacement under the factor
-pub class_length : (f : ℕ) (v : ℤ) (d : Disp) → 0 < f → IsClassOf f v d → disp_len_under f v ≡ disp_length d
-class_length f v None positive h = rw h refl
-class_length f v (Imm8 q) positive h = held_length f v h.0 (held f v q positive h.0 h.1 h.2)
-class_length f v (Imm32 w) positive h = long_length f v h.0 (not_held f v (byte_holds f v) refl h.2)
+pub length_of_class : (f : ℕ) (v : ℤ) (d : Disp) → 0 < f → IsClassOf f v d → disp_len_under f v ≡ disp_length d
+length_of_class f v None positive h = rw h refl
+length_of_class f v (Imm8 q) positive h = held_length f v h.0 (held f v q positive h.0 h.1 h.2)
+length_of_class f v (Imm32 w) positive h = long_length f v h.0 (not_held f v (byte_holds f v) refl h.2)
 
 -- without a factor, which is a factor of 1
 

@@ -11,7 +11,7 @@ use Rattle.cax64_address.specs.Length.{disp_len_under, base_disp_len_under, leas
 use Rattle.cax64_address.specs.declared.disp.Disp.{Disp}
 use Rattle.cax64_address.specs.declared.disp.Disp.TheVariants.{None, Imm8, Imm32}
 use Rattle.cax64_address.proofs.Emits.{Chosen, disp_length, differ}
-use Rattle.cax64_address.proofs.FactorLengths.{class_length, disp_alone}
+use Rattle.cax64_address.proofs.FactorLengths.{length_of_class, disp_alone}
 
 -- how many bytes are put for a tail
 
@@ -20,9 +20,9 @@ some_factor (Some n) h = omega (arith, ints)
 some_factor std.None h = omega arith
 
 forced_length : (f : ℕ) (v : ℤ) (d : Disp) → 0 < f → IsClassOf f v d → at_least_one (disp_len_under f v) ≡ disp_length (forced d)
-forced_length f v None positive h = ap at_least_one (class_length f v None positive h)
-forced_length f v (Imm8 q) positive h = ap at_least_one (class_length f v (Imm8 q) positive h)
-forced_length f v (Imm32 w) positive h = ap at_least_one (class_length f v (Imm32 w) positive h)
+forced_length f v None positive h = ap at_least_one (length_of_class f v None positive h)
+forced_length f v (Imm8 q) positive h = ap at_least_one (length_of_class f v (Imm8 q) positive h)
+forced_length f v (Imm32 w) positive h = ap at_least_one (length_of_class f v (Imm32 w) positive h)
 
 by_low : (f base : ℕ) (v : ℤ) (d e : Disp) (five : Bool) → (base % 8 == 5) ≡ five → 0 < f → Chosen f base v d e → base_disp_len_under f base v ≡ disp_length e
 by_low f base v d e true is positive h =
@@ -30,7 +30,7 @@ by_low f base v d e true is positive h =
     rw (is, h.five low) (forced_length f v d positive h.class)
 by_low f base v d e false is positive h =
     let low : base % 8 ≢ 5 = grind (arith, nat_tests) in
-    rw (is, h.other low) (class_length f v d positive h.class)
+    rw (is, h.other low) (length_of_class f v d positive h.class)
 
 chosen_length : (f base : ℕ) (v : ℤ) (d e : Disp) → 0 < f → Chosen f base v d e → base_disp_len_under f base v ≡ disp_length e
 chosen_length f base v d e positive h = by_low f base v d e (base % 8 == 5) refl positive h

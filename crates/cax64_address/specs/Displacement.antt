@@ -13,6 +13,12 @@ mode_of None = 0
 mode_of (Imm8 v) = 1
 mode_of (Imm32 v) = 2
 
+-- how many bytes a class has
+abbrev pub class_length : Disp → ℕ
+class_length None = 0
+class_length (Imm8 v) = 1
+class_length (Imm32 v) = 4
+
 -- what is put for a class
 abbrev pub disp_actions : Disp → List Action
 disp_actions None = []
