@@ -1,5 +1,5 @@
 -- What a contract sees of a sink, the law of one call, and runs of calls.
-use Rattle.std.specs.Prelude.{ℕ, ℤ, None, Option, ◌+◌, ◌≡◌, List, [], ◌∷◌, ◌++◌, length, Bool, true, false, if◌then◌else◌, Result, Ok, Err, is_ok, IsOk, IfErr, ◌⊎◌}
+use Rattle.std.specs.Prelude.{ℕ, ℤ, None, Option, ◌+◌, ◌≡◌, List, [], ◌∷◌, ◌++◌, length, Bool, true, false, if◌then◌else◌, Result, Ok, Err, is_ok, IsOk, IsErr, IfErr, ◌⊎◌}
 use Rattle.cax64_sink.specs.Room.{Room, HasRoom, FallsBy, endless}
 use Rattle.cax64_sink.specs.declared.SinkError.{SinkError}
 use Rattle.cax64_sink.specs.declared.TrapCode.{TrapCode}
@@ -42,7 +42,8 @@ notes_of (put bytes) = 0
 notes_of (trap code) = 1
 notes_of (target t) = 1
 
--- one call of a sink, which answers r: a refused call adds nothing, and one with room for it isn't refused
+-- one call of a sink, which answers r: a refused call adds nothing and lowers no room, and one with room for it isn't
+-- refused
 pub record Step (act : Action) (old new : State) (r : Result (Unit {0}) SinkError) : Type 0 where
   pub bytes : new.bytes ≡ (if is_ok r then old.bytes ++ bytes_of act else old.bytes)
   pub notices : new.notices ≡ (if is_ok r then (if old.records then old.notices ++ notice_of act (length old.bytes) else old.notices) else old.notices)
@@ -52,6 +53,8 @@ pub record Step (act : Action) (old new : State) (r : Result (Unit {0}) SinkErro
   pub succeeds : HasRoom old.byte_room (length (bytes_of act)) → HasRoom old.notice_room (notes_of act) → IsOk r
   pub byte_room : FallsBy old.byte_room new.byte_room (length (bytes_of act))
   pub notice_room : FallsBy old.notice_room new.notice_room (notes_of act)
+  pub refused_byte_room : IsErr r → FallsBy old.byte_room new.byte_room 0
+  pub refused_notice_room : IsErr r → FallsBy old.notice_room new.notice_room 0
   pub error : IfErr r (λ e. old.answers e ≡ true)
 
 -- states that a list of calls leads through, up to the first that is refused
