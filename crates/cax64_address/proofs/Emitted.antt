@@ -7,7 +7,9 @@ use Rattle.cax64_machine_code.specs.Address.{address_of}
 use Rattle.cax64_machine_code.specs.Tail.{IsTail, Tail, read_tail}
 use Rattle.cax64_machine_code.specs.declared.reading.Place.{Place}
 use Rattle.cax64_sink.specs.Room.{HasRoom, FallsBy}
-use Rattle.cax64_sink.specs.Sink.{State, Action, Ran, all_bytes, all_notices, size, notes}
+use Rattle.cax64_sink.specs.Sink.{State}
+use Rattle.cax64_sink.specs.Run.{Ran, all_bytes, all_notices, byte_total, notice_total}
+use Rattle.cax64_sink.specs.Call.{Action}
 use Rattle.cax64_sink.specs.declared.SinkError.{SinkError}
 use Rattle.cax64_sink.specs.declared.Notice.{Notice}
 use Rattle.cax64_sink.proofs.Runs.{ran_bytes, ran_notices, ran_error}
@@ -82,10 +84,10 @@ one_at_most (ImmRegRegShift base index scale simm32 trap) = omega arith
 one_at_most (RipRelative target) = omega arith
 
 -- a run asks for the room of its tail
-size_is : (m : TailMeant) (acts : List Action) → length (all_bytes acts) ≡ tail_length m → size acts ≡ tail_length m
+size_is : (m : TailMeant) (acts : List Action) → length (all_bytes acts) ≡ tail_length m → byte_total acts ≡ tail_length m
 size_is m acts count = size_is_length acts ∙ count
 
-notes_are : {R : Type 0} (m : TailMeant) (acts : List Action) (amode : Amode R) → m.told ≡ target_notices amode → PutsTail m acts → notes acts ≡ target_count amode
+notes_are : {R : Type 0} (m : TailMeant) (acts : List Action) (amode : Amode R) → m.told ≡ target_notices amode → PutsTail m acts → notice_total acts ≡ target_count amode
 notes_are m acts amode told h = notes_is_length acts 0 ∙ ap length (h.notices 0) ∙ ap (λ (f : ℕ → List Notice). length (f 0)) told ∙ count_is amode 0
 
 pub run_room : {R : Type 0} {m : TailMeant} {acts : List Action} {s t : State} {r : Result (Unit {0}) SinkError} (amode : Amode R) → m.told ≡ target_notices amode → PutsTail m acts → length (all_bytes acts) ≡ tail_length m → Ran acts s t r → HasRoom s.byte_room (tail_length m) → HasRoom s.notice_room (target_count amode) → IsOk r
@@ -94,9 +96,9 @@ run_room {m = m} {acts = acts} amode told h count run bytes notices = ran_succee
 -- room for six bytes and a notice is enough
 pub run_enough : {R : Type 0} {m : TailMeant} {acts : List Action} {s t : State} {r : Result (Unit {0}) SinkError} (amode : Amode R) → m.told ≡ target_notices amode → PutsTail m acts → Ran acts s t r → HasRoom s.byte_room 6 → HasRoom s.notice_room 1 → IsOk r
 run_enough {m = m} {acts = acts} {s = s} amode told h run bytes notices =
-    let small : size acts ≤ 6 = omega (arith, size_is_length acts, h.most) in
-    let few : notes acts ≤ 1 = omega (arith, notes_are m acts amode told h, one_at_most amode) in
-    ran_succeeds run (less_room s.byte_room 6 (size acts) small bytes) (less_room s.notice_room 1 (notes acts) few notices)
+    let small : byte_total acts ≤ 6 = omega (arith, size_is_length acts, h.most) in
+    let few : notice_total acts ≤ 1 = omega (arith, notes_are m acts amode told h, one_at_most amode) in
+    ran_succeeds run (less_room s.byte_room 6 (byte_total acts) small bytes) (less_room s.notice_room 1 (notice_total acts) few notices)
 
 pub run_byte_room : (m : TailMeant) {acts : List Action} {s t : State} {r : Result (Unit {0}) SinkError} → length (all_bytes acts) ≡ tail_length m → Ran acts s t r → FallsBy s.byte_room t.byte_room (tail_length m)
 run_byte_room m {acts = acts} {s = s} {t = t} count run = subst (λ (n : ℕ). FallsBy s.byte_room t.byte_room n) (size_is m acts count) (ran_byte_room run)

@@ -5,7 +5,8 @@ use Rattle.std.specs.Int.RustNames.{FitsSigned}
 use Rattle.cax64_address.specs.declared.disp.Disp.{Disp}
 use Rattle.cax64_address.specs.declared.disp.Disp.TheVariants.{None, Imm8, Imm32}
 use Rattle.cax64_machine_code.specs.Tail.{disp_at}
-use Rattle.cax64_sink.specs.Sink.{Action, put, all_bytes}
+use Rattle.cax64_sink.specs.Run.{all_bytes}
+use Rattle.cax64_sink.specs.Call.{Action, put}
 
 -- the mod field that goes with a class
 abbrev pub mode_of : Disp → ℕ

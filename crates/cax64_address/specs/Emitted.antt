@@ -5,7 +5,8 @@ use Rattle.cax64_machine_code.specs.declared.reading.Place.{Place}
 use Rattle.cax64_machine_code.specs.Tail.{IsTail}
 use Rattle.cax64_machine_code.specs.Shortest.{Shortest}
 use Rattle.cax64_sink.specs.Ends.{EndsInBytes}
-use Rattle.cax64_sink.specs.Sink.{Action, put, target, all_bytes, all_notices}
+use Rattle.cax64_sink.specs.Run.{all_bytes, all_notices}
+use Rattle.cax64_sink.specs.Call.{Action, put, target}
 use Rattle.cax64_sink.specs.declared.Notice.{Notice}
 use Rattle.cax64_address.specs.Displacement.{disp_actions}
 use Rattle.cax64_address.specs.OperandTail.{TailMeant}

@@ -3,7 +3,7 @@
 ghost use Rattle.std.specs.Prelude.{◌≡◌, ◌≤ℤ◌, ◌<◌, ◌*◌, ◌+◌, IfSome, IsOk, pos};
 ghost use Rattle.cax64_address.specs.Displacement.{mode_of, disp_actions, class_length, factor_of, GivesBack, IsClassOf, forced};
 ghost use Rattle.cax64_sink.specs.Room.{HasRoom, FallsBy};
-ghost use Rattle.cax64_sink.specs.Sink.{Ran};
+ghost use Rattle.cax64_sink.specs.Run.{Ran};
 
 use cax64_sink::{CodeSink, SinkError};
 

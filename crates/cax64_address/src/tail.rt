@@ -11,7 +11,7 @@ ghost use Rattle.cax64_machine_code.specs.Fields.{IsBytes};
 ghost use Rattle.cax64_machine_code.specs.Len.{least_tail};
 ghost use Rattle.cax64_sink.specs.Keeps.{Keeps};
 ghost use Rattle.cax64_sink.specs.Room.{HasRoom, FallsBy};
-ghost use Rattle.cax64_sink.specs.Sink.{Ran, all_bytes, size, notes};
+ghost use Rattle.cax64_sink.specs.Run.{Ran, all_bytes, byte_total, notice_total};
 
 use crate::amode::{Amode, Scale};
 use crate::disp::{Disp, encode_modrm};

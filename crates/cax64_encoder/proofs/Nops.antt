@@ -6,7 +6,7 @@ use Rattle.cax64_machine_code.specs.Reading.{Found, find, row_at, operands_at}
 use Rattle.cax64_machine_code.proofs.Matched.{reads_as}
 use Rattle.cax64_machine_code.specs.Rows.{line_of, all_rows}
 use Rattle.cax64_machine_code.specs.Tail.{read_tail, sib_at, disp_at}
-use Rattle.cax64_sink.specs.Sink.{all_bytes, all_notices}
+use Rattle.cax64_sink.specs.Run.{all_bytes, all_notices}
 use Rattle.cax64_sink.specs.Ends.{EndsInBytes}
 use Rattle.cax64_encoder.specs.Encodes.{EncodesAs}
 use Rattle.cax64_encoder.specs.Meant.{nop_meant}

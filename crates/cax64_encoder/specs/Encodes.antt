@@ -21,7 +21,8 @@ use Rattle.cax64_machine_code.specs.declared.reading.Reading.{Reading}
 use Rattle.cax64_machine_code.specs.declared.reading.RegView.TheVariants.{Low}
 use Rattle.cax64_prefix.specs.Rex.{is_special_if_8bit}
 use Rattle.cax64_sink.specs.Ends.{EndsInBytes}
-use Rattle.cax64_sink.specs.Sink.{Action, all_bytes, all_notices}
+use Rattle.cax64_sink.specs.Run.{all_bytes, all_notices}
+use Rattle.cax64_sink.specs.Call.{Action}
 use Rattle.cax64_sink.specs.declared.Notice.{Notice}
 use Rattle.cax64_sink.specs.declared.Notice.TheVariants.{Trap, Target}
 use Rattle.cax64_sink.specs.declared.TrapCode.{TrapCode}

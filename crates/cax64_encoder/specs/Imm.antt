@@ -1,6 +1,6 @@
 use Rattle.std.specs.Prelude.{ℕ, ◌^◌, nat_lt, Bool, Option, Some, None, ℤ, pos, negsuc, List, [], ◌∷◌}
 use Rattle.std.specs.Int.{cast_unsigned, to_le_bytes, w8, w16, w32}
-use Rattle.cax64_sink.specs.Sink.{Action, put}
+use Rattle.cax64_sink.specs.Call.{Action, put}
 use Rattle.cax64_encoder.specs.declared.imm.ImmOperand.{ImmOperand}
 use Rattle.cax64_encoder.specs.declared.imm.ImmOperand.TheVariants.{Imm8, Imm16, Imm32, Simm8, Simm32}
 

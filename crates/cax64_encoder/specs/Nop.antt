@@ -5,7 +5,7 @@ use Rattle.cax64_machine_code.specs.declared.reading.Place.TheVariants.{Mem}
 use Rattle.cax64_machine_code.specs.declared.row.Row.{Row}
 use Rattle.cax64_machine_code.specs.declared.row.Row.TheVariants.{nop_1b, nop_2b, nopl_rm, nopw_rm}
 use Rattle.cax64_prefix.specs.Puts.{puts}
-use Rattle.cax64_sink.specs.Sink.{Action}
+use Rattle.cax64_sink.specs.Call.{Action}
 use Rattle.cax64_encoder.specs.Imm.{optional_imm_actions}
 use Rattle.cax64_encoder.specs.declared.imm.ImmOperand.{ImmOperand}
 use Rattle.cax64_encoder.specs.declared.imm.ImmOperand.TheVariants.{Imm16, Imm32}

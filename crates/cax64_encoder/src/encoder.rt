@@ -13,7 +13,7 @@ ghost use Rattle.cax64_machine_code.specs.Len.{is_w1, tail_len, len_of};
 ghost use Rattle.cax64_machine_code.specs.Line.{w_matches};
 ghost use Rattle.cax64_machine_code.specs.Prefix.{rex_bits};
 ghost use Rattle.cax64_machine_code.specs.Rows.{line_of};
-ghost use Rattle.cax64_sink.specs.Sink.{all_bytes};
+ghost use Rattle.cax64_sink.specs.Run.{all_bytes};
 
 use crate::code::{LineCode, PrefixCode, TailPart};
 use crate::imm::imm_size;

@@ -1,6 +1,6 @@
 //! Instructions that do nothing, of one to nine bytes.
 
-ghost use Rattle.cax64_sink.specs.Sink.{Ran};
+ghost use Rattle.cax64_sink.specs.Run.{Ran};
 ghost use Rattle.cax64_encoder.specs.Nop.{nop_lead, nop_zeros, nop_actions};
 ghost use Rattle.cax64_prefix.specs.Puts.{puts};
 ghost use Rattle.std.specs.Prelude.{◌≡◌};

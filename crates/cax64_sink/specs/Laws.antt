@@ -1,7 +1,9 @@
 -- What follows for each run of calls, from the law of one call.
 use Rattle.std.specs.Prelude.{ℕ, ◌-◌, ◌≤◌, ◌≡◌, List, ◌++◌, length, true, if◌then◌else◌, Result, Ok, Err, IsOk, ◌↔◌}
 use Rattle.cax64_sink.specs.Room.{HasRoom, FallsBy}
-use Rattle.cax64_sink.specs.Sink.{State, Action, Ran, Refusal, all_bytes, all_notices, size, notes, is_no_memory, is_full}
+use Rattle.cax64_sink.specs.Sink.{State, is_no_memory, is_full}
+use Rattle.cax64_sink.specs.Run.{Ran, Refusal, all_bytes, all_notices, byte_total, notice_total}
+use Rattle.cax64_sink.specs.Call.{Action}
 use Rattle.cax64_sink.specs.FixedSink.{fixed_sink_state}
 use Rattle.cax64_sink.specs.declared.SinkError.{SinkError}
 use Rattle.cax64_sink.specs.declared.SinkError.TheVariants.{NoMemory, Full}
@@ -37,11 +39,11 @@ RunsKeep = (acts : List Action) (s t : State) (r : Result (Unit {0}) SinkError) 
 
 -- a run succeeds where there is room for all of it
 abbrev pub RunsWithRoomSucceed : Type 0
-RunsWithRoomSucceed = (acts : List Action) (s t : State) (r : Result (Unit {0}) SinkError) → Ran acts s t r → HasRoom s.byte_room (size acts) → HasRoom s.notice_room (notes acts) → IsOk r
+RunsWithRoomSucceed = (acts : List Action) (s t : State) (r : Result (Unit {0}) SinkError) → Ran acts s t r → HasRoom s.byte_room (byte_total acts) → HasRoom s.notice_room (notice_total acts) → IsOk r
 
 -- a run lowers the rooms by no more than what it asks for
 abbrev pub RunsLowerRooms : Type 0
-RunsLowerRooms = (acts : List Action) (s t : State) (r : Result (Unit {0}) SinkError) → Ran acts s t r → FallsBy s.byte_room t.byte_room (size acts) × FallsBy s.notice_room t.notice_room (notes acts)
+RunsLowerRooms = (acts : List Action) (s t : State) (r : Result (Unit {0}) SinkError) → Ran acts s t r → FallsBy s.byte_room t.byte_room (byte_total acts) × FallsBy s.notice_room t.notice_room (notice_total acts)
 
 -- a fixed sink never holds more than its size
 abbrev pub FixedSinksHold : ℕ → Type 0
@@ -49,4 +51,4 @@ FixedSinksHold N = (s : FixedSink N) → length (fixed_sink_state s).bytes ≤ N
 
 -- a fixed sink takes a run exactly where its bytes fit in what is left
 abbrev pub FixedSinksTake : ℕ → Type 0
-FixedSinksTake N = (acts : List Action) (s t : FixedSink N) (r : Result (Unit {0}) SinkError) → Ran acts (fixed_sink_state s) (fixed_sink_state t) r → IsOk r ↔ (size acts ≤ N - length (fixed_sink_state s).bytes)
+FixedSinksTake N = (acts : List Action) (s t : FixedSink N) (r : Result (Unit {0}) SinkError) → Ran acts (fixed_sink_state s) (fixed_sink_state t) r → IsOk r ↔ (byte_total acts ≤ N - length (fixed_sink_state s).bytes)

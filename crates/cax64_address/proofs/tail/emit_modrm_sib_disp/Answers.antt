@@ -1,6 +1,6 @@
 use Rattle.std.proofs.Common.{◌≡◌, ◌∙◌, FitsSigned, w32, rules, refl, length}
 use Rattle.std.proofs.lemmas.Int.{to_z-of_z}
-use Rattle.cax64_sink.specs.Sink.{all_bytes}
+use Rattle.cax64_sink.specs.Run.{all_bytes}
 use Rattle.cax64_sink.proofs.Ends.{ran_keeps}
 use Rattle.cax64_address.specs.Emitted.{PutsTail, tail_actions}
 use Rattle.cax64_address.specs.OperandTail.{TailMeant, tail_meant, tail_length}

@@ -2,7 +2,7 @@ use Rattle.std.proofs.Common.{◌≡◌, ◌∙◌, Some, None, w32, length}
 use Rattle.std.proofs.lemmas.Int.{to_z-of_z}
 use Rattle.cax64_machine_code.specs.declared.reading.Place.{Place}
 use Rattle.cax64_machine_code.specs.declared.reading.Place.TheVariants.{Mem}
-use Rattle.cax64_sink.specs.Sink.{all_bytes}
+use Rattle.cax64_sink.specs.Run.{all_bytes}
 use Rattle.cax64_address.specs.Displacement.{factor_of}
 use Rattle.cax64_address.specs.Emitted.{tail_actions}
 use Rattle.cax64_address.specs.Length.{least_tail_under}
