@@ -1,3 +1,4 @@
+-- What a memory operand is, which of them can be written, and what they name.
 use Rattle.std.specs.Prelude.{ℕ, ◌/◌, ◌^◌, ◌&&◌, List, [], ◌∷◌, ◌+◌, ℤ, pos, ◌-ℤ◌, Option, Some, None, Bool, true}
 use Rattle.cax64_machine_code.specs.declared.reading.Place.{Place}
 use Rattle.cax64_machine_code.specs.declared.reading.Place.TheVariants.{Mem, Rip}
@@ -11,6 +12,7 @@ use Rattle.cax64_address.specs.declared.amode.Amode.TheVariants.{ImmReg, ImmRegR
 use Rattle.cax64_address.specs.declared.amode.Scale.{Scale}
 use Rattle.cax64_address.specs.declared.amode.Scale.TheVariants.{One, Two, Four, Eight}
 
+-- the two bits of a SIB byte
 abbrev pub scale_number : Scale → ℕ
 scale_number One = 0
 scale_number Two = 1

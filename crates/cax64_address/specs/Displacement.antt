@@ -1,3 +1,4 @@
+-- How a displacement is written.
 use Rattle.std.specs.Prelude.{◌≡◌, ◌≢◌, ℕ, ◌+◌, List, [], ◌∷◌, ◌++◌, ℤ, pos, ◌*ℤ◌, Option, Some, unsigned_abs}
 use Rattle.std.specs.Prelude as std
 use Rattle.std.specs.Int.{cast_unsigned, to_le_bytes, w8, w32}

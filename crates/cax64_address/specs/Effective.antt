@@ -1,3 +1,4 @@
+-- The address that a memory operand has.
 use Rattle.std.specs.Prelude.{ℕ, ◌+◌, ◌*◌, List, ℤ, pos, ◌+ℤ◌, ◌-ℤ◌, Option, slice_index}
 use Rattle.cax64_machine_code.specs.Address.{modulo_64_bits}
 use Rattle.cax64_address.specs.Offset.{sum_of}
