@@ -4,7 +4,7 @@ use Rattle.std.proofs.lemmas.Int.{ints}
 use Rattle.std.proofs.lemmas.List.{append_cancel_left}
 use Rattle.cax64_machine_code.specs.Fields.{IsBytes}
 use Rattle.cax64_machine_code.specs.Address.{address_of}
-use Rattle.cax64_machine_code.specs.Tail.{IsTail, Tail, read_tail}
+use Rattle.cax64_machine_code.specs.Tail.{Tail, read_tail}
 use Rattle.cax64_machine_code.specs.declared.reading.Place.{Place}
 use Rattle.cax64_sink.specs.Room.{HasRoom, FallsBy}
 use Rattle.cax64_sink.specs.Sink.{State}
@@ -25,7 +25,7 @@ use Rattle.cax64_address.specs.declared.amode.Scale.{Scale}
 use Rattle.cax64_address.specs.declared.amode.Scale.TheVariants.{One, Two, Four, Eight}
 use Rattle.cax64_address.specs.Effective.{effective_address, scale_factor}
 use Rattle.cax64_address.specs.Emitted.{PutsTail}
-use Rattle.cax64_address.specs.OperandTail.{TailMeant, IsTailMeant, tail_length, tail_meant, AddsTail, FitsTail, LeavesTail, ReadsAddress}
+use Rattle.cax64_address.specs.OperandTail.{TailMeant, IsTailMeant, tail_length, AddsTail, FitsTail, LeavesTail, ReadsAddress}
 
 told_same : (records : Bool) (old a b : List Notice) → a ≡ b → (if records then old ++ a else old) ≡ (if records then old ++ b else old)
 told_same records old a b e = rw e refl

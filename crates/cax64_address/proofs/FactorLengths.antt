@@ -1,4 +1,4 @@
-use Rattle.std.proofs.Common.{◌≡◌, ◌≢◌, ℕ, zero, suc, ◌+◌, ◌-◌, ◌*◌, ◌/◌, ◌%◌, ◌<◌, ◌≤◌, arith, refl, ◌∙◌, ap, sym, ℤ, pos, negsuc, Bool, true, false, ◌&&◌}
+use Rattle.std.proofs.Common.{◌≡◌, ◌≢◌, ℕ, zero, suc, ◌+◌, ◌*◌, ◌/◌, ◌%◌, ◌<◌, ◌≤◌, arith, refl, ◌∙◌, ap, sym, ℤ, pos, negsuc, Bool, true, false, ◌&&◌}
 use Rattle.std.specs.Prelude.{◌==◌, nat_lt, nat_le, ◌*ℤ◌, ◌-ℤ◌}
 use Rattle.std.specs.Int.{w8}
 use Rattle.std.specs.Int.RustNames.{FitsSigned}

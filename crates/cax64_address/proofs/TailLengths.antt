@@ -1,4 +1,4 @@
-use Rattle.std.proofs.Common.{◌≡◌, ◌≢◌, ℕ, suc, ◌%◌, ◌<◌, ◌≤◌, arith, refl, ap, ℤ, pos, Some, Bool, true, false}
+use Rattle.std.proofs.Common.{◌≡◌, ◌≢◌, ℕ, suc, ◌%◌, ◌<◌, arith, refl, ap, ℤ, pos, Some, Bool, true, false}
 use Rattle.std.specs.Prelude as std
 use Rattle.std.specs.Prelude.{◌==◌, ◌≤ℤ◌, IfSome}
 use Rattle.std.proofs.lemmas.Bool.Decides.{nat_tests}

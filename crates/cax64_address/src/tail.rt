@@ -9,6 +9,7 @@ ghost use Rattle.cax64_address.specs.Length.{least_tail_under};
 ghost use Rattle.cax64_address.specs.OperandTail.{displaced_tail, tail_meant, tail_length, IsTailMeant, AddsTail, LeavesTail, ReadsAddress};
 ghost use Rattle.cax64_machine_code.specs.Fields.{IsBytes};
 ghost use Rattle.cax64_machine_code.specs.Len.{least_tail};
+ghost use Rattle.cax64_machine_code.specs.Shortest.{Shortest};
 ghost use Rattle.cax64_sink.specs.Keeps.{Keeps};
 ghost use Rattle.cax64_sink.specs.Room.{HasRoom, FallsBy};
 ghost use Rattle.cax64_sink.specs.Run.{Ran, all_bytes, byte_total, notice_total};
@@ -76,6 +77,7 @@ fn base_tail(reg: u8, base: u8, displacement: i32, evex_scaling: Option<i8>) -> 
     requires reg { reg < 8 }
     requires base { base < 16 }
     requires factor { IfSome evex_scaling (λ n. pos 1 ≤ℤ n) }
+    ensures shortest { Shortest 0 (base / 8) (factor_of evex_scaling) reg (Place.Mem (Some base) None displacement) (all_bytes (tail_actions result)) }
     ensures tail { TailOf 0 (base / 8) (factor_of evex_scaling) reg (Place.Mem (Some base) None displacement) (λ at. []) (tail_actions result) }
     ensures bytes { IsBytes (all_bytes (tail_actions result)) }
     ensures length { length (all_bytes (tail_actions result)) ≡ least_tail_under (factor_of evex_scaling) (Place.Mem (Some base) None displacement) }

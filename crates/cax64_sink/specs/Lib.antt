@@ -9,6 +9,5 @@ pub mod Recorder
 pub mod FixedSink
 pub mod TrapCode
 pub mod Laws
-
 -- Steps of the proofs.
 pub mod Ends

@@ -1,6 +1,3 @@
-use Rattle.std.proofs.Common.{length}
-use Rattle.std.specs.Prelude.{◌-◌}
-use Rattle.cax64_sink.specs.FixedSink.{fixed_sink_state}
 use Rattle.cax64_address.proofs.Emitted.{fixed_fits, room_for_any}
 use Rattle.cax64_address.proofs.laws.emit_to_fixed_sink.Goals as goal
 
