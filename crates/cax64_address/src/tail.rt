@@ -77,7 +77,6 @@ fn base_tail(reg: u8, base: u8, displacement: i32, evex_scaling: Option<i8>) -> 
     requires reg { reg < 8 }
     requires base { base < 16 }
     requires factor { IfSome evex_scaling (λ n. pos 1 ≤ℤ n) }
-    ensures shortest { Shortest 0 (base / 8) (factor_of evex_scaling) reg (Place.Mem (Some base) None displacement) (all_bytes (tail_actions result)) }
     ensures tail { TailOf 0 (base / 8) (factor_of evex_scaling) reg (Place.Mem (Some base) None displacement) (λ at. []) (tail_actions result) }
     ensures bytes { IsBytes (all_bytes (tail_actions result)) }
     ensures length { length (all_bytes (tail_actions result)) ≡ least_tail_under (factor_of evex_scaling) (Place.Mem (Some base) None displacement) }
@@ -115,18 +114,19 @@ fn index_tail(
     requires index { index < 16 }
     requires non_rsp { index ≢ 4 }
     requires factor { IfSome evex_scaling (λ n. pos 1 ≤ℤ n) }
+    ensures shortest { Shortest (index / 8) (base / 8) (factor_of evex_scaling) reg (Place.Mem (Some base) (Some (index, 2 ^ scale_number scale)) displacement) (all_bytes (tail_actions result)) }
     ensures tail { TailOf (index / 8) (base / 8) (factor_of evex_scaling) reg (Place.Mem (Some base) (Some (index, 2 ^ scale_number scale)) displacement) (λ at. []) (tail_actions result) }
     ensures bytes { IsBytes (all_bytes (tail_actions result)) }
     ensures length { length (all_bytes (tail_actions result)) ≡ least_tail_under (factor_of evex_scaling) (Place.Mem (Some base) (Some (index, 2 ^ scale_number scale)) displacement) }
 {
-    let low = base & 7;
+    let low_base = base & 7;
     let mut disp = Disp::new(displacement, evex_scaling);
-    if low == 5 {
+    if low_base == 5 {
         disp.force_immediate();
     }
     TailCode {
         modrm: encode_modrm(disp.m0d(), reg, 4),
-        sib: Some(encode_modrm(scale.enc(), index & 7, low)),
+        sib: Some(encode_modrm(scale.enc(), index & 7, low_base)),
         displacement: DisplacementCode::Plain(disp),
     }
 }

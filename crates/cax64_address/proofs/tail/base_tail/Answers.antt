@@ -8,14 +8,6 @@ use Rattle.cax64_address.proofs.TailLengths.{base_length, stack_length, some_fac
 use Rattle.cax64_address.proofs.tail.base_tail.Goals as goal
 use Rattle.cax64_address.proofs.tail.base_tail.Goals.{then-low-eq5, else-low-eq5}
 
-pub returns-then-low-eq4-clause-shortest : goal.returns-then-low-eq4-clause-shortest
-returns-then-low-eq4-clause-shortest c =
-    let class : IsClassOf (factor_of c.args.evex_scaling) c.args.displacement c.new-disp.result = rw (to_z-of_z w32 c.args.displacement c.ranges.displacement) at c.new-disp.ensures.class in
-    let back : GivesBack (factor_of c.args.evex_scaling) c.args.displacement c.new-disp.result = rw (to_z-of_z w32 c.args.displacement c.ranges.displacement) at c.new-disp.ensures.gives_back in
-    let low : c.args.base % 8 ≡ 4 = omega (arith, and_mask c.args.base 3) in
-    let byte : c.encode_modrm.result ≡ mode_of c.new-disp.result * 64 + c.args.reg * 8 + 4 = omega arith in
-    (emits_stack _ _ _ _ _ _ _ (chosen_other _ _ _ _ class back (λ e. omega arith)) c.requires.reg byte low).shortest
-
 pub returns-then-low-eq4-clause-tail : goal.returns-then-low-eq4-clause-tail
 returns-then-low-eq4-clause-tail c =
     let class : IsClassOf (factor_of c.args.evex_scaling) c.args.displacement c.new-disp.result = rw (to_z-of_z w32 c.args.displacement c.ranges.displacement) at c.new-disp.ensures.class in
@@ -34,18 +26,6 @@ returns-then-low-eq4-clause-bytes c =
     let small : 36 < 256 = omega arith in
     let not_five : c.args.base % 8 ≢ 5 = omega (arith, low) in
     sib_bytes _ _ _ _ _ _ _ _ _ (chosen_other _ _ _ _ class back not_five) c.requires.reg four byte small
-
-pub returns-clause-shortest : goal.returns-clause-shortest
-returns-clause-shortest c =
-    let class : IsClassOf (factor_of c.args.evex_scaling) c.args.displacement c.new-disp.result = rw (to_z-of_z w32 c.args.displacement c.ranges.displacement) at c.new-disp.ensures.class in
-    let back : GivesBack (factor_of c.args.evex_scaling) c.args.displacement c.new-disp.result = rw (to_z-of_z w32 c.args.displacement c.ranges.displacement) at c.new-disp.ensures.gives_back in
-    let not_four : c.args.base % 8 ≢ 4 = omega (arith, and_mask c.args.base 3) in
-    let byte : c.encode_modrm-2.result ≡ mode_of c.if-low-eq5.disp * 64 + c.args.reg * 8 + c.args.base % 8 = omega (arith, and_mask c.args.base 3) in
-    let chosen : Chosen (factor_of c.args.evex_scaling) c.args.base c.args.displacement c.new-disp.result c.if-low-eq5.disp = elim c.if-low-eq5.branch [
-      | then-low-eq5 w ↦ rw (w.disp-is, w.force_immediate.ensures) (chosen_five _ _ _ _ class back (omega (arith, and_mask c.args.base 3)))
-      | else-low-eq5 w ↦ rw w.disp-is (chosen_other _ _ _ _ class back (omega (arith, and_mask c.args.base 3)))
-    ] in
-    (emits_base _ _ _ _ _ _ _ chosen c.requires.reg byte not_four).shortest
 
 pub returns-clause-tail : goal.returns-clause-tail
 returns-clause-tail c =
