@@ -12,7 +12,8 @@ use Rattle.cax64_machine_code.specs.declared.reading.Place.TheVariants.{Mem, Rip
 use Rattle.cax64_machine_code.proofs.Tails.{base_back, sib_back, relative_back}
 use Rattle.cax64_machine_code.proofs.Bytes.{four_back, s32_back}
 use Rattle.cax64_machine_code.proofs.Forms.{MemForm, mem_form, rip_length, disp32_length, first_byte}
-use Rattle.cax64_sink.specs.Sink.{put, target, all_bytes, all_notices}
+use Rattle.cax64_sink.specs.Run.{all_bytes, all_notices}
+use Rattle.cax64_sink.specs.Call.{put, target}
 use Rattle.cax64_sink.specs.Ends.{EndsInBytes}
 use Rattle.cax64_sink.specs.declared.Notice.TheVariants.{Target}
 use Rattle.cax64_sink.specs.declared.DeferredTarget.{DeferredTarget}

@@ -6,7 +6,8 @@ use Rattle.std.proofs.lemmas.Bool.Decides.{nat_tests}
 use Rattle.std.proofs.lemmas.Int.{ints}
 use Rattle.std.proofs.lemmas.List.Elements.{All-nil, All-cons}
 use Rattle.cax64_machine_code.specs.Fields.{IsBytes}
-use Rattle.cax64_sink.specs.Sink.{all_bytes, put, target}
+use Rattle.cax64_sink.specs.Run.{all_bytes}
+use Rattle.cax64_sink.specs.Call.{put, target}
 use Rattle.cax64_sink.specs.declared.DeferredTarget.{DeferredTarget}
 use Rattle.cax64_address.specs.Displacement.{IsClassOf, mode_of, disp_actions, forced}
 use Rattle.cax64_address.specs.declared.disp.Disp.{Disp}

@@ -1,82 +1,62 @@
-use Rattle.std.proofs.Common.{◌≡◌, ◌≢◌, ℕ, suc, ◌%◌, ◌<◌, arith, refl, ◌∙◌, ap, sym, ℤ, pos, negsuc, Some, Bool, true, false}
+use Rattle.std.proofs.Common.{◌≡◌, ◌≢◌, ℕ, suc, ◌%◌, ◌<◌, arith, refl, ap, ℤ, pos, Some, Bool, true, false}
 use Rattle.std.specs.Prelude as std
-use Rattle.std.specs.Prelude.{◌==◌, nat_lt, ◌*ℤ◌}
-use Rattle.std.specs.Int.{w8}
-use Rattle.std.specs.Int.RustNames.{FitsSigned}
+use Rattle.std.specs.Prelude.{◌==◌, ◌≤ℤ◌, IfSome}
 use Rattle.std.proofs.lemmas.Bool.Decides.{nat_tests}
 use Rattle.std.proofs.lemmas.Int.{ints}
-use Rattle.cax64_machine_code.specs.Len.{disp_len, base_disp_len, at_least_one, least_tail}
-use Rattle.cax64_machine_code.specs.declared.reading.Place.TheVariants.{Mem}
+use Rattle.cax64_machine_code.specs.Len.{at_least_one, least_tail}
+use Rattle.cax64_machine_code.specs.declared.reading.Place.{Place}
+use Rattle.cax64_machine_code.specs.declared.reading.Place.TheVariants.{Reg, Mem, Rip}
 use Rattle.cax64_address.specs.Displacement.{IsClassOf, factor_of, forced}
+use Rattle.cax64_address.specs.Length.{disp_len_under, base_disp_len_under, least_tail_under}
 use Rattle.cax64_address.specs.declared.disp.Disp.{Disp}
 use Rattle.cax64_address.specs.declared.disp.Disp.TheVariants.{None, Imm8, Imm32}
-use Rattle.cax64_address.proofs.Classes.{alone}
 use Rattle.cax64_address.proofs.Emits.{Chosen, disp_length, differ}
+use Rattle.cax64_address.proofs.FactorLengths.{length_of_class, disp_alone}
 
--- how many bytes are put for a tail, without a factor
+-- how many bytes are put for a tail
 
-below : (a b : ℕ) → a < b → nat_lt a b ≡ true
-below a b h = grind (arith, nat_tests)
+pub some_factor : (scaling : std.Option ℤ) → IfSome scaling (λ n. pos 1 ≤ℤ n) → 0 < factor_of scaling
+some_factor (Some n) h = omega (arith, ints)
+some_factor std.None h = omega arith
 
-not_below : (a b : ℕ) → (a < b → ⊥) → nat_lt a b ≡ false
-not_below a b h = grind (arith, nat_tests)
+forced_length : (f : ℕ) (v : ℤ) (d : Disp) → 0 < f → IsClassOf f v d → at_least_one (disp_len_under f v) ≡ disp_length (forced d)
+forced_length f v None positive h = ap at_least_one (length_of_class f v None positive h)
+forced_length f v (Imm8 q) positive h = ap at_least_one (length_of_class f v (Imm8 q) positive h)
+forced_length f v (Imm32 w) positive h = ap at_least_one (length_of_class f v (Imm32 w) positive h)
 
-byte_length : (v : ℤ) → v ≢ pos 0 → FitsSigned w8 v → disp_len v ≡ 1
-byte_length (pos n) nz f =
-    let zero : n ≢ 0 = λ e. nz (ap pos e) in
-    let small : n < 128 = omega (arith, ints) in
-    rw (differ n 0 zero, below n 128 small) refl
-byte_length (negsuc n) nz f =
-    let small : n < 128 = omega (arith, ints) in
-    rw (below n 128 small) refl
-
-small_fits : (n : ℕ) → n < 128 → FitsSigned w8 (pos n)
-small_fits n h = omega (arith, ints)
-
-negative_fits : (n : ℕ) → n < 128 → FitsSigned w8 (negsuc n)
-negative_fits n h = omega (arith, ints)
-
-long_length : (v : ℤ) → v ≢ pos 0 → (FitsSigned w8 v → ⊥) → disp_len v ≡ 4
-long_length (pos n) nz f =
-    let zero : n ≢ 0 = λ e. nz (ap pos e) in
-    rw (differ n 0 zero, not_below n 128 (λ h. f (small_fits n h))) refl
-long_length (negsuc n) nz f = rw (not_below n 128 (λ h. f (negative_fits n h))) refl
-
-class_length : (v : ℤ) (d : Disp) → IsClassOf 1 v d → disp_len v ≡ disp_length d
-class_length v None h = rw h refl
-class_length v (Imm8 q) h =
-    let same : q ≡ v = sym (alone q) ∙ h.2 in
-    byte_length v h.0 (rw same at h.1)
-class_length v (Imm32 w) h = long_length v h.0 (λ f. h.2 v f (alone v))
-
-forced_length : (v : ℤ) (d : Disp) → IsClassOf 1 v d → at_least_one (disp_len v) ≡ disp_length (forced d)
-forced_length v None h = ap at_least_one (class_length v None h)
-forced_length v (Imm8 q) h = ap at_least_one (class_length v (Imm8 q) h)
-forced_length v (Imm32 w) h = ap at_least_one (class_length v (Imm32 w) h)
-
-by_low : (base : ℕ) (v : ℤ) (d e : Disp) (five : Bool) → (base % 8 == 5) ≡ five → Chosen 1 base v d e → base_disp_len base v ≡ disp_length e
-by_low base v d e true is h =
+by_low : (f base : ℕ) (v : ℤ) (d e : Disp) (five : Bool) → (base % 8 == 5) ≡ five → 0 < f → Chosen f base v d e → base_disp_len_under f base v ≡ disp_length e
+by_low f base v d e true is positive h =
     let low : base % 8 ≡ 5 = grind (arith, nat_tests) in
-    rw (is, h.five low) (forced_length v d h.class)
-by_low base v d e false is h =
+    rw (is, h.five low) (forced_length f v d positive h.class)
+by_low f base v d e false is positive h =
     let low : base % 8 ≢ 5 = grind (arith, nat_tests) in
-    rw (is, h.other low) (class_length v d h.class)
+    rw (is, h.other low) (length_of_class f v d positive h.class)
 
-chosen_length : (scaling : std.Option ℤ) (base : ℕ) (v : ℤ) (d e : Disp) → Chosen (factor_of scaling) base v d e → scaling ≡ std.None → disp_length e ≡ base_disp_len base v
-chosen_length (Some n) base v d e h none = cc
-chosen_length std.None base v d e h none = sym (by_low base v d e (base % 8 == 5) refl h)
+chosen_length : (f base : ℕ) (v : ℤ) (d e : Disp) → 0 < f → Chosen f base v d e → base_disp_len_under f base v ≡ disp_length e
+chosen_length f base v d e positive h = by_low f base v d e (base % 8 == 5) refl positive h
 
 -- ModR/M alone
-pub base_length : (scaling : std.Option ℤ) (base : ℕ) (v : ℤ) (d e : Disp) → Chosen (factor_of scaling) base v d e → base % 8 ≢ 4 → scaling ≡ std.None → suc (disp_length e) ≡ least_tail (Mem (Some base) std.None v)
-base_length scaling base v d e h h4 none = rw (differ (base % 8) 4 h4, chosen_length scaling base v d e h none) (omega arith)
+pub base_length : (f base : ℕ) (v : ℤ) (d e : Disp) → 0 < f → Chosen f base v d e → base % 8 ≢ 4 → suc (disp_length e) ≡ least_tail_under f (Mem (Some base) std.None v)
+base_length f base v d e positive h h4 = rw (differ (base % 8) 4 h4, chosen_length f base v d e positive h) (omega arith)
 
 same_number : (a b : ℕ) → a ≡ b → (a == b) ≡ true
 same_number a b h = grind (arith, nat_tests)
 
 -- ModR/M, and a SIB byte with no index
-pub stack_length : (scaling : std.Option ℤ) (base : ℕ) (v : ℤ) (d e : Disp) → Chosen (factor_of scaling) base v d e → base % 8 ≡ 4 → scaling ≡ std.None → suc (suc (disp_length e)) ≡ least_tail (Mem (Some base) std.None v)
-stack_length scaling base v d e h h4 none = rw (same_number (base % 8) 4 h4, chosen_length scaling base v d e h none) (omega arith)
+pub stack_length : (f base : ℕ) (v : ℤ) (d e : Disp) → 0 < f → Chosen f base v d e → base % 8 ≡ 4 → suc (suc (disp_length e)) ≡ least_tail_under f (Mem (Some base) std.None v)
+stack_length f base v d e positive h h4 = rw (same_number (base % 8) 4 h4, chosen_length f base v d e positive h) (omega arith)
 
 -- ModR/M, and a SIB byte with one
-pub index_length : (scaling : std.Option ℤ) (base : ℕ) (index : ℕ × ℕ) (v : ℤ) (d e : Disp) → Chosen (factor_of scaling) base v d e → scaling ≡ std.None → suc (suc (disp_length e)) ≡ least_tail (Mem (Some base) (Some index) v)
-index_length scaling base index v d e h none = rw (chosen_length scaling base v d e h none) (omega arith)
+pub index_length : (f base : ℕ) (index : ℕ × ℕ) (v : ℤ) (d e : Disp) → 0 < f → Chosen f base v d e → suc (suc (disp_length e)) ≡ least_tail_under f (Mem (Some base) (Some index) v)
+index_length f base index v d e positive h = rw (chosen_length f base v d e positive h) (omega arith)
+
+-- without a factor
+pub alone_length : (place : Place) → least_tail_under 1 place ≡ least_tail place
+alone_length (Reg view) = refl
+alone_length (Mem std.None index disp) = refl
+alone_length (Mem (Some base) index disp) = rw (disp_alone disp) refl
+alone_length (Rip disp) = refl
+
+pub without_factor : (scaling : std.Option ℤ) (place : Place) → scaling ≡ std.None → least_tail_under (factor_of scaling) place ≡ least_tail place
+without_factor (Some n) place h = cc
+without_factor std.None place h = alone_length place

@@ -1,3 +1,4 @@
+-- What a memory operand is, which of them can be written, and what they name.
 use Rattle.std.specs.Prelude.{ℕ, ◌/◌, ◌^◌, ◌&&◌, List, [], ◌∷◌, ◌+◌, ℤ, pos, ◌-ℤ◌, Option, Some, None, Bool, true}
 use Rattle.cax64_machine_code.specs.declared.reading.Place.{Place}
 use Rattle.cax64_machine_code.specs.declared.reading.Place.TheVariants.{Mem, Rip}
@@ -11,6 +12,7 @@ use Rattle.cax64_address.specs.declared.amode.Amode.TheVariants.{ImmReg, ImmRegR
 use Rattle.cax64_address.specs.declared.amode.Scale.{Scale}
 use Rattle.cax64_address.specs.declared.amode.Scale.TheVariants.{One, Two, Four, Eight}
 
+-- the two bits of a SIB byte
 abbrev pub scale_number : Scale → ℕ
 scale_number One = 0
 scale_number Two = 1
@@ -69,3 +71,9 @@ abbrev pub target_notices : {R : Type 0} → Amode R → ℕ → List Notice
 target_notices (ImmReg base simm32 trap) at = []
 target_notices (ImmRegRegShift base index scale simm32 trap) at = []
 target_notices (RipRelative target) at = Target (at + 1) target ∷ []
+
+-- and how many notices that is
+abbrev pub target_count : {R : Type 0} → Amode R → ℕ
+target_count (ImmReg base simm32 trap) = 0
+target_count (ImmRegRegShift base index scale simm32 trap) = 0
+target_count (RipRelative target) = 1

@@ -1,3 +1,4 @@
+-- How a displacement is written.
 use Rattle.std.specs.Prelude.{◌≡◌, ◌≢◌, ℕ, ◌+◌, List, [], ◌∷◌, ◌++◌, ℤ, pos, ◌*ℤ◌, Option, Some, unsigned_abs}
 use Rattle.std.specs.Prelude as std
 use Rattle.std.specs.Int.{cast_unsigned, to_le_bytes, w8, w32}
@@ -5,13 +6,20 @@ use Rattle.std.specs.Int.RustNames.{FitsSigned}
 use Rattle.cax64_address.specs.declared.disp.Disp.{Disp}
 use Rattle.cax64_address.specs.declared.disp.Disp.TheVariants.{None, Imm8, Imm32}
 use Rattle.cax64_machine_code.specs.Tail.{disp_at}
-use Rattle.cax64_sink.specs.Sink.{Action, put, all_bytes}
+use Rattle.cax64_sink.specs.Run.{all_bytes}
+use Rattle.cax64_sink.specs.Call.{Action, put}
 
 -- the mod field that goes with a class
 abbrev pub mode_of : Disp → ℕ
 mode_of None = 0
 mode_of (Imm8 v) = 1
 mode_of (Imm32 v) = 2
+
+-- how many bytes a class has
+abbrev pub class_length : Disp → ℕ
+class_length None = 0
+class_length (Imm8 v) = 1
+class_length (Imm32 v) = 4
 
 -- what is put for a class
 abbrev pub disp_actions : Disp → List Action

@@ -1,7 +1,6 @@
-use Rattle.std.specs.Prelude.{◌≡◌, ℕ, ◌+◌, ◌*◌, List, ◌++◌, ℤ, pos, ◌+ℤ◌, ◌-ℤ◌, Option, Some, slice_index}
-use Rattle.cax64_machine_code.specs.Address.{address_of, modulo_64_bits}
-use Rattle.cax64_machine_code.specs.Tail.{Tail, read_tail}
-use Rattle.cax64_sink.specs.Sink.{State}
+-- The address that a memory operand has.
+use Rattle.std.specs.Prelude.{ℕ, ◌+◌, ◌*◌, List, ℤ, pos, ◌+ℤ◌, ◌-ℤ◌, Option, slice_index}
+use Rattle.cax64_machine_code.specs.Address.{modulo_64_bits}
 use Rattle.cax64_address.specs.Offset.{sum_of}
 use Rattle.cax64_address.specs.declared.amode.Amode.{Amode}
 use Rattle.cax64_address.specs.declared.amode.Amode.TheVariants.{ImmReg, ImmRegRegShift, RipRelative}
@@ -24,7 +23,3 @@ effective_address enc offsets at_end (ImmReg base simm32 trap) regs end =
 effective_address enc offsets at_end (ImmRegRegShift base index scale simm32 trap) regs end =
     modulo_64_bits (pos (slice_index regs (enc base) + slice_index regs (enc index) * scale_factor scale) +ℤ simm32)
 effective_address enc offsets at_end (RipRelative target) regs end = modulo_64_bits (pos end -ℤ pos at_end)
-
--- a sink has got bytes whose tail, whatever follows, names a place of this address, for all values of the registers
-pub record ReadsAddress (x b factor : ℕ) (address : List ℕ → ℕ → ℕ) (old new : State) : Type 0 where
-  pub names : (added rest : List ℕ) (tail : Tail) → new.bytes ≡ old.bytes ++ added → read_tail x b factor (added ++ rest) ≡ Some tail → (regs : List ℕ) (end : ℕ) → address_of tail.place regs end ≡ Some (address regs end)

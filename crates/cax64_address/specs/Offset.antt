@@ -1,3 +1,4 @@
+-- A displacement and the offset that a sink knows, added to it.
 use Rattle.std.specs.Prelude.{ℕ, ◌^◌, nat_lt, ℤ, pos, negsuc, ◌+ℤ◌, Option, Some, None, Bool, true, false}
 
 abbrev pub fits_i32 : ℤ → Bool

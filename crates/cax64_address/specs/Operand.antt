@@ -1,3 +1,4 @@
+-- Operands that are a register or memory.
 use Rattle.std.specs.Prelude.{Bool, true, false}
 use Rattle.cax64_address.specs.declared.operand.GprMem as gpr_mem
 use Rattle.cax64_address.specs.declared.operand.XmmMem as xmm_mem

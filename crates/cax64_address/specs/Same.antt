@@ -1,3 +1,4 @@
+-- When operands compare equal.
 use Rattle.std.specs.Prelude.{◌≡◌, Bool, true}
 use Rattle.cax64_address.specs.declared.amode.Amode.{Amode}
 use Rattle.cax64_address.specs.declared.amode.Amode.TheVariants.{ImmReg, ImmRegRegShift, RipRelative}

@@ -1,8 +1,9 @@
 //! The displacement bytes behind ModR/M and SIB.
 
-ghost use Rattle.std.specs.Prelude.{◌≡◌, ◌≤ℤ◌, ◌<◌, ◌*◌, ◌+◌, IfSome, pos};
-ghost use Rattle.cax64_address.specs.Displacement.{mode_of, disp_actions, factor_of, GivesBack, IsClassOf, forced};
-ghost use Rattle.cax64_sink.specs.Sink.{Ran};
+ghost use Rattle.std.specs.Prelude.{◌≡◌, ◌≤ℤ◌, ◌<◌, ◌*◌, ◌+◌, IfSome, IsOk, pos};
+ghost use Rattle.cax64_address.specs.Displacement.{mode_of, disp_actions, class_length, factor_of, GivesBack, IsClassOf, forced};
+ghost use Rattle.cax64_sink.specs.Room.{HasRoom, FallsBy};
+ghost use Rattle.cax64_sink.specs.Run.{Ran};
 
 use cax64_sink::{CodeSink, SinkError};
 
@@ -77,7 +78,10 @@ impl Disp {
     /// Puts nothing, one byte, or four with the lowest first.
     #[tactic(auto, using(cax64_sink::proofs::Runs::ran_none, cax64_sink::proofs::Runs::ran_one))]
     pub fn emit<S: CodeSink>(self, sink: &mut S) -> Result<(), SinkError>
-        ensures { Ran (disp_actions self) (S.state sink.old) (S.state sink.new) result }
+        ensures runs { Ran (disp_actions self) (S.state sink.old) (S.state sink.new) result }
+        ensures room { HasRoom (S.state sink.old).byte_room (class_length self) → IsOk result }
+        ensures byte_room { FallsBy (S.state sink.old).byte_room (S.state sink.new).byte_room (class_length self) }
+        ensures notice_room { FallsBy (S.state sink.old).notice_room (S.state sink.new).notice_room 0 }
     {
         match self {
             Disp::None => Ok(()),

@@ -1,9 +1,11 @@
 //! Laws of the items here. The functions do nothing, or no more than the call that they speak of.
 
-ghost use Rattle.std.specs.Prelude.{◌≡◌, ◌↔◌, ◌≤ℤ◌, ◌%◌, ◌-◌, IsTrue, IfSome, IfErr, IsOk, OnOk, OnErr, length, pos, true};
-ghost use Rattle.cax64_address.specs.Address.{is_addressable, place_of, base_bit, index_bit, target_notices};
-ghost use Rattle.cax64_address.specs.Displacement.{factor_of};
-ghost use Rattle.cax64_address.specs.Emitted.{AddsTail, LeavesTail, FitsTail};
+ghost use Rattle.std.specs.Prelude.{◌≡◌, ◌↔◌, ◌≤ℤ◌, ◌-◌, IsTrue, IfSome, IfErr, IsOk, OnOk, OnErr, length, pos, true};
+ghost use Rattle.cax64_address.specs.Address.{is_addressable};
+ghost use Rattle.cax64_address.specs.Length.{least_tail_under};
+ghost use Rattle.cax64_address.specs.OperandTail.{tail_meant, AddsTail, LeavesTail, FitsTail};
+ghost use Rattle.cax64_machine_code.specs.Len.{least_tail};
+ghost use Rattle.cax64_machine_code.specs.declared.reading.Place.{Place};
 ghost use Rattle.cax64_sink.specs.FixedSink.{fixed_sink_state};
 ghost use Rattle.cax64_address.specs.Same.{SameAmode, SameGprMem};
 ghost use Rattle.cax64_address.specs.declared.amode.Amode.{Amode};
@@ -16,6 +18,7 @@ use crate::amode::{Amode, Scale};
 use crate::offset::{AmodeOffset, AmodeOffsetPlusKnownOffset};
 use crate::operand::GprMem;
 use crate::tail::emit_modrm_sib_disp;
+use cax64_machine_code::reading::Place;
 use cax64_register::AsReg;
 use cax64_sink::{FixedSink, SinkError};
 
@@ -29,6 +32,11 @@ pub fn laws_of_equality<R: AsReg, M: AsReg>()
     ensures operands { (a b : GprMem R M) → (⟦<GprMem<R, M> as PartialEq>⟧.eq a b ≡ true) ↔ SameGprMem R.eq M.eq a b }
 {}
 
+/// Without a factor, which is a factor of 1, a tail is as long as in an instruction.
+pub fn laws_of_length()
+    ensures { (place : Place) → least_tail_under 1 place ≡ least_tail place }
+{}
+
 /// Over a sink of fixed size [`emit_modrm_sib_disp`] succeeds exactly where some tail of the operand, and so the one that
 /// it puts, fits in what is left.
 pub fn emit_to_fixed_sink<R: AsReg, const N: usize>(
@@ -40,9 +48,9 @@ pub fn emit_to_fixed_sink<R: AsReg, const N: usize>(
 ) -> Result<(), SinkError>
     requires address { IsTrue (is_addressable R.settled R.enc (fixed_sink_state sink.old).offsets mem_e.now) }
     requires factor { IfSome evex_scaling (λ n. pos 1 ≤ℤ n) }
-    ensures fits { IsOk result ↔ FitsTail (index_bit R.enc mem_e.now) (base_bit R.enc mem_e.now) (factor_of evex_scaling) (enc_g % 8) (place_of R.enc (fixed_sink_state sink.old).offsets bytes_at_end mem_e.now) (N - length (fixed_sink_state sink.old).bytes) }
-    ensures adds { OnOk result (AddsTail (index_bit R.enc mem_e.now) (base_bit R.enc mem_e.now) (factor_of evex_scaling) (enc_g % 8) (place_of R.enc (fixed_sink_state sink.old).offsets bytes_at_end mem_e.now) (target_notices mem_e.now) (fixed_sink_state sink.old) (fixed_sink_state sink.new)) }
-    ensures leaves { OnErr result (LeavesTail (index_bit R.enc mem_e.now) (base_bit R.enc mem_e.now) (factor_of evex_scaling) (enc_g % 8) (place_of R.enc (fixed_sink_state sink.old).offsets bytes_at_end mem_e.now) (target_notices mem_e.now) (fixed_sink_state sink.old) (fixed_sink_state sink.new)) }
+    ensures fits { IsOk result ↔ FitsTail (tail_meant R.enc (fixed_sink_state sink.old).offsets enc_g mem_e.now bytes_at_end evex_scaling) (N - length (fixed_sink_state sink.old).bytes) }
+    ensures adds { OnOk result (AddsTail (tail_meant R.enc (fixed_sink_state sink.old).offsets enc_g mem_e.now bytes_at_end evex_scaling) (fixed_sink_state sink.old) (fixed_sink_state sink.new)) }
+    ensures leaves { OnErr result (LeavesTail (tail_meant R.enc (fixed_sink_state sink.old).offsets enc_g mem_e.now bytes_at_end evex_scaling) (fixed_sink_state sink.old) (fixed_sink_state sink.new)) }
     ensures error { IfErr result (λ e. e ≡ SinkError.Full) }
 {
     emit_modrm_sib_disp(sink, enc_g, mem_e, bytes_at_end, evex_scaling)

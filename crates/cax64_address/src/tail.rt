@@ -1,16 +1,18 @@
 //! ModR/M, SIB and displacement. (Intel SDM, volume 2, 2.1.3 and 2.1.5.)
 
 ghost use Rattle.std.specs.Prelude.{◌≡◌, ◌≢◌, ◌+◌, ◌/◌, ◌%◌, ◌^◌, ◌<◌, ◌≤◌, ◌-ℤ◌, ◌∷◌, [], ℕ, List, Some, None, IsTrue, IfSome, IfErr, IsOk, OnOk, OnErr, pos, ◌≤ℤ◌, true, length};
-ghost use Rattle.cax64_address.specs.Address.{is_addressable, registers_are_real, scale_number, place_of, displaced_place, base_bit, index_bit, target_notices};
+ghost use Rattle.cax64_address.specs.Address.{is_addressable, registers_are_real, scale_number, displaced_place, target_count};
 ghost use Rattle.cax64_address.specs.Displacement.{factor_of};
-ghost use Rattle.cax64_address.specs.Effective.{effective_address, ReadsAddress};
-ghost use Rattle.cax64_address.specs.Emitted.{AddsTail, AddsBytes, AddsLength, LeavesTail, TailOf, tail_actions, field_actions, sib_actions};
+ghost use Rattle.cax64_address.specs.Effective.{effective_address};
+ghost use Rattle.cax64_address.specs.Emitted.{TailOf, PutsTail, tail_actions, displacement_actions, sib_actions};
+ghost use Rattle.cax64_address.specs.Length.{least_tail_under};
+ghost use Rattle.cax64_address.specs.OperandTail.{displaced_tail, tail_meant, tail_length, IsTailMeant, AddsTail, LeavesTail, ReadsAddress};
 ghost use Rattle.cax64_machine_code.specs.Fields.{IsBytes};
 ghost use Rattle.cax64_machine_code.specs.Len.{least_tail};
-ghost use Rattle.cax64_machine_code.specs.Tail.{IsTail};
+ghost use Rattle.cax64_machine_code.specs.Shortest.{Shortest};
 ghost use Rattle.cax64_sink.specs.Keeps.{Keeps};
-ghost use Rattle.cax64_sink.specs.Room.{HasRoom};
-ghost use Rattle.cax64_sink.specs.Sink.{Ran, all_bytes};
+ghost use Rattle.cax64_sink.specs.Room.{HasRoom, FallsBy};
+ghost use Rattle.cax64_sink.specs.Run.{Ran, all_bytes, byte_total, notice_total};
 
 use crate::amode::{Amode, Scale};
 use crate::disp::{Disp, encode_modrm};
@@ -23,12 +25,12 @@ use cax64_sink::{CodeSink, DeferredTarget, Notice, SinkError};
 pub struct TailCode {
     pub modrm: u8,
     pub sib: Option<u8>,
-    pub field: TailField,
+    pub displacement: DisplacementCode,
 }
 
-/// What follows ModR/M and SIB.
+/// The displacement of a tail as it is put.
 #[derive(Clone, Copy)]
-pub enum TailField {
+pub enum DisplacementCode {
     Plain(Disp),
     /// Four bytes, told to the sink as a use of the target.
     Relative(DeferredTarget, u32),
@@ -44,13 +46,13 @@ fn put_optional<S: CodeSink>(sink: &mut S, byte: Option<u8>) -> Result<(), SinkE
     }
 }
 
-impl TailField {
+impl DisplacementCode {
     fn put<S: CodeSink>(self, sink: &mut S) -> Result<(), SinkError>
-        ensures { Ran (field_actions self) (S.state sink.old) (S.state sink.new) result }
+        ensures { Ran (displacement_actions self) (S.state sink.old) (S.state sink.new) result }
     {
         match self {
-            TailField::Plain(disp) => disp.emit(sink),
-            TailField::Relative(place, word) => {
+            DisplacementCode::Plain(disp) => disp.emit(sink),
+            DisplacementCode::Relative(place, word) => {
                 sink.use_target(place)?;
                 sink.put4(word)
             }
@@ -65,7 +67,7 @@ impl TailCode {
     {
         sink.put1(self.modrm)?;
         put_optional(sink, self.sib)?;
-        self.field.put(sink)
+        self.displacement.put(sink)
     }
 }
 
@@ -77,7 +79,7 @@ fn base_tail(reg: u8, base: u8, displacement: i32, evex_scaling: Option<i8>) -> 
     requires factor { IfSome evex_scaling (λ n. pos 1 ≤ℤ n) }
     ensures tail { TailOf 0 (base / 8) (factor_of evex_scaling) reg (Place.Mem (Some base) None displacement) (λ at. []) (tail_actions result) }
     ensures bytes { IsBytes (all_bytes (tail_actions result)) }
-    ensures length { evex_scaling ≡ None → length (all_bytes (tail_actions result)) ≡ least_tail (Place.Mem (Some base) None displacement) }
+    ensures length { length (all_bytes (tail_actions result)) ≡ least_tail_under (factor_of evex_scaling) (Place.Mem (Some base) None displacement) }
 {
     let low = base & 7;
     let mut disp = Disp::new(displacement, evex_scaling);
@@ -85,7 +87,7 @@ fn base_tail(reg: u8, base: u8, displacement: i32, evex_scaling: Option<i8>) -> 
         return TailCode {
             modrm: encode_modrm(disp.m0d(), reg, 4),
             sib: Some(0x24),
-            field: TailField::Plain(disp),
+            displacement: DisplacementCode::Plain(disp),
         };
     }
     if low == 5 {
@@ -94,7 +96,7 @@ fn base_tail(reg: u8, base: u8, displacement: i32, evex_scaling: Option<i8>) -> 
     TailCode {
         modrm: encode_modrm(disp.m0d(), reg, low),
         sib: None,
-        field: TailField::Plain(disp),
+        displacement: DisplacementCode::Plain(disp),
     }
 }
 
@@ -112,19 +114,20 @@ fn index_tail(
     requires index { index < 16 }
     requires non_rsp { index ≢ 4 }
     requires factor { IfSome evex_scaling (λ n. pos 1 ≤ℤ n) }
+    ensures shortest { Shortest (index / 8) (base / 8) (factor_of evex_scaling) reg (Place.Mem (Some base) (Some (index, 2 ^ scale_number scale)) displacement) (all_bytes (tail_actions result)) }
     ensures tail { TailOf (index / 8) (base / 8) (factor_of evex_scaling) reg (Place.Mem (Some base) (Some (index, 2 ^ scale_number scale)) displacement) (λ at. []) (tail_actions result) }
     ensures bytes { IsBytes (all_bytes (tail_actions result)) }
-    ensures length { evex_scaling ≡ None → length (all_bytes (tail_actions result)) ≡ least_tail (Place.Mem (Some base) (Some (index, 2 ^ scale_number scale)) displacement) }
+    ensures length { length (all_bytes (tail_actions result)) ≡ least_tail_under (factor_of evex_scaling) (Place.Mem (Some base) (Some (index, 2 ^ scale_number scale)) displacement) }
 {
-    let low = base & 7;
+    let low_base = base & 7;
     let mut disp = Disp::new(displacement, evex_scaling);
-    if low == 5 {
+    if low_base == 5 {
         disp.force_immediate();
     }
     TailCode {
         modrm: encode_modrm(disp.m0d(), reg, 4),
-        sib: Some(encode_modrm(scale.enc(), index & 7, low)),
-        field: TailField::Plain(disp),
+        sib: Some(encode_modrm(scale.enc(), index & 7, low_base)),
+        displacement: DisplacementCode::Plain(disp),
     }
 }
 
@@ -133,18 +136,19 @@ fn relative_tail(reg: u8, target: DeferredTarget, bytes_at_end: u8) -> TailCode
     requires { reg < 8 }
     ensures tail { (factor : ℕ) → TailOf 0 0 factor reg (Place.Rip (pos 0 -ℤ pos bytes_at_end)) (λ at. Notice.Target (at + 1) target ∷ []) (tail_actions result) }
     ensures bytes { IsBytes (all_bytes (tail_actions result)) }
-    ensures length { length (all_bytes (tail_actions result)) ≡ least_tail (Place.Rip (pos 0 -ℤ pos bytes_at_end)) }
+    ensures length { (factor : ℕ) → length (all_bytes (tail_actions result)) ≡ least_tail_under factor (Place.Rip (pos 0 -ℤ pos bytes_at_end)) }
 {
-    let field = (-i32::from(bytes_at_end)).cast_unsigned();
+    let word = (-i32::from(bytes_at_end)).cast_unsigned();
     TailCode {
         modrm: encode_modrm(0, reg, 5),
         sib: None,
-        field: TailField::Relative(target, field),
+        displacement: DisplacementCode::Relative(target, word),
     }
 }
 
 /// The tail of a memory operand whose displacement is known, with this in its reg field, before this many bytes of
 /// immediate.
+#[tactic(auto, using(crate::proofs::TailLengths::without_factor))]
 pub fn tail_of<R: AsReg>(
     enc_g: u8,
     mem_e: &Amode<R>,
@@ -154,8 +158,10 @@ pub fn tail_of<R: AsReg>(
 ) -> TailCode
     requires address { IsTrue (registers_are_real R.settled R.enc mem_e.now) }
     requires factor { IfSome evex_scaling (λ n. pos 1 ≤ℤ n) }
-    ensures tail { TailOf (index_bit R.enc mem_e.now) (base_bit R.enc mem_e.now) (factor_of evex_scaling) (enc_g % 8) (displaced_place R.enc displacement bytes_at_end mem_e.now) (target_notices mem_e.now) (tail_actions result) }
+    ensures tail { PutsTail (displaced_tail R.enc displacement enc_g mem_e.now bytes_at_end evex_scaling) (tail_actions result) }
     ensures bytes { IsBytes (all_bytes (tail_actions result)) }
+    ensures count { length (all_bytes (tail_actions result)) ≡ tail_length (displaced_tail R.enc displacement enc_g mem_e.now bytes_at_end evex_scaling) }
+    // The same where there is no factor.
     ensures length { evex_scaling ≡ None → length (all_bytes (tail_actions result)) ≡ least_tail (displaced_place R.enc displacement bytes_at_end mem_e.now) }
 {
     let reg = enc_g % 8;
@@ -193,20 +199,18 @@ pub fn emit_modrm_sib_disp<R: AsReg, S: CodeSink>(
 ) -> Result<(), SinkError>
     requires address { IsTrue (is_addressable R.settled R.enc (S.state sink.old).offsets mem_e.now) }
     requires factor { IfSome evex_scaling (λ n. pos 1 ≤ℤ n) }
-    ensures adds { OnOk result (AddsTail (index_bit R.enc mem_e.now) (base_bit R.enc mem_e.now) (factor_of evex_scaling) (enc_g % 8) (place_of R.enc (S.state sink.old).offsets bytes_at_end mem_e.now) (target_notices mem_e.now) (S.state sink.old) (S.state sink.new)) }
-    ensures bytes { OnOk result (AddsBytes (S.state sink.old) (S.state sink.new)) }
-    ensures length { evex_scaling ≡ None → OnOk result (AddsLength (least_tail (place_of R.enc (S.state sink.old).offsets bytes_at_end mem_e.now)) (S.state sink.old) (S.state sink.new)) }
-    ensures address { OnOk result (ReadsAddress (index_bit R.enc mem_e.now) (base_bit R.enc mem_e.now) (factor_of evex_scaling) (effective_address R.enc (S.state sink.old).offsets bytes_at_end mem_e.now) (S.state sink.old) (S.state sink.new)) }
-    ensures leaves { OnErr result (LeavesTail (index_bit R.enc mem_e.now) (base_bit R.enc mem_e.now) (factor_of evex_scaling) (enc_g % 8) (place_of R.enc (S.state sink.old).offsets bytes_at_end mem_e.now) (target_notices mem_e.now) (S.state sink.old) (S.state sink.new)) }
+    ensures adds { OnOk result (AddsTail (tail_meant R.enc (S.state sink.old).offsets enc_g mem_e.now bytes_at_end evex_scaling) (S.state sink.old) (S.state sink.new)) }
+    ensures address { OnOk result (ReadsAddress (tail_meant R.enc (S.state sink.old).offsets enc_g mem_e.now bytes_at_end evex_scaling) (effective_address R.enc (S.state sink.old).offsets bytes_at_end mem_e.now) (S.state sink.old) (S.state sink.new)) }
+    ensures leaves { OnErr result (LeavesTail (tail_meant R.enc (S.state sink.old).offsets enc_g mem_e.now bytes_at_end evex_scaling) (S.state sink.old) (S.state sink.new)) }
     ensures error { IfErr result (λ e. (S.state sink.old).answers e ≡ true) }
     ensures keeps { Keeps (S.state sink.old) (S.state sink.new) }
-    // Any tail of bytes that reads as the operand shows how much room is enough: what is put is the shortest.
-    ensures room { (t : List ℕ) → IsBytes t
-        → IsTail (index_bit R.enc mem_e.now) (base_bit R.enc mem_e.now) (factor_of evex_scaling) (enc_g % 8) (place_of R.enc (S.state sink.old).offsets bytes_at_end mem_e.now) t
-        → HasRoom (S.state sink.old).byte_room (length t)
-        → HasRoom (S.state sink.old).notice_room (length (target_notices mem_e.now 0))
-        → IsOk result }
     ensures enough { HasRoom (S.state sink.old).byte_room 6 → HasRoom (S.state sink.old).notice_room 1 → IsOk result }
+    ensures room { HasRoom (S.state sink.old).byte_room (tail_length (tail_meant R.enc (S.state sink.old).offsets enc_g mem_e.now bytes_at_end evex_scaling)) → HasRoom (S.state sink.old).notice_room (target_count mem_e.now) → IsOk result }
+    ensures byte_room { FallsBy (S.state sink.old).byte_room (S.state sink.new).byte_room (tail_length (tail_meant R.enc (S.state sink.old).offsets enc_g mem_e.now bytes_at_end evex_scaling)) }
+    ensures notice_room { FallsBy (S.state sink.old).notice_room (S.state sink.new).notice_room (target_count mem_e.now) }
+    ensures most { tail_length (tail_meant R.enc (S.state sink.old).offsets enc_g mem_e.now bytes_at_end evex_scaling) ≤ 6 }
+    // No bytes that read as the operand are fewer than are asked for.
+    ensures least { (t : List ℕ) → IsBytes t → IsTailMeant (tail_meant R.enc (S.state sink.old).offsets enc_g mem_e.now bytes_at_end evex_scaling) t → tail_length (tail_meant R.enc (S.state sink.old).offsets enc_g mem_e.now bytes_at_end evex_scaling) ≤ length t }
 {
     let displacement = mem_e.displacement(sink);
     let code = tail_of(enc_g, mem_e, displacement, bytes_at_end, evex_scaling);

@@ -15,7 +15,7 @@ use Rattle.cax64_operand.specs.declared.immediate.ImmOperand.{ImmOperand}
 use Rattle.cax64_operand.specs.declared.immediate.ImmOperand.TheVariants.{Imm8, Imm16, Imm32, Simm8, Simm32}
 use Rattle.cax64_prefix.specs.Rex.{rex_bytes}
 use Rattle.cax64_prefix.proofs.RexBits.{AreBits}
-use Rattle.cax64_sink.specs.Sink.{all_bytes}
+use Rattle.cax64_sink.specs.Run.{all_bytes}
 use Rattle.cax64_encoder.specs.Code.{when, opcode_actions}
 use Rattle.cax64_encoder.specs.ImmActions.{imm_actions, optional_imm_actions}
 

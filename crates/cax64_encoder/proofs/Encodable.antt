@@ -11,7 +11,8 @@ use Rattle.cax64_operand.specs.declared.nop.Nop.{Nop}
 use Rattle.cax64_operand.specs.declared.operand.Operand.{Operand}
 use Rattle.cax64_operand.specs.declared.operand.Operands.{Operands}
 use Rattle.cax64_operand.specs.declared.operand.Operands.TheVariants as operands
-use Rattle.cax64_sink.specs.Sink.{Action, all_bytes}
+use Rattle.cax64_sink.specs.Run.{all_bytes}
+use Rattle.cax64_sink.specs.Call.{Action}
 use Rattle.cax64_encoder.specs.Encodes.{EncodesParts, EncodesAs, form_parts}
 use Rattle.cax64_encoder.specs.Fault.{all_met, late_offset_fits, late_fault, first_unmet, first_fault, is_encodable, fault_of_meant}
 use Rattle.cax64_encoder.specs.Form.{form_of, fits}

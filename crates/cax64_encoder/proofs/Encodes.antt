@@ -6,7 +6,8 @@ use Rattle.std.proofs.lemmas.Int.{ints}
 use Rattle.std.proofs.lemmas.Bool.{and_parts}
 use Rattle.std.proofs.lemmas.Bool.Decides.{nat_tests}
 use Rattle.std.proofs.lemmas.List.{length-append}
-use Rattle.cax64_sink.specs.Sink.{Action, put, all_bytes, all_notices}
+use Rattle.cax64_sink.specs.Run.{all_bytes, all_notices}
+use Rattle.cax64_sink.specs.Call.{Action, put}
 use Rattle.cax64_sink.specs.declared.Notice.{Notice}
 use Rattle.cax64_sink.specs.Ends.{EndsInBytes}
 use Rattle.cax64_sink.proofs.Runs.{all_bytes_append, all_notices_append}

@@ -3,7 +3,9 @@ use Rattle.std.specs.Prelude.{if◌then◌else◌, OnOk, OnErr, IfErr, IsOk}
 use Rattle.cax64_machine_code.specs.declared.reading.Reading.{Reading}
 use Rattle.cax64_sink.specs.FixedSink.{fixed_sink_state}
 use Rattle.cax64_sink.specs.Room.{HasRoom, FallsBy}
-use Rattle.cax64_sink.specs.Sink.{State, Action, Ran, all_bytes, all_notices, size, notes}
+use Rattle.cax64_sink.specs.Sink.{State}
+use Rattle.cax64_sink.specs.Run.{Ran, all_bytes, all_notices, byte_total, notice_total}
+use Rattle.cax64_sink.specs.Call.{Action}
 use Rattle.cax64_sink.specs.declared.SinkError.{SinkError}
 use Rattle.cax64_sink.specs.declared.fixed_sink.FixedSink.{FixedSink}
 use Rattle.cax64_sink.specs.declared.Notice.{Notice}
@@ -81,10 +83,10 @@ one_notice (Some (ImmRegRegShift base index scale simm32 None)) = omega arith
 one_notice (Some (ImmRegRegShift base index scale simm32 (Some code))) = omega arith
 one_notice (Some (RipRelative target)) = omega arith
 
-bytes_are : {M : Type 0} {m : Meant M} {acts : List Action} → EncodesAs m acts → size acts ≡ len m
+bytes_are : {M : Type 0} {m : Meant M} {acts : List Action} → EncodesAs m acts → byte_total acts ≡ len m
 bytes_are {acts = acts} h = size_is_length acts ∙ h.length
 
-notices_are : {M : Type 0} {m : Meant M} {acts : List Action} → EncodesAs m acts → notes acts ≡ notice_count m
+notices_are : {M : Type 0} {m : Meant M} {acts : List Action} → EncodesAs m acts → notice_total acts ≡ notice_count m
 notices_are {m = m} {acts} h = notes_is_length acts 0 ∙ ap length (h.written.notices 0) ∙ notices_counted m.memory 0 h.written.reads.reading
 
 -- an instruction has one byte at least, and thirteen at most

@@ -2,7 +2,8 @@ use Rattle.std.proofs.Common.{◌≡◌, ℕ, arith, Bool, true, false, refl, �
 use Rattle.std.specs.Prelude.{◌&&◌, ◌||◌, nat_lt, nat_le, option_map}
 use Rattle.std.proofs.lemmas.Bool.{and_parts}
 use Rattle.std.proofs.lemmas.Bool.Decides.{nat_tests}
-use Rattle.cax64_sink.specs.Sink.{Action, all_bytes}
+use Rattle.cax64_sink.specs.Run.{all_bytes}
+use Rattle.cax64_sink.specs.Call.{Action}
 use Rattle.cax64_address.specs.Address.{displaced_place}
 use Rattle.cax64_address.specs.declared.amode.Amode.{Amode}
 use Rattle.cax64_address.specs.declared.amode.Amode.TheVariants.{ImmReg, ImmRegRegShift, RipRelative}

@@ -13,7 +13,7 @@ use Rattle.cax64_machine_code.specs.declared.row.Row.{Row}
 use Rattle.cax64_operand.specs.Nop.{nop_row}
 use Rattle.cax64_encoder.proofs.Bytes.{no_bytes, more_bytes}
 use Rattle.cax64_machine_code.specs.Tail.{read_tail, sib_at, disp_at}
-use Rattle.cax64_sink.specs.Sink.{all_bytes, all_notices}
+use Rattle.cax64_sink.specs.Run.{all_bytes, all_notices}
 use Rattle.cax64_sink.specs.Ends.{EndsInBytes}
 use Rattle.cax64_encoder.specs.Encodes.{EncodesAs}
 use Rattle.cax64_encoder.specs.Meant.{nop_meant}

@@ -4,7 +4,7 @@ use Rattle.std.specs.Int.{from_bool}
 use Rattle.std.proofs.lemmas.Bool.{and_parts}
 use Rattle.std.proofs.lemmas.Bool.Decides.{nat_tests}
 use Rattle.std.proofs.lemmas.List.{length-append}
-use Rattle.cax64_sink.specs.Sink.{all_bytes, all_notices}
+use Rattle.cax64_sink.specs.Run.{all_bytes, all_notices}
 use Rattle.cax64_sink.proofs.Runs.{all_bytes_append, all_notices_append}
 use Rattle.cax64_register.specs.Real.{is_real, is_real_non_rsp}
 use Rattle.cax64_address.specs.Address.{registers_are_real, index_bit, base_bit}

@@ -4,7 +4,7 @@ use Rattle.cax64_machine_code.specs.declared.reading.Place.{Place}
 use Rattle.cax64_machine_code.specs.declared.reading.Place.TheVariants.{Reg}
 use Rattle.cax64_machine_code.specs.declared.reading.RegView.TheVariants.{Low}
 use Rattle.cax64_machine_code.proofs.Tails.{register_back}
-use Rattle.cax64_sink.specs.Sink.{put}
+use Rattle.cax64_sink.specs.Call.{put}
 use Rattle.cax64_address.specs.Emitted.{TailOf}
 
 one_byte : (x b n reg : ℕ) (place : Place) (u : List ℕ) → read_tail x b n u ≡ Some (record { reg = reg; place = place; rest = [] }) → 1 ≤ length u

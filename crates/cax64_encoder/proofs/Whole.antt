@@ -4,7 +4,8 @@ use Rattle.std.proofs.Math.Seq.{drop-append_seam, take-append_seam}
 use Rattle.std.proofs.lemmas.Bool.{and_parts}
 use Rattle.std.proofs.lemmas.Bool.Decides.{nat_tests}
 use Rattle.std.proofs.lemmas.List.{length-append}
-use Rattle.cax64_sink.specs.Sink.{Action, all_bytes, all_notices}
+use Rattle.cax64_sink.specs.Run.{all_bytes, all_notices}
+use Rattle.cax64_sink.specs.Call.{Action}
 use Rattle.cax64_sink.specs.declared.Notice.{Notice}
 use Rattle.cax64_sink.specs.declared.TrapCode.{TrapCode}
 use Rattle.cax64_sink.proofs.Runs.{all_notices_append}

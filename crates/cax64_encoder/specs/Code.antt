@@ -5,7 +5,7 @@ use Rattle.cax64_machine_code.specs.declared.line.Opcode.{Opcode}
 use Rattle.cax64_prefix.specs.Puts.{puts}
 use Rattle.cax64_prefix.specs.Rex.{rex_bytes}
 use Rattle.cax64_prefix.specs.Vex.{vex_bytes}
-use Rattle.cax64_sink.specs.Sink.{Action, put, trap}
+use Rattle.cax64_sink.specs.Call.{Action, put, trap}
 use Rattle.cax64_sink.specs.declared.TrapCode.{TrapCode}
 use Rattle.cax64_encoder.specs.ImmActions.{optional_imm_actions}
 use Rattle.cax64_encoder.specs.NopActions.{nop_actions}

@@ -10,7 +10,8 @@ use Rattle.cax64_machine_code.specs.declared.reading.RegView.TheVariants.{Low}
 use Rattle.cax64_machine_code.specs.declared.row.Row.{Row}
 use Rattle.cax64_operand.specs.Immediate.{imm_size, imm_value}
 use Rattle.cax64_sink.specs.Ends.{EndsInBytes}
-use Rattle.cax64_sink.specs.Sink.{Action, all_bytes, all_notices}
+use Rattle.cax64_sink.specs.Run.{all_bytes, all_notices}
+use Rattle.cax64_sink.specs.Call.{Action}
 use Rattle.cax64_encoder.specs.Instruction.{ShortestFor}
 use Rattle.cax64_encoder.specs.Meant.{Meant, len, low}
 use Rattle.cax64_encoder.specs.Notices.{notices_of}

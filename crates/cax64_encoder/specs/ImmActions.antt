@@ -2,7 +2,7 @@ use Rattle.std.specs.Prelude.{Option, Some, None, List, [], ◌∷◌}
 use Rattle.std.specs.Int.{cast_unsigned, to_le_bytes, w8, w16, w32}
 use Rattle.cax64_operand.specs.declared.immediate.ImmOperand.{ImmOperand}
 use Rattle.cax64_operand.specs.declared.immediate.ImmOperand.TheVariants.{Imm8, Imm16, Imm32, Simm8, Simm32}
-use Rattle.cax64_sink.specs.Sink.{Action, put}
+use Rattle.cax64_sink.specs.Call.{Action, put}
 
 -- one put of its size
 abbrev pub imm_actions : ImmOperand → List Action

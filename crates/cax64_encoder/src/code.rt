@@ -2,7 +2,7 @@
 
 ghost use Rattle.std.specs.Prelude.{◌≡◌, ◌≤◌, length};
 ghost use Rattle.cax64_encoder.specs.Code.{code_actions, line_actions, trap_actions, prefix_actions, set_actions, when, opcode_actions, tail_actions};
-ghost use Rattle.cax64_sink.specs.Sink.{Ran, all_bytes};
+ghost use Rattle.cax64_sink.specs.Run.{Ran, all_bytes};
 
 use crate::imm::put_optional_imm;
 use crate::nop::put_nop;

@@ -19,7 +19,7 @@ ghost use Rattle.cax64_machine_code.specs.Prefix.{rex_bits};
 ghost use Rattle.cax64_machine_code.specs.Rows.{line_of};
 ghost use Rattle.cax64_operand.specs.Immediate.{imm_size};
 ghost use Rattle.cax64_operand.specs.Shape.{HasShape};
-ghost use Rattle.cax64_sink.specs.Sink.{all_bytes};
+ghost use Rattle.cax64_sink.specs.Run.{all_bytes};
 
 use crate::code::{Code, LineCode, PrefixCode, TailPart};
 use crate::form::{Form, form_of};

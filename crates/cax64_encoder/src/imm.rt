@@ -3,7 +3,7 @@
 ghost use Rattle.std.specs.Prelude.{◌≡◌};
 ghost use Rattle.cax64_encoder.specs.ImmActions.{imm_actions, optional_imm_actions};
 ghost use Rattle.cax64_operand.specs.Immediate.{imm_size};
-ghost use Rattle.cax64_sink.specs.Sink.{Ran};
+ghost use Rattle.cax64_sink.specs.Run.{Ran};
 
 use cax64_operand::ImmOperand;
 use cax64_sink::{CodeSink, SinkError};

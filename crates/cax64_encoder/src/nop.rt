@@ -3,7 +3,7 @@
 ghost use Rattle.std.specs.Prelude.{◌≡◌};
 ghost use Rattle.cax64_encoder.specs.NopActions.{nop_lead, nop_zeros, nop_actions};
 ghost use Rattle.cax64_prefix.specs.Puts.{puts};
-ghost use Rattle.cax64_sink.specs.Sink.{Ran};
+ghost use Rattle.cax64_sink.specs.Run.{Ran};
 
 use crate::imm::put_optional_imm;
 use cax64_operand::{ImmOperand, Nop};

@@ -2,7 +2,7 @@
 
 ghost use Rattle.std.specs.Prelude.{◌≡◌, ◌↔◌, ⊤, pos, IsOk, IfOk};
 ghost use Rattle.std.specs.Int.{w16, to_le_bytes, FitsUnsigned};
-ghost use Rattle.cax64_sink.specs.Sink.{Step, put};
+ghost use Rattle.cax64_sink.specs.Call.{Step, put};
 
 use crate::OutOfRange;
 use cax64_sink::{CodeSink, SinkError};

@@ -6,6 +6,7 @@ pub mod imm16;
 pub mod imm32;
 pub mod imm64;
 pub mod imm8;
+pub mod laws;
 pub mod simm16;
 pub mod simm32;
 pub mod simm8;

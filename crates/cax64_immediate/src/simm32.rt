@@ -2,7 +2,7 @@
 
 ghost use Rattle.std.specs.Prelude.{◌≡◌, ⊤};
 ghost use Rattle.std.specs.Int.{w32, to_le_bytes, cast_unsigned};
-ghost use Rattle.cax64_sink.specs.Sink.{Step, put};
+ghost use Rattle.cax64_sink.specs.Call.{Step, put};
 
 use cax64_sink::{CodeSink, SinkError};
 use std::alloc::AllocError;

@@ -1,6 +1,8 @@
 use Rattle.std.proofs.Common.{◌≡◌, ℕ, ◌+◌, ◌<◌, ◌≤◌, List, [], ◌∷◌, ◌++◌, length, drop, slice_index_or, Result, Ok, Err, refl, ap, ◌∙◌}
 use Rattle.std.proofs.lemmas.List.{drop_more, drop_all}
-use Rattle.cax64_sink.specs.Sink.{State, put, Step, Ran, all_bytes, all_notices}
+use Rattle.cax64_sink.specs.Sink.{State}
+use Rattle.cax64_sink.specs.Run.{Ran, all_bytes, all_notices}
+use Rattle.cax64_sink.specs.Call.{put, Step}
 use Rattle.cax64_sink.specs.declared.SinkError.{SinkError}
 use Rattle.cax64_sink.proofs.Runs.{ran_none, ran_next, ran_halt, ran_bytes}
 use Rattle.cax64_prefix.specs.Puts.{puts}

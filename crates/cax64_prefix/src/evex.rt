@@ -2,7 +2,7 @@
 
 ghost use Rattle.std.specs.Prelude.{◌≡◌, ◌+◌, ◌-◌, ◌*◌, ◌/◌, ◌%◌, ◌<◌, ◌++◌, IfOk, IfSome, length};
 ghost use Rattle.std.specs.Int.{from_bool};
-ghost use Rattle.cax64_sink.specs.Sink.{Ran};
+ghost use Rattle.cax64_sink.specs.Run.{Ran};
 ghost use Rattle.cax64_prefix.specs.Puts.{puts};
 ghost use Rattle.cax64_prefix.specs.Evex.{evex_fields, EvexReadsAs};
 ghost use Rattle.cax64_prefix.specs.Apx.{apx_fields, ApxReadsAs};

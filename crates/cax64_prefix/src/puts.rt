@@ -1,7 +1,7 @@
 //! Bytes put into a sink.
 
 ghost use Rattle.std.specs.Prelude.{◌≡◌, ◌++◌, IfOk};
-ghost use Rattle.cax64_sink.specs.Sink.{Ran};
+ghost use Rattle.cax64_sink.specs.Run.{Ran};
 ghost use Rattle.cax64_prefix.specs.Puts.{puts};
 
 use cax64_sink::{CodeSink, SinkError};

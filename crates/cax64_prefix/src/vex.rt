@@ -2,7 +2,7 @@
 
 ghost use Rattle.std.specs.Prelude.{◌≡◌, ◌<◌, ◌≤◌, ◌/◌, ◌==◌, ◌&&◌, ◌++◌, ◌↔◌, IsTrue, IfOk, IfSome, length};
 ghost use Rattle.std.specs.Int.{from_bool};
-ghost use Rattle.cax64_sink.specs.Sink.{Ran};
+ghost use Rattle.cax64_sink.specs.Run.{Ran};
 ghost use Rattle.cax64_prefix.specs.Puts.{puts};
 ghost use Rattle.cax64_machine_code.specs.Fields.{IsBytes};
 ghost use Rattle.cax64_prefix.specs.Vex.{vex_bytes, vex_fields, VexReadsAs, IsShortestVex, fits_two_bytes};

@@ -7,6 +7,7 @@
 mod as_reg;
 mod fixed;
 pub mod gpr;
+pub mod laws;
 pub mod xmm;
 
 pub use as_reg::{AsReg, Registers, register_name};

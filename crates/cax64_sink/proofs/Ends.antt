@@ -2,7 +2,9 @@ use Rattle.cax64_sink.specs.declared.SinkError.{SinkError}
 use Rattle.std.proofs.Common.{Result, ◌≡◌, ℕ, ◌+◌, ◌<◌, arith, List, [], ◌∷◌, ◌++◌, length, sym, ◌∙◌, ap}
 use Rattle.std.proofs.lemmas.List.{length-append}
 use Rattle.cax64_sink.specs.Keeps.{Keeps}
-use Rattle.cax64_sink.specs.Sink.{State, Action, Ran, Refusal, bytes_of, all_bytes, all_notices}
+use Rattle.cax64_sink.specs.Sink.{State}
+use Rattle.cax64_sink.specs.Run.{Ran, Refusal, all_bytes, all_notices}
+use Rattle.cax64_sink.specs.Call.{Action, bytes_of}
 use Rattle.cax64_sink.specs.Ends.{EndsInBytes}
 use Rattle.cax64_sink.specs.declared.Notice.{Notice}
 use Rattle.cax64_sink.proofs.Runs.{all_bytes_append, all_notices_append, ran_offsets, ran_records, ran_answers}

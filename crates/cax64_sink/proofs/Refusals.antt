@@ -1,5 +1,7 @@
 use Rattle.std.proofs.Common.{◌≡◌, List, [], ◌∷◌, ◌++◌, Result, Err, inl, inr, refl, sym, ◌∙◌, ap, append_assoc, append-nil}
-use Rattle.cax64_sink.specs.Sink.{State, Action, Went, Ran, Refusal, bytes_of, all_bytes}
+use Rattle.cax64_sink.specs.Sink.{State}
+use Rattle.cax64_sink.specs.Run.{Went, Ran, Refusal, all_bytes}
+use Rattle.cax64_sink.specs.Call.{Action, bytes_of}
 use Rattle.cax64_sink.specs.declared.SinkError.{SinkError}
 use Rattle.cax64_sink.proofs.Runs.{notices_next, told_nothing}
 

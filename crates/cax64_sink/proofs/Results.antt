@@ -1,5 +1,7 @@
 use Rattle.std.proofs.Common.{◌≡◌, Bool, true, List, Result, Ok, Err, refl, sym, ◌∙◌, ap, IsOk, OnOk, IfErr}
-use Rattle.cax64_sink.specs.Sink.{State, Action, Ran, is_full, is_no_memory}
+use Rattle.cax64_sink.specs.Sink.{State, is_full, is_no_memory}
+use Rattle.cax64_sink.specs.Run.{Ran}
+use Rattle.cax64_sink.specs.Call.{Action}
 use Rattle.cax64_sink.specs.declared.SinkError.{SinkError}
 use Rattle.cax64_sink.specs.declared.SinkError.TheVariants.{NoMemory, Full}
 use Rattle.cax64_sink.proofs.Runs.{ran_error}

@@ -1,5 +1,7 @@
 use Rattle.std.proofs.Common.{◌≡◌, ℕ, ◌+◌, List, [], ◌∷◌, ◌++◌, length, Bool, true, false, Result, Ok, Err, inl, inr, refl, sym, ◌∙◌, ap, append_assoc, arith, append-nil, length-append, add_assoc, subst, if◌then◌else◌}
-use Rattle.cax64_sink.specs.Sink.{State, Action, Step, Went, Ran, bytes_of, notice_of, all_bytes, all_notices}
+use Rattle.cax64_sink.specs.Sink.{State}
+use Rattle.cax64_sink.specs.Run.{Went, Ran, all_bytes, all_notices}
+use Rattle.cax64_sink.specs.Call.{Action, Step, bytes_of, notice_of}
 use Rattle.cax64_sink.specs.declared.SinkError.{SinkError}
 use Rattle.cax64_sink.specs.declared.Notice.{Notice}
 

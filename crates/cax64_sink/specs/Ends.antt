@@ -1,6 +1,6 @@
 -- Actions whose last one puts bytes, so that what a refusal leaves is less than the whole.
 use Rattle.std.specs.Prelude.{◌<◌, List, [], ◌∷◌, length}
-use Rattle.cax64_sink.specs.Sink.{Action, bytes_of}
+use Rattle.cax64_sink.specs.Call.{Action, bytes_of}
 
 abbrev pub EndsInBytes : List Action → Type 0
 EndsInBytes [] = ⊥

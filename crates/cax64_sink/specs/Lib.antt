@@ -1,9 +1,13 @@
+-- What the clauses of public functions say.
 pub mod Room
 pub mod Sink
+pub mod Call
+pub mod Run
+pub mod Keeps
+pub mod Vec
 pub mod Recorder
 pub mod FixedSink
-pub mod Vec
-pub mod Laws
 pub mod TrapCode
+pub mod Laws
+-- Steps of the proofs.
 pub mod Ends
-pub mod Keeps

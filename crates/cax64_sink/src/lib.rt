@@ -3,7 +3,8 @@
 
 ghost use Rattle.std.specs.Prelude.{◌≡◌, ◌∷◌, [], IsSome, is_some, Some};
 ghost use Rattle.std.specs.Int.{to_le_bytes, w16, w32, w64};
-ghost use Rattle.cax64_sink.specs.Sink.{State, Step, put, trap, target};
+ghost use Rattle.cax64_sink.specs.Sink.{State};
+ghost use Rattle.cax64_sink.specs.Call.{Step, put, trap, target};
 ghost use Rattle.cax64_sink.specs.TrapCode.{trap_text};
 
 use std::fmt;

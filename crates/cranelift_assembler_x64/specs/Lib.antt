@@ -6,6 +6,8 @@ pub use Rattle.cax64_sink.specs.FixedSink
 pub use Rattle.cax64_sink.specs.Recorder
 pub use Rattle.cax64_sink.specs.Room
 pub use Rattle.cax64_sink.specs.Sink
+pub use Rattle.cax64_sink.specs.Call
+pub use Rattle.cax64_sink.specs.Run
 pub use Rattle.cax64_encoder.specs.Instruction
 pub use Rattle.cax64_encoder.specs.Meant
 pub use Rattle.cax64_machine_code.specs.Reading

@@ -4,7 +4,7 @@ use Rattle.std.proofs.lemmas.Nat.{and_mask}
 use Rattle.cax64_address.specs.Displacement.{GivesBack, IsClassOf, factor_of, mode_of}
 use Rattle.cax64_address.proofs.Emits.{Chosen, chosen_five, chosen_other, emits_base, emits_stack}
 use Rattle.cax64_address.proofs.TailBytes.{base_bytes, sib_bytes}
-use Rattle.cax64_address.proofs.TailLengths.{base_length, stack_length}
+use Rattle.cax64_address.proofs.TailLengths.{base_length, stack_length, some_factor}
 use Rattle.cax64_address.proofs.tail.base_tail.Goals as goal
 use Rattle.cax64_address.proofs.tail.base_tail.Goals.{then-low-eq5, else-low-eq5}
 
@@ -53,15 +53,15 @@ returns-clause-bytes c =
     base_bytes _ _ _ _ _ _ _ _ chosen c.requires.reg small byte
 
 pub returns-then-low-eq4-clause-length : goal.returns-then-low-eq4-clause-length
-returns-then-low-eq4-clause-length c none =
+returns-then-low-eq4-clause-length c =
     let class : IsClassOf (factor_of c.args.evex_scaling) c.args.displacement c.new-disp.result = rw (to_z-of_z w32 c.args.displacement c.ranges.displacement) at c.new-disp.ensures.class in
     let back : GivesBack (factor_of c.args.evex_scaling) c.args.displacement c.new-disp.result = rw (to_z-of_z w32 c.args.displacement c.ranges.displacement) at c.new-disp.ensures.gives_back in
     let low : c.args.base % 8 ≡ 4 = omega (arith, and_mask c.args.base 3) in
     let not_five : c.args.base % 8 ≢ 5 = omega (arith, low) in
-    stack_length _ _ _ _ _ (chosen_other _ _ _ _ class back not_five) low none
+    stack_length _ _ _ _ _ (some_factor c.args.evex_scaling c.requires.factor) (chosen_other _ _ _ _ class back not_five) low
 
 pub returns-clause-length : goal.returns-clause-length
-returns-clause-length c none =
+returns-clause-length c =
     let class : IsClassOf (factor_of c.args.evex_scaling) c.args.displacement c.new-disp.result = rw (to_z-of_z w32 c.args.displacement c.ranges.displacement) at c.new-disp.ensures.class in
     let back : GivesBack (factor_of c.args.evex_scaling) c.args.displacement c.new-disp.result = rw (to_z-of_z w32 c.args.displacement c.ranges.displacement) at c.new-disp.ensures.gives_back in
     let not_four : c.args.base % 8 ≢ 4 = omega (arith, and_mask c.args.base 3) in
@@ -69,4 +69,4 @@ returns-clause-length c none =
       | then-low-eq5 w ↦ rw (w.disp-is, w.force_immediate.ensures) (chosen_five _ _ _ _ class back (omega (arith, and_mask c.args.base 3)))
       | else-low-eq5 w ↦ rw w.disp-is (chosen_other _ _ _ _ class back (omega (arith, and_mask c.args.base 3)))
     ] in
-    base_length _ _ _ _ _ chosen not_four none
+    base_length _ _ _ _ _ (some_factor c.args.evex_scaling c.requires.factor) chosen not_four

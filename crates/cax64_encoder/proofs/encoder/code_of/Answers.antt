@@ -1,7 +1,7 @@
 use Rattle.std.proofs.Common.{◌≡◌, length, w32}
 use Rattle.std.proofs.lemmas.Int.{to_z-of_z}
 use Rattle.cax64_machine_code.specs.Len.{tail_len}
-use Rattle.cax64_sink.specs.Sink.{all_bytes}
+use Rattle.cax64_sink.specs.Run.{all_bytes}
 use Rattle.cax64_encoder.specs.Code.{prefix_actions, tail_actions}
 use Rattle.cax64_encoder.specs.Encodes.{TailPartOf}
 use Rattle.cax64_encoder.specs.Place.{place_read}

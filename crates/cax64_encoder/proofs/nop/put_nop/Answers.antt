@@ -1,6 +1,6 @@
 use Rattle.std.proofs.Common.{◌∙◌, ap, Err}
 use Rattle.std.proofs.lemmas.Result.{err_from_is_err_and}
-use Rattle.cax64_sink.specs.Sink.{Ran}
+use Rattle.cax64_sink.specs.Run.{Ran}
 use Rattle.cax64_sink.proofs.Runs.{ran_append, ran_refused}
 use Rattle.cax64_encoder.specs.ImmActions.{optional_imm_actions}
 use Rattle.cax64_encoder.specs.NopActions.{nop_zeros}
