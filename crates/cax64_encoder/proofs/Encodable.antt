@@ -5,7 +5,7 @@ use Rattle.cax64_machine_code.specs.Len.{len_of}
 use Rattle.cax64_machine_code.specs.Rows.{line_of}
 use Rattle.cax64_machine_code.specs.declared.row.Row.{Row}
 use Rattle.cax64_operand.specs.Family.{Family}
-use Rattle.cax64_operand.specs.List.{list_of, nop_of}
+use Rattle.cax64_operand.specs.OperandList.{list_of, nop_of}
 use Rattle.cax64_operand.specs.Shape.{HasShape, takes}
 use Rattle.cax64_operand.specs.declared.nop.Nop.{Nop}
 use Rattle.cax64_operand.specs.declared.operand.Operand.{Operand}

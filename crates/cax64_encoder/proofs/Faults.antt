@@ -4,7 +4,7 @@ use Rattle.cax64_address.specs.Offset.{fits_i32, sum_fits, late_fits}
 use Rattle.cax64_address.specs.declared.amode.Amode.{Amode}
 use Rattle.cax64_address.specs.declared.amode.Amode.TheVariants.{ImmReg, ImmRegRegShift, RipRelative}
 use Rattle.cax64_operand.specs.Family.{Family}
-use Rattle.cax64_operand.specs.List.{list_of}
+use Rattle.cax64_operand.specs.OperandList.{list_of}
 use Rattle.cax64_operand.specs.declared.operand.Operands.{Operands}
 use Rattle.cax64_operand.specs.declared.operand.Operands.TheVariants as operands
 use Rattle.cax64_machine_code.specs.declared.row.Row.{Row}

@@ -10,7 +10,7 @@ use Rattle.cax64_machine_code.specs.Reading.{Found, find, row_at, operands_at}
 use Rattle.cax64_machine_code.proofs.Matched.{reads_as}
 use Rattle.cax64_machine_code.specs.Rows.{line_of, all_rows}
 use Rattle.cax64_machine_code.specs.declared.row.Row.{Row}
-use Rattle.cax64_operand.specs.Nop.{nop_row}
+use Rattle.cax64_operand.specs.NopRow.{nop_row}
 use Rattle.cax64_encoder.proofs.Bytes.{no_bytes, more_bytes}
 use Rattle.cax64_machine_code.specs.Tail.{read_tail, sib_at, disp_at}
 use Rattle.cax64_sink.specs.Run.{all_bytes, all_notices}

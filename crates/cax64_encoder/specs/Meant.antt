@@ -7,7 +7,7 @@ use Rattle.cax64_machine_code.specs.declared.reading.RegView.TheVariants.{Low}
 use Rattle.cax64_machine_code.specs.declared.row.Row.{Row}
 use Rattle.cax64_operand.specs.Family.{Numbering, Family}
 use Rattle.cax64_operand.specs.Immediate.{imm_size, imm_value}
-use Rattle.cax64_operand.specs.List.{list_of, nop_of}
+use Rattle.cax64_operand.specs.OperandList.{list_of, nop_of}
 use Rattle.cax64_operand.specs.declared.immediate.ImmOperand.{ImmOperand}
 use Rattle.cax64_operand.specs.declared.nop.Nop.{Nop}
 use Rattle.cax64_operand.specs.declared.operand.Operand.{Operand}

@@ -8,7 +8,7 @@ ghost use Rattle.cax64_encoder.specs.Present.{present};
 ghost use Rattle.cax64_encoder.specs.Role.{roles_of};
 ghost use Rattle.cax64_encoder.specs.Visits.{place_visits, visits_of};
 ghost use Rattle.cax64_operand.specs.Family.{numbering};
-ghost use Rattle.cax64_operand.specs.List.{list_of};
+ghost use Rattle.cax64_operand.specs.OperandList.{list_of};
 
 use crate::form::form_of;
 use crate::number::Number;

@@ -2,7 +2,7 @@
 
 ghost use Rattle.std.specs.Prelude.{◌≡◌};
 ghost use Rattle.cax64_encoder.specs.Form.{no_form, with_role, form_of};
-ghost use Rattle.cax64_operand.specs.List.{list_of};
+ghost use Rattle.cax64_operand.specs.OperandList.{list_of};
 
 use crate::number::Number;
 use crate::role::{PlaceOperand, Role, role_of};

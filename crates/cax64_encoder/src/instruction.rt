@@ -6,7 +6,7 @@ ghost use Rattle.cax64_encoder.specs.Instruction.{Meaning, can_encode_in, fault_
 ghost use Rattle.cax64_encoder.specs.Meant.{Meant, meant_of};
 ghost use Rattle.cax64_encoder.specs.Notices.{notice_count};
 ghost use Rattle.cax64_machine_code.specs.declared.row.Row.{Row};
-ghost use Rattle.cax64_operand.specs.Run.{OperandsRun};
+ghost use Rattle.cax64_operand.specs.Visit.{OperandsRun};
 ghost use Rattle.cax64_operand.specs.declared.operand.Operands.{Operands};
 ghost use Rattle.cax64_sink.specs.Keeps.{Keeps};
 ghost use Rattle.cax64_sink.specs.Room.{HasRoom, FallsBy};

@@ -1,8 +1,8 @@
 -- What the clauses of public functions say.
 pub mod Family
 pub mod Immediate
-pub mod List
-pub mod Nop
+pub mod OperandList
+pub mod NopRow
 pub mod Shape
-pub mod Steps
-pub mod Run
+pub mod VisitSteps
+pub mod Visit

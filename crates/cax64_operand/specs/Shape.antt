@@ -14,8 +14,8 @@ use Rattle.cax64_machine_code.specs.declared.line.TailField.TheVariants.{NoTail,
 use Rattle.cax64_machine_code.specs.declared.line.VvvvField.TheVariants.{VvvvRegister, Stored1111}
 use Rattle.cax64_machine_code.specs.declared.row.Row.{Row}
 use Rattle.cax64_operand.specs.Immediate.{imm_of, imm_in_range}
-use Rattle.cax64_operand.specs.List.{list_of, nop_of}
-use Rattle.cax64_operand.specs.Nop.{nop_row}
+use Rattle.cax64_operand.specs.OperandList.{list_of, nop_of}
+use Rattle.cax64_operand.specs.NopRow.{nop_row}
 use Rattle.cax64_operand.specs.declared.immediate.ImmOperand.{ImmOperand}
 use Rattle.cax64_operand.specs.declared.immediate.ImmOperand.TheVariants as bytes
 use Rattle.cax64_operand.specs.declared.operand.Operand.{Operand}

@@ -2,7 +2,7 @@
 
 ghost use Rattle.std.specs.Prelude.{◌≡◌};
 ghost use Rattle.cax64_machine_code.specs.declared.row.Row.{Row};
-ghost use Rattle.cax64_operand.specs.Run.{OperandsRun};
+ghost use Rattle.cax64_operand.specs.Visit.{OperandsRun};
 ghost use Rattle.cax64_operand.specs.Shape.{HasShape};
 ghost use Rattle.cax64_operand.specs.declared.operand.Operands.{Operands};
 

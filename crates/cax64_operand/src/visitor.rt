@@ -2,7 +2,7 @@
 
 ghost use Rattle.std.specs.Prelude.{◌≡◌, ℕ};
 ghost use Rattle.std.specs.Bool.{MatchBool};
-ghost use Rattle.cax64_operand.specs.Steps.{Steps, Then, AmodeRun, GprMemRun, XmmMemRun};
+ghost use Rattle.cax64_operand.specs.VisitSteps.{Steps, Then, AmodeRun, GprMemRun, XmmMemRun};
 
 use cax64_address::amode::Amode;
 use cax64_address::operand::{GprMem, XmmMem};

@@ -2,7 +2,7 @@
 
 ghost use Rattle.std.specs.Prelude.{◌≡◌};
 ghost use Rattle.cax64_machine_code.specs.declared.row.Row.TheVariants as row;
-ghost use Rattle.cax64_operand.specs.Run.{OperandsRun};
+ghost use Rattle.cax64_operand.specs.Visit.{OperandsRun};
 ghost use Rattle.jump.specs.Operands.{operands_callq_d, operands_jmp_d32, operands_jo_d32, operands_jno_d32, operands_jb_d32, operands_jae_d32, operands_je_d32, operands_jne_d32, operands_jbe_d32, operands_ja_d32, operands_js_d32, operands_jns_d32, operands_jp_d32, operands_jnp_d32, operands_jl_d32, operands_jge_d32, operands_jle_d32, operands_jg_d32};
 
 use cax64_immediate::Simm32;

@@ -2,7 +2,7 @@
 
 ghost use Rattle.std.specs.Prelude.{◌≡◌};
 ghost use Rattle.cax64_machine_code.specs.declared.row.Row.TheVariants as row;
-ghost use Rattle.cax64_operand.specs.Run.{OperandsRun};
+ghost use Rattle.cax64_operand.specs.Visit.{OperandsRun};
 ghost use Rattle.jump.specs.Operands.{operands_jmp_d8, operands_jo_d8, operands_jno_d8, operands_jb_d8, operands_jae_d8, operands_je_d8, operands_jne_d8, operands_jbe_d8, operands_ja_d8, operands_js_d8, operands_jns_d8, operands_jp_d8, operands_jnp_d8, operands_jl_d8, operands_jge_d8, operands_jle_d8, operands_jg_d8};
 
 use cax64_immediate::Simm8;

@@ -1,7 +1,7 @@
 use Rattle.std.proofs.Common.{◌≡◌, ◌∙◌, sym, true, length, FitsSigned, w32, rules}
 use Rattle.std.proofs.lemmas.Int.{to_z-of_z}
 use Rattle.cax64_machine_code.specs.Len.{len_of}
-use Rattle.cax64_operand.specs.Nop.{nop_row}
+use Rattle.cax64_operand.specs.NopRow.{nop_row}
 use Rattle.cax64_sink.specs.Run.{all_bytes}
 use Rattle.cax64_encoder.specs.Code.{line_actions}
 use Rattle.cax64_encoder.specs.Encodes.{EncodesParts, form_parts}

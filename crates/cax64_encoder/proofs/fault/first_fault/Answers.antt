@@ -1,6 +1,6 @@
 use Rattle.std.proofs.Common.{◌∙◌, ap}
 use Rattle.cax64_operand.specs.Family.{family_of, numbering}
-use Rattle.cax64_operand.specs.List.{list_of}
+use Rattle.cax64_operand.specs.OperandList.{list_of}
 use Rattle.cax64_encoder.specs.Fault.{first_unmet}
 use Rattle.cax64_encoder.proofs.Encodable.{then_late}
 use Rattle.cax64_encoder.proofs.fault.first_fault.Goals as goal

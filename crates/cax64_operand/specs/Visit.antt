@@ -3,8 +3,8 @@ use Rattle.cax64_address.specs.declared.amode.Amode.{Amode}
 use Rattle.cax64_address.specs.declared.operand.GprMem.{GprMem}
 use Rattle.cax64_address.specs.declared.operand.XmmMem.{XmmMem}
 use Rattle.std.specs.Bool.{MatchBool}
-use Rattle.cax64_operand.specs.List.{list_of, nop_of}
-use Rattle.cax64_operand.specs.Steps.{Steps, AmodeRun, GprMemRun, XmmMemRun}
+use Rattle.cax64_operand.specs.OperandList.{list_of, nop_of}
+use Rattle.cax64_operand.specs.VisitSteps.{Steps, AmodeRun, GprMemRun, XmmMemRun}
 use Rattle.cax64_operand.specs.declared.operand.Operand.{Operand}
 use Rattle.cax64_operand.specs.declared.operand.Operands.{Operands}
 use Rattle.cax64_operand.specs.declared.operand.Operand.TheVariants.{ReadGpr, ReadWriteGpr, WriteGpr, WriteTwoGprs, FixedReadGpr, FixedReadWriteGpr, ReadXmm, ReadWriteXmm, WriteXmm, ReadAmode, ReadGprMem, ReadWriteGprMem, ReadXmmMem, Imm}
