@@ -41,7 +41,11 @@ impl<R: Registers> RowAndOperands for lock_cmpxchgb_mr<R> {
 
     #[tactic(auto, unfolding(cax64_machine_code::specs::Rows::line_of))]
     fn operands(&self) -> Operands<R> {
-        Operands::Three(Operand::ReadAmode(self.m8), Operand::ReadGpr(*self.r8.as_ref(), Size::Byte), Operand::FixedReadWriteGpr(self.al.0, 0, None))
+        Operands::Three(
+            Operand::ReadAmode(self.m8),
+            Operand::ReadGpr(*self.r8.as_ref(), Size::Byte),
+            Operand::FixedReadWriteGpr(self.al.0, 0, None),
+        )
     }
 
     fn visit<V: RegisterVisitor<R>>(&mut self, visitor: &mut V) {
@@ -83,7 +87,11 @@ impl<R: Registers> RowAndOperands for lock_cmpxchgw_mr<R> {
 
     #[tactic(auto, unfolding(cax64_machine_code::specs::Rows::line_of))]
     fn operands(&self) -> Operands<R> {
-        Operands::Three(Operand::ReadAmode(self.m16), Operand::ReadGpr(*self.r16.as_ref(), Size::Word), Operand::FixedReadWriteGpr(self.ax.0, 0, None))
+        Operands::Three(
+            Operand::ReadAmode(self.m16),
+            Operand::ReadGpr(*self.r16.as_ref(), Size::Word),
+            Operand::FixedReadWriteGpr(self.ax.0, 0, None),
+        )
     }
 
     fn visit<V: RegisterVisitor<R>>(&mut self, visitor: &mut V) {
@@ -125,7 +133,11 @@ impl<R: Registers> RowAndOperands for lock_cmpxchgl_mr<R> {
 
     #[tactic(auto, unfolding(cax64_machine_code::specs::Rows::line_of))]
     fn operands(&self) -> Operands<R> {
-        Operands::Three(Operand::ReadAmode(self.m32), Operand::ReadGpr(*self.r32.as_ref(), Size::Doubleword), Operand::FixedReadWriteGpr(self.eax.0, 0, None))
+        Operands::Three(
+            Operand::ReadAmode(self.m32),
+            Operand::ReadGpr(*self.r32.as_ref(), Size::Doubleword),
+            Operand::FixedReadWriteGpr(self.eax.0, 0, None),
+        )
     }
 
     fn visit<V: RegisterVisitor<R>>(&mut self, visitor: &mut V) {
@@ -167,7 +179,11 @@ impl<R: Registers> RowAndOperands for lock_cmpxchgq_mr<R> {
 
     #[tactic(auto, unfolding(cax64_machine_code::specs::Rows::line_of))]
     fn operands(&self) -> Operands<R> {
-        Operands::Three(Operand::ReadAmode(self.m64), Operand::ReadGpr(*self.r64.as_ref(), Size::Quadword), Operand::FixedReadWriteGpr(self.rax.0, 0, None))
+        Operands::Three(
+            Operand::ReadAmode(self.m64),
+            Operand::ReadGpr(*self.r64.as_ref(), Size::Quadword),
+            Operand::FixedReadWriteGpr(self.rax.0, 0, None),
+        )
     }
 
     fn visit<V: RegisterVisitor<R>>(&mut self, visitor: &mut V) {
@@ -189,14 +205,26 @@ pub struct lock_cmpxchg16b_m<R: Registers> {
 }
 
 impl<R: Registers> lock_cmpxchg16b_m<R> {
-    pub fn new(m128: Amode<R::ReadGpr>, rax: Fixed<R::ReadWriteGpr, 0>, rdx: Fixed<R::ReadWriteGpr, 2>, rcx: Fixed<R::ReadGpr, 1>, rbx: Fixed<R::ReadGpr, 3>) -> Self
+    pub fn new(
+        m128: Amode<R::ReadGpr>,
+        rax: Fixed<R::ReadWriteGpr, 0>,
+        rdx: Fixed<R::ReadWriteGpr, 2>,
+        rcx: Fixed<R::ReadGpr, 1>,
+        rbx: Fixed<R::ReadGpr, 3>,
+    ) -> Self
         ensures m128 { result.m128 ≡ m128 }
         ensures rax { result.rax ≡ rax }
         ensures rdx { result.rdx ≡ rdx }
         ensures rcx { result.rcx ≡ rcx }
         ensures rbx { result.rbx ≡ rbx }
     {
-        lock_cmpxchg16b_m { m128, rax, rdx, rcx, rbx }
+        lock_cmpxchg16b_m {
+            m128,
+            rax,
+            rdx,
+            rcx,
+            rbx,
+        }
     }
 }
 
@@ -213,7 +241,13 @@ impl<R: Registers> RowAndOperands for lock_cmpxchg16b_m<R> {
 
     #[tactic(auto, unfolding(cax64_machine_code::specs::Rows::line_of))]
     fn operands(&self) -> Operands<R> {
-        Operands::Five(Operand::ReadAmode(self.m128), Operand::FixedReadWriteGpr(self.rax.0, 0, None), Operand::FixedReadWriteGpr(self.rdx.0, 2, None), Operand::FixedReadGpr(self.rcx.0, 1, None), Operand::FixedReadGpr(self.rbx.0, 3, None))
+        Operands::Five(
+            Operand::ReadAmode(self.m128),
+            Operand::FixedReadWriteGpr(self.rax.0, 0, None),
+            Operand::FixedReadWriteGpr(self.rdx.0, 2, None),
+            Operand::FixedReadGpr(self.rcx.0, 1, None),
+            Operand::FixedReadGpr(self.rbx.0, 3, None),
+        )
     }
 
     fn visit<V: RegisterVisitor<R>>(&mut self, visitor: &mut V) {

@@ -1,7 +1,7 @@
 //! The command `rows`.
 
 ghost use Rattle.std.specs.Prelude.{ℕ, ℤ, Option, IsTrue};
-ghost use Rattle.cranelift_assembler_x64.specs.Meant.{is_encodable};
+ghost use Rattle.cranelift_assembler_x64.specs.Fault.{is_encodable};
 
 use crate::line::push_bytes;
 use crate::operand::{base_and_displacement, base_and_index};
@@ -12,30 +12,12 @@ use cranelift_assembler_x64::inst::{
 use cranelift_assembler_x64::reader::read_inst;
 use cranelift_assembler_x64::{
     Amode, Constant, DeferredTarget, Fixed, FixedSink, Gpr, GprMem, Imm8, Inst, Instruction,
-    Registers, Scale, Simm8, Simm32, Xmm, XmmMem,
+    Numbers, Scale, Simm8, Simm32, Xmm, XmmMem,
 };
 use std::alloc::{AllocError, Allocator};
 
 /// The most bytes of an instruction.
 const MOST: usize = 13;
-
-/// Registers that are their hardware numbers.
-#[derive(Clone, Copy)]
-struct Numbers;
-
-impl Registers for Numbers {
-    type ReadGpr = u8;
-
-    type ReadWriteGpr = u8;
-
-    type WriteGpr = u8;
-
-    type ReadXmm = u8;
-
-    type ReadWriteXmm = u8;
-
-    type WriteXmm = u8;
-}
 
 /// A line, by its instruction.
 #[derive(Clone, Copy)]
