@@ -38,7 +38,10 @@ impl<R: Registers> RowAndOperands for andb_i<R> {
 
     #[tactic(auto, unfolding(cax64_machine_code::specs::Rows::line_of))]
     fn operands(&self) -> Operands<R> {
-        Operands::Two(Operand::FixedReadWriteGpr(self.al.0, 0, Some(Size::Byte)), Operand::Imm(Immediate::Imm8(self.imm8.value())))
+        Operands::Two(
+            Operand::FixedReadWriteGpr(self.al.0, 0, Some(Size::Byte)),
+            Operand::Imm(Immediate::Imm8(self.imm8.value())),
+        )
     }
 
     fn visit<V: RegisterVisitor<R>>(&mut self, visitor: &mut V) {

@@ -19,13 +19,23 @@ pub struct mulxl_rvm<R: Registers> {
 }
 
 impl<R: Registers> mulxl_rvm<R> {
-    pub fn new(r32a: Gpr<R::WriteGpr>, r32b: Gpr<R::WriteGpr>, rm32: GprMem<R::ReadGpr, R::ReadGpr>, edx: Fixed<R::ReadGpr, 2>) -> Self
+    pub fn new(
+        r32a: Gpr<R::WriteGpr>,
+        r32b: Gpr<R::WriteGpr>,
+        rm32: GprMem<R::ReadGpr, R::ReadGpr>,
+        edx: Fixed<R::ReadGpr, 2>,
+    ) -> Self
         ensures r32a { result.r32a ≡ r32a }
         ensures r32b { result.r32b ≡ r32b }
         ensures rm32 { result.rm32 ≡ rm32 }
         ensures edx { result.edx ≡ edx }
     {
-        mulxl_rvm { r32a, r32b, rm32, edx }
+        mulxl_rvm {
+            r32a,
+            r32b,
+            rm32,
+            edx,
+        }
     }
 }
 
@@ -42,7 +52,11 @@ impl<R: Registers> RowAndOperands for mulxl_rvm<R> {
 
     #[tactic(auto, unfolding(cax64_machine_code::specs::Rows::line_of))]
     fn operands(&self) -> Operands<R> {
-        Operands::Three(Operand::WriteTwoGprs(*self.r32a.as_ref(), *self.r32b.as_ref(), Size::Doubleword), Operand::ReadGprMem(self.rm32, Size::Doubleword), Operand::FixedReadGpr(self.edx.0, 2, None))
+        Operands::Three(
+            Operand::WriteTwoGprs(*self.r32a.as_ref(), *self.r32b.as_ref(), Size::Doubleword),
+            Operand::ReadGprMem(self.rm32, Size::Doubleword),
+            Operand::FixedReadGpr(self.edx.0, 2, None),
+        )
     }
 
     fn visit<V: RegisterVisitor<R>>(&mut self, visitor: &mut V) {
@@ -62,13 +76,23 @@ pub struct mulxq_rvm<R: Registers> {
 }
 
 impl<R: Registers> mulxq_rvm<R> {
-    pub fn new(r64a: Gpr<R::WriteGpr>, r64b: Gpr<R::WriteGpr>, rm64: GprMem<R::ReadGpr, R::ReadGpr>, rdx: Fixed<R::ReadGpr, 2>) -> Self
+    pub fn new(
+        r64a: Gpr<R::WriteGpr>,
+        r64b: Gpr<R::WriteGpr>,
+        rm64: GprMem<R::ReadGpr, R::ReadGpr>,
+        rdx: Fixed<R::ReadGpr, 2>,
+    ) -> Self
         ensures r64a { result.r64a ≡ r64a }
         ensures r64b { result.r64b ≡ r64b }
         ensures rm64 { result.rm64 ≡ rm64 }
         ensures rdx { result.rdx ≡ rdx }
     {
-        mulxq_rvm { r64a, r64b, rm64, rdx }
+        mulxq_rvm {
+            r64a,
+            r64b,
+            rm64,
+            rdx,
+        }
     }
 }
 
@@ -85,7 +109,11 @@ impl<R: Registers> RowAndOperands for mulxq_rvm<R> {
 
     #[tactic(auto, unfolding(cax64_machine_code::specs::Rows::line_of))]
     fn operands(&self) -> Operands<R> {
-        Operands::Three(Operand::WriteTwoGprs(*self.r64a.as_ref(), *self.r64b.as_ref(), Size::Quadword), Operand::ReadGprMem(self.rm64, Size::Quadword), Operand::FixedReadGpr(self.rdx.0, 2, None))
+        Operands::Three(
+            Operand::WriteTwoGprs(*self.r64a.as_ref(), *self.r64b.as_ref(), Size::Quadword),
+            Operand::ReadGprMem(self.rm64, Size::Quadword),
+            Operand::FixedReadGpr(self.rdx.0, 2, None),
+        )
     }
 
     fn visit<V: RegisterVisitor<R>>(&mut self, visitor: &mut V) {

@@ -38,7 +38,10 @@ impl<R: Registers> RowAndOperands for xchgb_rm<R> {
 
     #[tactic(auto, unfolding(cax64_machine_code::specs::Rows::line_of))]
     fn operands(&self) -> Operands<R> {
-        Operands::Two(Operand::ReadWriteGpr(*self.r8.as_ref(), Size::Byte), Operand::ReadAmode(self.m8))
+        Operands::Two(
+            Operand::ReadWriteGpr(*self.r8.as_ref(), Size::Byte),
+            Operand::ReadAmode(self.m8),
+        )
     }
 
     fn visit<V: RegisterVisitor<R>>(&mut self, visitor: &mut V) {
@@ -76,7 +79,10 @@ impl<R: Registers> RowAndOperands for xchgw_rm<R> {
 
     #[tactic(auto, unfolding(cax64_machine_code::specs::Rows::line_of))]
     fn operands(&self) -> Operands<R> {
-        Operands::Two(Operand::ReadWriteGpr(*self.r16.as_ref(), Size::Word), Operand::ReadAmode(self.m16))
+        Operands::Two(
+            Operand::ReadWriteGpr(*self.r16.as_ref(), Size::Word),
+            Operand::ReadAmode(self.m16),
+        )
     }
 
     fn visit<V: RegisterVisitor<R>>(&mut self, visitor: &mut V) {
@@ -114,7 +120,10 @@ impl<R: Registers> RowAndOperands for xchgl_rm<R> {
 
     #[tactic(auto, unfolding(cax64_machine_code::specs::Rows::line_of))]
     fn operands(&self) -> Operands<R> {
-        Operands::Two(Operand::ReadWriteGpr(*self.r32.as_ref(), Size::Doubleword), Operand::ReadAmode(self.m32))
+        Operands::Two(
+            Operand::ReadWriteGpr(*self.r32.as_ref(), Size::Doubleword),
+            Operand::ReadAmode(self.m32),
+        )
     }
 
     fn visit<V: RegisterVisitor<R>>(&mut self, visitor: &mut V) {
@@ -152,7 +161,10 @@ impl<R: Registers> RowAndOperands for xchgq_rm<R> {
 
     #[tactic(auto, unfolding(cax64_machine_code::specs::Rows::line_of))]
     fn operands(&self) -> Operands<R> {
-        Operands::Two(Operand::ReadWriteGpr(*self.r64.as_ref(), Size::Quadword), Operand::ReadAmode(self.m64))
+        Operands::Two(
+            Operand::ReadWriteGpr(*self.r64.as_ref(), Size::Quadword),
+            Operand::ReadAmode(self.m64),
+        )
     }
 
     fn visit<V: RegisterVisitor<R>>(&mut self, visitor: &mut V) {

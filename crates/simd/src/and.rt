@@ -38,7 +38,10 @@ impl<R: Registers> RowAndOperands for andps_a<R> {
 
     #[tactic(auto, unfolding(cax64_machine_code::specs::Rows::line_of))]
     fn operands(&self) -> Operands<R> {
-        Operands::Two(Operand::ReadWriteXmm(*self.xmm1.as_ref()), Operand::ReadXmmMem(self.xmm_m128))
+        Operands::Two(
+            Operand::ReadWriteXmm(*self.xmm1.as_ref()),
+            Operand::ReadXmmMem(self.xmm_m128),
+        )
     }
 
     fn visit<V: RegisterVisitor<R>>(&mut self, visitor: &mut V) {

@@ -20,12 +20,20 @@ pub struct cmpps_a<R: Registers> {
 }
 
 impl<R: Registers> cmpps_a<R> {
-    pub fn new(xmm1: Xmm<R::ReadWriteXmm>, xmm_m128: XmmMem<R::ReadXmm, R::ReadGpr>, imm8: Imm8) -> Self
+    pub fn new(
+        xmm1: Xmm<R::ReadWriteXmm>,
+        xmm_m128: XmmMem<R::ReadXmm, R::ReadGpr>,
+        imm8: Imm8,
+    ) -> Self
         ensures xmm1 { result.xmm1 ≡ xmm1 }
         ensures xmm_m128 { result.xmm_m128 ≡ xmm_m128 }
         ensures imm8 { result.imm8 ≡ imm8 }
     {
-        cmpps_a { xmm1, xmm_m128, imm8 }
+        cmpps_a {
+            xmm1,
+            xmm_m128,
+            imm8,
+        }
     }
 }
 
@@ -42,7 +50,11 @@ impl<R: Registers> RowAndOperands for cmpps_a<R> {
 
     #[tactic(auto, unfolding(cax64_machine_code::specs::Rows::line_of))]
     fn operands(&self) -> Operands<R> {
-        Operands::Three(Operand::ReadWriteXmm(*self.xmm1.as_ref()), Operand::ReadXmmMem(self.xmm_m128), Operand::Imm(Immediate::Predicate(self.imm8.value())))
+        Operands::Three(
+            Operand::ReadWriteXmm(*self.xmm1.as_ref()),
+            Operand::ReadXmmMem(self.xmm_m128),
+            Operand::Imm(Immediate::Predicate(self.imm8.value())),
+        )
     }
 
     fn visit<V: RegisterVisitor<R>>(&mut self, visitor: &mut V) {
@@ -61,12 +73,20 @@ pub struct cmppd_a<R: Registers> {
 }
 
 impl<R: Registers> cmppd_a<R> {
-    pub fn new(xmm1: Xmm<R::ReadWriteXmm>, xmm_m128: XmmMem<R::ReadXmm, R::ReadGpr>, imm8: Imm8) -> Self
+    pub fn new(
+        xmm1: Xmm<R::ReadWriteXmm>,
+        xmm_m128: XmmMem<R::ReadXmm, R::ReadGpr>,
+        imm8: Imm8,
+    ) -> Self
         ensures xmm1 { result.xmm1 ≡ xmm1 }
         ensures xmm_m128 { result.xmm_m128 ≡ xmm_m128 }
         ensures imm8 { result.imm8 ≡ imm8 }
     {
-        cmppd_a { xmm1, xmm_m128, imm8 }
+        cmppd_a {
+            xmm1,
+            xmm_m128,
+            imm8,
+        }
     }
 }
 
@@ -83,7 +103,11 @@ impl<R: Registers> RowAndOperands for cmppd_a<R> {
 
     #[tactic(auto, unfolding(cax64_machine_code::specs::Rows::line_of))]
     fn operands(&self) -> Operands<R> {
-        Operands::Three(Operand::ReadWriteXmm(*self.xmm1.as_ref()), Operand::ReadXmmMem(self.xmm_m128), Operand::Imm(Immediate::Predicate(self.imm8.value())))
+        Operands::Three(
+            Operand::ReadWriteXmm(*self.xmm1.as_ref()),
+            Operand::ReadXmmMem(self.xmm_m128),
+            Operand::Imm(Immediate::Predicate(self.imm8.value())),
+        )
     }
 
     fn visit<V: RegisterVisitor<R>>(&mut self, visitor: &mut V) {
@@ -102,12 +126,20 @@ pub struct cmpss_a<R: Registers> {
 }
 
 impl<R: Registers> cmpss_a<R> {
-    pub fn new(xmm1: Xmm<R::ReadWriteXmm>, xmm_m32: XmmMem<R::ReadXmm, R::ReadGpr>, imm8: Imm8) -> Self
+    pub fn new(
+        xmm1: Xmm<R::ReadWriteXmm>,
+        xmm_m32: XmmMem<R::ReadXmm, R::ReadGpr>,
+        imm8: Imm8,
+    ) -> Self
         ensures xmm1 { result.xmm1 ≡ xmm1 }
         ensures xmm_m32 { result.xmm_m32 ≡ xmm_m32 }
         ensures imm8 { result.imm8 ≡ imm8 }
     {
-        cmpss_a { xmm1, xmm_m32, imm8 }
+        cmpss_a {
+            xmm1,
+            xmm_m32,
+            imm8,
+        }
     }
 }
 
@@ -124,7 +156,11 @@ impl<R: Registers> RowAndOperands for cmpss_a<R> {
 
     #[tactic(auto, unfolding(cax64_machine_code::specs::Rows::line_of))]
     fn operands(&self) -> Operands<R> {
-        Operands::Three(Operand::ReadWriteXmm(*self.xmm1.as_ref()), Operand::ReadXmmMem(self.xmm_m32), Operand::Imm(Immediate::Predicate(self.imm8.value())))
+        Operands::Three(
+            Operand::ReadWriteXmm(*self.xmm1.as_ref()),
+            Operand::ReadXmmMem(self.xmm_m32),
+            Operand::Imm(Immediate::Predicate(self.imm8.value())),
+        )
     }
 
     fn visit<V: RegisterVisitor<R>>(&mut self, visitor: &mut V) {
@@ -143,12 +179,20 @@ pub struct cmpsd_a<R: Registers> {
 }
 
 impl<R: Registers> cmpsd_a<R> {
-    pub fn new(xmm1: Xmm<R::ReadWriteXmm>, xmm_m64: XmmMem<R::ReadXmm, R::ReadGpr>, imm8: Imm8) -> Self
+    pub fn new(
+        xmm1: Xmm<R::ReadWriteXmm>,
+        xmm_m64: XmmMem<R::ReadXmm, R::ReadGpr>,
+        imm8: Imm8,
+    ) -> Self
         ensures xmm1 { result.xmm1 ≡ xmm1 }
         ensures xmm_m64 { result.xmm_m64 ≡ xmm_m64 }
         ensures imm8 { result.imm8 ≡ imm8 }
     {
-        cmpsd_a { xmm1, xmm_m64, imm8 }
+        cmpsd_a {
+            xmm1,
+            xmm_m64,
+            imm8,
+        }
     }
 }
 
@@ -165,7 +209,11 @@ impl<R: Registers> RowAndOperands for cmpsd_a<R> {
 
     #[tactic(auto, unfolding(cax64_machine_code::specs::Rows::line_of))]
     fn operands(&self) -> Operands<R> {
-        Operands::Three(Operand::ReadWriteXmm(*self.xmm1.as_ref()), Operand::ReadXmmMem(self.xmm_m64), Operand::Imm(Immediate::Predicate(self.imm8.value())))
+        Operands::Three(
+            Operand::ReadWriteXmm(*self.xmm1.as_ref()),
+            Operand::ReadXmmMem(self.xmm_m64),
+            Operand::Imm(Immediate::Predicate(self.imm8.value())),
+        )
     }
 
     fn visit<V: RegisterVisitor<R>>(&mut self, visitor: &mut V) {

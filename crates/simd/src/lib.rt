@@ -7,7 +7,7 @@ mod cmp;
 mod vcmp;
 mod vcvt;
 
-pub use and::{andps_a};
-pub use cmp::{cmpps_a, cmppd_a, cmpss_a, cmpsd_a};
-pub use vcmp::{vcmpps_b, vcmppd_b, vcmpss_b, vcmpsd_b};
+pub use and::andps_a;
+pub use cmp::{cmppd_a, cmpps_a, cmpsd_a, cmpss_a};
+pub use vcmp::{vcmppd_b, vcmpps_b, vcmpsd_b, vcmpss_b};
 pub use vcvt::{vcvtpd2ps_a, vcvttpd2dq_a};

@@ -21,13 +21,23 @@ pub struct vcmpps_b<R: Registers> {
 }
 
 impl<R: Registers> vcmpps_b<R> {
-    pub fn new(xmm1: Xmm<R::WriteXmm>, xmm2: Xmm<R::ReadXmm>, xmm_m128: XmmMem<R::ReadXmm, R::ReadGpr>, imm8: Imm8) -> Self
+    pub fn new(
+        xmm1: Xmm<R::WriteXmm>,
+        xmm2: Xmm<R::ReadXmm>,
+        xmm_m128: XmmMem<R::ReadXmm, R::ReadGpr>,
+        imm8: Imm8,
+    ) -> Self
         ensures xmm1 { result.xmm1 ≡ xmm1 }
         ensures xmm2 { result.xmm2 ≡ xmm2 }
         ensures xmm_m128 { result.xmm_m128 ≡ xmm_m128 }
         ensures imm8 { result.imm8 ≡ imm8 }
     {
-        vcmpps_b { xmm1, xmm2, xmm_m128, imm8 }
+        vcmpps_b {
+            xmm1,
+            xmm2,
+            xmm_m128,
+            imm8,
+        }
     }
 }
 
@@ -44,7 +54,12 @@ impl<R: Registers> RowAndOperands for vcmpps_b<R> {
 
     #[tactic(auto, unfolding(cax64_machine_code::specs::Rows::line_of))]
     fn operands(&self) -> Operands<R> {
-        Operands::Four(Operand::WriteXmm(*self.xmm1.as_ref()), Operand::ReadXmm(*self.xmm2.as_ref()), Operand::ReadXmmMem(self.xmm_m128), Operand::Imm(Immediate::VexPredicate(self.imm8.value())))
+        Operands::Four(
+            Operand::WriteXmm(*self.xmm1.as_ref()),
+            Operand::ReadXmm(*self.xmm2.as_ref()),
+            Operand::ReadXmmMem(self.xmm_m128),
+            Operand::Imm(Immediate::VexPredicate(self.imm8.value())),
+        )
     }
 
     fn visit<V: RegisterVisitor<R>>(&mut self, visitor: &mut V) {
@@ -65,13 +80,23 @@ pub struct vcmppd_b<R: Registers> {
 }
 
 impl<R: Registers> vcmppd_b<R> {
-    pub fn new(xmm1: Xmm<R::WriteXmm>, xmm2: Xmm<R::ReadXmm>, xmm_m128: XmmMem<R::ReadXmm, R::ReadGpr>, imm8: Imm8) -> Self
+    pub fn new(
+        xmm1: Xmm<R::WriteXmm>,
+        xmm2: Xmm<R::ReadXmm>,
+        xmm_m128: XmmMem<R::ReadXmm, R::ReadGpr>,
+        imm8: Imm8,
+    ) -> Self
         ensures xmm1 { result.xmm1 ≡ xmm1 }
         ensures xmm2 { result.xmm2 ≡ xmm2 }
         ensures xmm_m128 { result.xmm_m128 ≡ xmm_m128 }
         ensures imm8 { result.imm8 ≡ imm8 }
     {
-        vcmppd_b { xmm1, xmm2, xmm_m128, imm8 }
+        vcmppd_b {
+            xmm1,
+            xmm2,
+            xmm_m128,
+            imm8,
+        }
     }
 }
 
@@ -88,7 +113,12 @@ impl<R: Registers> RowAndOperands for vcmppd_b<R> {
 
     #[tactic(auto, unfolding(cax64_machine_code::specs::Rows::line_of))]
     fn operands(&self) -> Operands<R> {
-        Operands::Four(Operand::WriteXmm(*self.xmm1.as_ref()), Operand::ReadXmm(*self.xmm2.as_ref()), Operand::ReadXmmMem(self.xmm_m128), Operand::Imm(Immediate::VexPredicate(self.imm8.value())))
+        Operands::Four(
+            Operand::WriteXmm(*self.xmm1.as_ref()),
+            Operand::ReadXmm(*self.xmm2.as_ref()),
+            Operand::ReadXmmMem(self.xmm_m128),
+            Operand::Imm(Immediate::VexPredicate(self.imm8.value())),
+        )
     }
 
     fn visit<V: RegisterVisitor<R>>(&mut self, visitor: &mut V) {
@@ -109,13 +139,23 @@ pub struct vcmpss_b<R: Registers> {
 }
 
 impl<R: Registers> vcmpss_b<R> {
-    pub fn new(xmm1: Xmm<R::WriteXmm>, xmm2: Xmm<R::ReadXmm>, xmm_m32: XmmMem<R::ReadXmm, R::ReadGpr>, imm8: Imm8) -> Self
+    pub fn new(
+        xmm1: Xmm<R::WriteXmm>,
+        xmm2: Xmm<R::ReadXmm>,
+        xmm_m32: XmmMem<R::ReadXmm, R::ReadGpr>,
+        imm8: Imm8,
+    ) -> Self
         ensures xmm1 { result.xmm1 ≡ xmm1 }
         ensures xmm2 { result.xmm2 ≡ xmm2 }
         ensures xmm_m32 { result.xmm_m32 ≡ xmm_m32 }
         ensures imm8 { result.imm8 ≡ imm8 }
     {
-        vcmpss_b { xmm1, xmm2, xmm_m32, imm8 }
+        vcmpss_b {
+            xmm1,
+            xmm2,
+            xmm_m32,
+            imm8,
+        }
     }
 }
 
@@ -132,7 +172,12 @@ impl<R: Registers> RowAndOperands for vcmpss_b<R> {
 
     #[tactic(auto, unfolding(cax64_machine_code::specs::Rows::line_of))]
     fn operands(&self) -> Operands<R> {
-        Operands::Four(Operand::WriteXmm(*self.xmm1.as_ref()), Operand::ReadXmm(*self.xmm2.as_ref()), Operand::ReadXmmMem(self.xmm_m32), Operand::Imm(Immediate::VexPredicate(self.imm8.value())))
+        Operands::Four(
+            Operand::WriteXmm(*self.xmm1.as_ref()),
+            Operand::ReadXmm(*self.xmm2.as_ref()),
+            Operand::ReadXmmMem(self.xmm_m32),
+            Operand::Imm(Immediate::VexPredicate(self.imm8.value())),
+        )
     }
 
     fn visit<V: RegisterVisitor<R>>(&mut self, visitor: &mut V) {
@@ -153,13 +198,23 @@ pub struct vcmpsd_b<R: Registers> {
 }
 
 impl<R: Registers> vcmpsd_b<R> {
-    pub fn new(xmm1: Xmm<R::WriteXmm>, xmm2: Xmm<R::ReadXmm>, xmm_m64: XmmMem<R::ReadXmm, R::ReadGpr>, imm8: Imm8) -> Self
+    pub fn new(
+        xmm1: Xmm<R::WriteXmm>,
+        xmm2: Xmm<R::ReadXmm>,
+        xmm_m64: XmmMem<R::ReadXmm, R::ReadGpr>,
+        imm8: Imm8,
+    ) -> Self
         ensures xmm1 { result.xmm1 ≡ xmm1 }
         ensures xmm2 { result.xmm2 ≡ xmm2 }
         ensures xmm_m64 { result.xmm_m64 ≡ xmm_m64 }
         ensures imm8 { result.imm8 ≡ imm8 }
     {
-        vcmpsd_b { xmm1, xmm2, xmm_m64, imm8 }
+        vcmpsd_b {
+            xmm1,
+            xmm2,
+            xmm_m64,
+            imm8,
+        }
     }
 }
 
@@ -176,7 +231,12 @@ impl<R: Registers> RowAndOperands for vcmpsd_b<R> {
 
     #[tactic(auto, unfolding(cax64_machine_code::specs::Rows::line_of))]
     fn operands(&self) -> Operands<R> {
-        Operands::Four(Operand::WriteXmm(*self.xmm1.as_ref()), Operand::ReadXmm(*self.xmm2.as_ref()), Operand::ReadXmmMem(self.xmm_m64), Operand::Imm(Immediate::VexPredicate(self.imm8.value())))
+        Operands::Four(
+            Operand::WriteXmm(*self.xmm1.as_ref()),
+            Operand::ReadXmm(*self.xmm2.as_ref()),
+            Operand::ReadXmmMem(self.xmm_m64),
+            Operand::Imm(Immediate::VexPredicate(self.imm8.value())),
+        )
     }
 
     fn visit<V: RegisterVisitor<R>>(&mut self, visitor: &mut V) {

@@ -39,7 +39,10 @@ impl<R: Registers> RowAndOperands for vcvtpd2ps_a<R> {
 
     #[tactic(auto, unfolding(cax64_machine_code::specs::Rows::line_of))]
     fn operands(&self) -> Operands<R> {
-        Operands::Two(Operand::WriteXmm(*self.xmm1.as_ref()), Operand::ReadXmmMem(self.xmm_m128))
+        Operands::Two(
+            Operand::WriteXmm(*self.xmm1.as_ref()),
+            Operand::ReadXmmMem(self.xmm_m128),
+        )
     }
 
     fn visit<V: RegisterVisitor<R>>(&mut self, visitor: &mut V) {
@@ -78,7 +81,10 @@ impl<R: Registers> RowAndOperands for vcvttpd2dq_a<R> {
 
     #[tactic(auto, unfolding(cax64_machine_code::specs::Rows::line_of))]
     fn operands(&self) -> Operands<R> {
-        Operands::Two(Operand::WriteXmm(*self.xmm1.as_ref()), Operand::ReadXmmMem(self.xmm_m128))
+        Operands::Two(
+            Operand::WriteXmm(*self.xmm1.as_ref()),
+            Operand::ReadXmmMem(self.xmm_m128),
+        )
     }
 
     fn visit<V: RegisterVisitor<R>>(&mut self, visitor: &mut V) {
