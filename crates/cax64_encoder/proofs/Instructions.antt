@@ -1,5 +1,6 @@
-use Rattle.std.proofs.Common.{◌≡◌, ◌≢◌, ◌↔◌, ℕ, ◌+◌, ◌-◌, ◌<◌, ◌≤◌, arith, length-append, refl, ◌∙◌, ap, List, [], ◌∷◌, ◌++◌, Bool, true, length, Result, Ok, Err, Option, Some, None}
+use Rattle.std.proofs.Common.{◌≡◌, ◌≢◌, ◌↔◌, ℕ, ◌+◌, ◌-◌, ◌<◌, ◌≤◌, arith, length-append, refl, ◌∙◌, ap, sym, List, [], ◌∷◌, ◌++◌, Bool, true, length, Result, Ok, Err, Option, Some, None}
 use Rattle.std.specs.Prelude.{if◌then◌else◌, OnOk, OnErr, IfErr, IsOk}
+use Rattle.cax64_machine_code.specs.Sequence.{IsFront}
 use Rattle.cax64_machine_code.specs.declared.reading.Reading.{Reading}
 use Rattle.cax64_sink.specs.FixedSink.{fixed_sink_state}
 use Rattle.cax64_sink.specs.Room.{HasRoom, FallsBy}
@@ -61,6 +62,11 @@ run_leaves {acts = acts} {s} {t} (Err e) h run =
       notices = left.notices;
       notices_front = told_part.1 ∙ h.written.notices (length s.bytes);
     }
+
+-- the old bytes stay in front
+pub stays_in_front : {M : Type 0} {m : Meant M} {s t : State} (r : Result (Unit {0}) SinkError) → OnOk r (AddsInstruction m s t) → OnErr r (LeavesInstruction m s t) → IsFront s.bytes t.bytes
+stays_in_front (Ok tt) adds leaves = record { rest = adds.added; whole = sym adds.bytes }
+stays_in_front (Err e) adds leaves = record { rest = leaves.left; whole = sym leaves.bytes }
 
 pub run_error : {acts : List Action} {s t : State} (r : Result (Unit {0}) SinkError) → Ran acts s t r → IfErr r (λ e. s.answers e ≡ true)
 run_error (Ok tt) run = tt

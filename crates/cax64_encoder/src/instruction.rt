@@ -5,6 +5,7 @@ ghost use Rattle.cax64_encoder.specs.Fault.{is_encodable, fault_of_meant};
 ghost use Rattle.cax64_encoder.specs.Instruction.{Meaning, can_encode_in, fault_in, len_in, notices_in, Adds, Leaves};
 ghost use Rattle.cax64_encoder.specs.Meant.{Meant, meant_of};
 ghost use Rattle.cax64_encoder.specs.Notices.{notice_count};
+ghost use Rattle.cax64_machine_code.specs.Sequence.{IsFront};
 ghost use Rattle.cax64_machine_code.specs.declared.row.Row.{Row};
 ghost use Rattle.cax64_operand.specs.Visit.{OperandsRun};
 ghost use Rattle.cax64_operand.specs.declared.operand.Operands.{Operands};
@@ -69,6 +70,7 @@ pub trait Instruction {
         requires { IsTrue (can_encode_in (S.state sink.old) (meant self.now)) }
         ensures adds { OnOk result (Adds (meant self.now) (S.state sink.old) (S.state sink.new)) }
         ensures leaves { OnErr result (Leaves (meant self.now) (S.state sink.old) (S.state sink.new)) }
+        ensures front { IsFront (S.state sink.old).bytes (S.state sink.new).bytes }
         ensures error { IfErr result (λ e. (S.state sink.old).answers e ≡ true) }
         ensures keeps { Keeps (S.state sink.old) (S.state sink.new) }
         ensures enough { HasRoom (S.state sink.old).byte_room 13 → HasRoom (S.state sink.old).notice_room 1 → IsOk result }

@@ -9,7 +9,7 @@ use Rattle.cax64_encoder.specs.Meant.{Meant, len}
 use Rattle.cax64_encoder.specs.Notices.{notices_of, notice_count}
 use Rattle.cax64_encoder.proofs.Bytes.{no_bytes, both_bytes}
 use Rattle.cax64_machine_code.specs.Reading.{Parts, read}
-use Rattle.cax64_machine_code.specs.Sequence.{Same, EachSame, read_all, total_length, ReadsAs, ReadsAllAs}
+use Rattle.cax64_machine_code.specs.Sequence.{IsFront, Same, EachSame, read_all, total_length, ReadsAs, ReadsAllAs}
 use Rattle.cax64_machine_code.specs.declared.reading.Reading.{Reading}
 use Rattle.cax64_sequence.specs.List.{each_notices, EachShortest, EachExact, total_len, total_notices, AddsAll, LeavesAll}
 use Rattle.cax64_sequence.specs.declared.sequence.Refused.{Refused}
@@ -203,6 +203,20 @@ adds_more ms m s u t h keeps k =
       exact = exact_more ms m h.added k.added rs k.reads.reading same_count h.reads.lengths k.reads.length h.exact k.exact;
       length = length-append h.added k.added ∙ omega (arith, h.length, k.length, len_more ms m);
     }
+
+-- the old bytes stay in front
+pub adds_in_front : {M : Type 0} {ms : List (Meant M)} {s t : State} → AddsAll ms s t → IsFront s.bytes t.bytes
+adds_in_front h = record { rest = h.added; whole = sym h.bytes }
+
+pub leaves_in_front : {M : Type 0} {ms : List (Meant M)} {whole : ℕ} {s t : State} → LeavesAll ms whole s t → IsFront s.bytes t.bytes
+leaves_in_front {s = s} h = record {
+  rest = h.adds.added ++ h.leaves.left;
+  whole = sym (append_assoc s.bytes h.adds.added h.leaves.left) ∙ ap (λ (x : List ℕ). x ++ h.leaves.left) (sym h.adds.bytes) ∙ sym h.leaves.bytes;
+}
+
+pub stays_in_front : {M : Type 0} {ms : List (Meant M)} {s t : State} (r : Result (Unit {0}) Refused) → OnOk r (AddsAll ms s t) → IfErr r (λ e. LeavesAll ms e.whole s t) → IsFront s.bytes t.bytes
+stays_in_front (Ok tt) adds leaves = adds_in_front adds
+stays_in_front (Err e) adds leaves = leaves_in_front leaves
 
 -- the bytes and notices of a state are all that counts before
 pub adds_from : {M : Type 0} {ms : List (Meant M)} (s u t : State) → u.bytes ≡ s.bytes → u.notices ≡ s.notices → u.records ≡ s.records → AddsAll ms u t → AddsAll ms s t

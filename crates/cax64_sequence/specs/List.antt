@@ -1,9 +1,10 @@
-use Rattle.std.specs.Prelude.{◌≡◌, ◌<◌, ℕ, ◌+◌, List, [], ◌∷◌, ◌++◌, length, map, take, drop, slice_get, Some, if◌then◌else◌, IfSome}
+use Rattle.std.specs.Prelude.{◌≡◌, ◌<◌, ◌≤◌, ℕ, ◌+◌, List, [], ◌∷◌, ◌++◌, length, map, take, drop, slice_get, Some, if◌then◌else◌, IfSome}
 use Rattle.cax64_encoder.specs.Instruction.{Meaning, ShortestFor, LeavesInstruction}
 use Rattle.cax64_encoder.specs.Meant.{Meant, len}
 use Rattle.cax64_encoder.specs.Notices.{notices_of, notice_count}
 use Rattle.cax64_machine_code.specs.Fields.{IsBytes}
-use Rattle.cax64_machine_code.specs.Sequence.{ReadsAllAs}
+use Rattle.cax64_machine_code.specs.Reading.{Parts, read}
+use Rattle.cax64_machine_code.specs.Sequence.{Same, ReadsAllAs}
 use Rattle.cax64_machine_code.specs.declared.reading.Reading.{Reading}
 use Rattle.cax64_sink.specs.Keeps.{Keeps}
 use Rattle.cax64_sink.specs.Room.{FallsBy}
@@ -87,3 +88,11 @@ list_len state meant insts = total_len (meants meant state insts)
 
 abbrev pub list_notices : {A M : Type 0} → State → (A → Meaning M) → List A → ℕ
 list_notices state meant insts = total_notices (meants meant state insts)
+
+-- Of bytes that read as a list the first reading, and what it leaves.
+pub record FirstReads (meant : Parts) (later : List Parts) (b : List ℕ) : Type 0 where
+  pub reading : Reading
+  pub reads : (rest : List ℕ) → read (b ++ rest) ≡ Some reading
+  pub same : Same reading meant
+  pub within : reading.length ≤ length b
+  pub left : ReadsAllAs later (drop reading.length b)

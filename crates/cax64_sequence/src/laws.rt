@@ -1,9 +1,11 @@
 //! Laws of the items here. The functions do no more than the call that they speak of.
 
-ghost use Rattle.std.specs.Prelude.{◌≡◌, ◌≤◌, ◌-◌, ◌↔◌, ℕ, IsTrue, All, IsOk, OnOk, IfErr, take, length};
+ghost use Rattle.std.specs.Prelude.{◌≡◌, ◌≤◌, ◌-◌, ◌↔◌, ℕ, IsTrue, All, IsOk, OnOk, IfErr, take, length, List, ◌∷◌};
 ghost use Rattle.cax64_encoder.specs.Instruction.{can_encode_in};
-ghost use Rattle.cax64_sequence.specs.List.{AddsList, LeavesList, meants, total_len, list_len};
+ghost use Rattle.cax64_sequence.specs.List.{AddsList, LeavesList, FirstReads, meants, total_len, list_len};
 ghost use Rattle.cax64_sink.specs.FixedSink.{fixed_sink_state};
+ghost use Rattle.cax64_machine_code.specs.Reading.{Parts};
+ghost use Rattle.cax64_machine_code.specs.Sequence.{ReadsAllAs};
 
 use crate::sequence::{Refused, encode_all};
 use cax64_encoder::instruction::Instruction;
@@ -26,3 +28,9 @@ pub fn encode_all_to_fixed_sink<R: Registers, const N: usize>(
 {
     encode_all(insts, sink)
 }
+
+/// Bytes that read as a list of instructions read as the first of them, whatever follows, and what it leaves reads as the
+/// others: so a list is read back one by one.
+pub fn first_of_a_list()
+    ensures { (meant : Parts) (later : List Parts) (b : List ℕ) → ReadsAllAs (meant ∷ later) b → FirstReads meant later b }
+{}

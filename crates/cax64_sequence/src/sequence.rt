@@ -2,6 +2,7 @@
 
 ghost use Rattle.std.specs.Prelude.{◌≡◌, ◌*◌, ◌≤◌, ℕ, true, IsTrue, All, OnOk, IfErr, IsOk, take, length};
 ghost use Rattle.cax64_encoder.specs.Instruction.{can_encode_in};
+ghost use Rattle.cax64_machine_code.specs.Sequence.{IsFront};
 ghost use Rattle.cax64_sequence.specs.List.{AddsList, LeavesList, meants, total_len, total_notices, list_len, list_notices};
 ghost use Rattle.cax64_sink.specs.Keeps.{Keeps};
 ghost use Rattle.cax64_sink.specs.Room.{HasRoom, FallsBy};
@@ -28,6 +29,7 @@ pub(crate) fn encode_each<I: Instruction, S: CodeSink>(
     requires { All (λ i. IsTrue (can_encode_in (S.state sink.old) (I.meant i))) insts.now }
     ensures adds { OnOk result (AddsList I.meant insts.now (S.state sink.old) (S.state sink.new)) }
     ensures leaves { IfErr result (λ e. LeavesList I.meant insts.now e.whole (S.state sink.old) (S.state sink.new)) }
+    ensures front { IsFront (S.state sink.old).bytes (S.state sink.new).bytes }
     ensures error { IfErr result (λ e. (S.state sink.old).answers e.error ≡ true) }
     ensures keeps { Keeps (S.state sink.old) (S.state sink.new) }
     ensures enough { HasRoom (S.state sink.old).byte_room (13 * length insts.now) → HasRoom (S.state sink.old).notice_room (length insts.now) → IsOk result }
@@ -50,6 +52,7 @@ pub fn encode_all<R: Registers, S: CodeSink>(insts: &[Inst<R>], sink: &mut S) ->
     requires { All (λ i. IsTrue (can_encode_in (S.state sink.old) (⟦<Inst<R> as Instruction>⟧.meant i))) insts.now }
     ensures adds { OnOk result (AddsList ⟦<Inst<R> as Instruction>⟧.meant insts.now (S.state sink.old) (S.state sink.new)) }
     ensures leaves { IfErr result (λ e. LeavesList ⟦<Inst<R> as Instruction>⟧.meant insts.now e.whole (S.state sink.old) (S.state sink.new)) }
+    ensures front { IsFront (S.state sink.old).bytes (S.state sink.new).bytes }
     ensures error { IfErr result (λ e. (S.state sink.old).answers e.error ≡ true) }
     ensures keeps { Keeps (S.state sink.old) (S.state sink.new) }
     ensures enough { HasRoom (S.state sink.old).byte_room (13 * length insts.now) → HasRoom (S.state sink.old).notice_room (length insts.now) → IsOk result }

@@ -2,6 +2,7 @@
 
 ghost use Rattle.std.specs.Prelude.{◌≡◌, ◌≤◌, ◌/◌, IsTrue, All, OnOk, OnErr, IfErr, IsOk, length};
 ghost use Rattle.cax64_encoder.specs.Instruction.{can_encode_in};
+ghost use Rattle.cax64_machine_code.specs.Sequence.{IsFront};
 ghost use Rattle.cax64_sequence.specs.List.{AddsList, StaysAs, list_len, list_notices};
 ghost use Rattle.cax64_sink.specs.Keeps.{Keeps};
 ghost use Rattle.cax64_sink.specs.Recorder.{recorder_state};
@@ -39,6 +40,7 @@ fn encode_each_whole<I: Instruction, A: Allocator>(
     requires few { length insts.now ≤ usize.MAX / 13 }
     ensures adds { OnOk result (AddsList I.meant insts.now (recorder_state recorder.old) (recorder_state recorder.new)) }
     ensures unchanged { OnErr result (StaysAs (recorder_state recorder.old) (recorder_state recorder.new)) }
+    ensures front { IsFront (recorder_state recorder.old).bytes (recorder_state recorder.new).bytes }
     ensures error { IfErr result (λ e. e ≡ SinkError.NoMemory) }
     ensures keeps { Keeps (recorder_state recorder.old) (recorder_state recorder.new) }
     ensures room { HasRoom (recorder_state recorder.old).byte_room (list_len (recorder_state recorder.old) I.meant insts.now) → HasRoom (recorder_state recorder.old).notice_room (list_notices (recorder_state recorder.old) I.meant insts.now) → IsOk result }
@@ -59,6 +61,7 @@ pub fn encode_all_whole<R: Registers, A: Allocator>(
     requires few { length insts.now ≤ usize.MAX / 13 }
     ensures adds { OnOk result (AddsList ⟦<Inst<R> as Instruction>⟧.meant insts.now (recorder_state recorder.old) (recorder_state recorder.new)) }
     ensures unchanged { OnErr result (StaysAs (recorder_state recorder.old) (recorder_state recorder.new)) }
+    ensures front { IsFront (recorder_state recorder.old).bytes (recorder_state recorder.new).bytes }
     ensures error { IfErr result (λ e. e ≡ SinkError.NoMemory) }
     ensures keeps { Keeps (recorder_state recorder.old) (recorder_state recorder.new) }
     ensures room { HasRoom (recorder_state recorder.old).byte_room (list_len (recorder_state recorder.old) ⟦<Inst<R> as Instruction>⟧.meant insts.now) → HasRoom (recorder_state recorder.old).notice_room (list_notices (recorder_state recorder.old) ⟦<Inst<R> as Instruction>⟧.meant insts.now) → IsOk result }

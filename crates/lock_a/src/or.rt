@@ -39,7 +39,10 @@ impl<R: Registers> RowAndOperands for lock_orb_mi<R> {
 
     #[tactic(auto, unfolding(cax64_machine_code::specs::Rows::line_of))]
     fn operands(&self) -> Operands<R> {
-        Operands::Two(Operand::ReadAmode(self.m8), Operand::Imm(Immediate::Imm8(self.imm8.value())))
+        Operands::Two(
+            Operand::ReadAmode(self.m8),
+            Operand::Imm(Immediate::Imm8(self.imm8.value())),
+        )
     }
 
     fn visit<V: RegisterVisitor<R>>(&mut self, visitor: &mut V) {
@@ -76,7 +79,10 @@ impl<R: Registers> RowAndOperands for lock_orw_mi<R> {
 
     #[tactic(auto, unfolding(cax64_machine_code::specs::Rows::line_of))]
     fn operands(&self) -> Operands<R> {
-        Operands::Two(Operand::ReadAmode(self.m16), Operand::Imm(Immediate::Imm16(self.imm16.value())))
+        Operands::Two(
+            Operand::ReadAmode(self.m16),
+            Operand::Imm(Immediate::Imm16(self.imm16.value())),
+        )
     }
 
     fn visit<V: RegisterVisitor<R>>(&mut self, visitor: &mut V) {
@@ -113,7 +119,10 @@ impl<R: Registers> RowAndOperands for lock_orl_mi<R> {
 
     #[tactic(auto, unfolding(cax64_machine_code::specs::Rows::line_of))]
     fn operands(&self) -> Operands<R> {
-        Operands::Two(Operand::ReadAmode(self.m32), Operand::Imm(Immediate::Imm32(self.imm32.value())))
+        Operands::Two(
+            Operand::ReadAmode(self.m32),
+            Operand::Imm(Immediate::Imm32(self.imm32.value())),
+        )
     }
 
     fn visit<V: RegisterVisitor<R>>(&mut self, visitor: &mut V) {
@@ -150,7 +159,10 @@ impl<R: Registers> RowAndOperands for lock_orq_mi_sxl<R> {
 
     #[tactic(auto, unfolding(cax64_machine_code::specs::Rows::line_of))]
     fn operands(&self) -> Operands<R> {
-        Operands::Two(Operand::ReadAmode(self.m64), Operand::Imm(Immediate::Simm32(self.imm32.value(), Extension::SignExtendQuad)))
+        Operands::Two(
+            Operand::ReadAmode(self.m64),
+            Operand::Imm(Immediate::Simm32(self.imm32.value(), Extension::SignExtendQuad)),
+        )
     }
 
     fn visit<V: RegisterVisitor<R>>(&mut self, visitor: &mut V) {
@@ -187,7 +199,10 @@ impl<R: Registers> RowAndOperands for lock_orl_mi_sxb<R> {
 
     #[tactic(auto, unfolding(cax64_machine_code::specs::Rows::line_of))]
     fn operands(&self) -> Operands<R> {
-        Operands::Two(Operand::ReadAmode(self.m32), Operand::Imm(Immediate::Simm8(self.imm8.value(), Extension::SignExtendLong)))
+        Operands::Two(
+            Operand::ReadAmode(self.m32),
+            Operand::Imm(Immediate::Simm8(self.imm8.value(), Extension::SignExtendLong)),
+        )
     }
 
     fn visit<V: RegisterVisitor<R>>(&mut self, visitor: &mut V) {
@@ -224,7 +239,10 @@ impl<R: Registers> RowAndOperands for lock_orq_mi_sxb<R> {
 
     #[tactic(auto, unfolding(cax64_machine_code::specs::Rows::line_of))]
     fn operands(&self) -> Operands<R> {
-        Operands::Two(Operand::ReadAmode(self.m64), Operand::Imm(Immediate::Simm8(self.imm8.value(), Extension::SignExtendQuad)))
+        Operands::Two(
+            Operand::ReadAmode(self.m64),
+            Operand::Imm(Immediate::Simm8(self.imm8.value(), Extension::SignExtendQuad)),
+        )
     }
 
     fn visit<V: RegisterVisitor<R>>(&mut self, visitor: &mut V) {
@@ -261,7 +279,10 @@ impl<R: Registers> RowAndOperands for lock_orb_mr<R> {
 
     #[tactic(auto, unfolding(cax64_machine_code::specs::Rows::line_of))]
     fn operands(&self) -> Operands<R> {
-        Operands::Two(Operand::ReadAmode(self.m8), Operand::ReadGpr(*self.r8.as_ref(), Size::Byte))
+        Operands::Two(
+            Operand::ReadAmode(self.m8),
+            Operand::ReadGpr(*self.r8.as_ref(), Size::Byte),
+        )
     }
 
     fn visit<V: RegisterVisitor<R>>(&mut self, visitor: &mut V) {
@@ -299,7 +320,10 @@ impl<R: Registers> RowAndOperands for lock_orw_mr<R> {
 
     #[tactic(auto, unfolding(cax64_machine_code::specs::Rows::line_of))]
     fn operands(&self) -> Operands<R> {
-        Operands::Two(Operand::ReadAmode(self.m16), Operand::ReadGpr(*self.r16.as_ref(), Size::Word))
+        Operands::Two(
+            Operand::ReadAmode(self.m16),
+            Operand::ReadGpr(*self.r16.as_ref(), Size::Word),
+        )
     }
 
     fn visit<V: RegisterVisitor<R>>(&mut self, visitor: &mut V) {
@@ -337,7 +361,10 @@ impl<R: Registers> RowAndOperands for lock_orl_mr<R> {
 
     #[tactic(auto, unfolding(cax64_machine_code::specs::Rows::line_of))]
     fn operands(&self) -> Operands<R> {
-        Operands::Two(Operand::ReadAmode(self.m32), Operand::ReadGpr(*self.r32.as_ref(), Size::Doubleword))
+        Operands::Two(
+            Operand::ReadAmode(self.m32),
+            Operand::ReadGpr(*self.r32.as_ref(), Size::Doubleword),
+        )
     }
 
     fn visit<V: RegisterVisitor<R>>(&mut self, visitor: &mut V) {
@@ -375,7 +402,10 @@ impl<R: Registers> RowAndOperands for lock_orq_mr<R> {
 
     #[tactic(auto, unfolding(cax64_machine_code::specs::Rows::line_of))]
     fn operands(&self) -> Operands<R> {
-        Operands::Two(Operand::ReadAmode(self.m64), Operand::ReadGpr(*self.r64.as_ref(), Size::Quadword))
+        Operands::Two(
+            Operand::ReadAmode(self.m64),
+            Operand::ReadGpr(*self.r64.as_ref(), Size::Quadword),
+        )
     }
 
     fn visit<V: RegisterVisitor<R>>(&mut self, visitor: &mut V) {

@@ -1,17 +1,26 @@
-use Rattle.std.proofs.Common.{◌≡◌, ◌∙◌, ap, ◌+◌, ◌*◌, ◌≤◌, List, [], ◌∷◌, ◌++◌, length, map, take, arith}
+use Rattle.std.proofs.Common.{◌≡◌, ◌∙◌, ap, sym, append_assoc, ℕ, ◌+◌, ◌*◌, ◌≤◌, List, [], ◌∷◌, ◌++◌, length, map, take, arith}
 use Rattle.cax64_encoder.specs.Instruction.{AddsInstruction, LeavesInstruction}
 use Rattle.cax64_encoder.specs.Meant.{Meant, len}
 use Rattle.cax64_encoder.specs.Notices.{notice_count}
 use Rattle.cax64_sequence.specs.List.{total_len, total_notices}
 use Rattle.cax64_sink.specs.Room.{HasRoom, FallsBy}
 use Rattle.cax64_encoder.proofs.Instructions.{one_notice}
-use Rattle.cax64_sequence.proofs.Lists.{adds_none, adds_more, map_more, len_more, notice_count_more, keeps_on, keeps_self, falls_on, falls_zero, room_left, err_is_no_ok, refused_late, stopped_bytes, stopped_notices, leaves_at}
+use Rattle.cax64_sequence.proofs.Lists.{adds_none, adds_more, map_more, len_more, notice_count_more, keeps_on, keeps_self, falls_on, falls_zero, room_left, err_is_no_ok, adds_in_front, refused_late, stopped_bytes, stopped_notices, leaves_at}
 use Rattle.cax64_sequence.proofs.sequence.encode_each.Goals as goal
 
 pub loop-whole-init : goal.loop-whole-init
 loop-whole-init g c =
     let s = g.S.CodeSink.state c.args.sink.now in
     record { adds = adds_none s; keeps = keeps_self s; byte_room = falls_zero s.byte_room; notice_room = falls_zero s.notice_room; most = omega arith; most_notices = omega arith }
+
+pub returns-in-Err-clause-front : goal.returns-in-Err-clause-front
+returns-in-Err-clause-front g c =
+    let held = adds_in_front c.loop-whole.invariant.adds in
+    let last = c.in-Err.ensures.front in
+    record { rest = held.rest ++ last.rest; whole = sym (append_assoc _ held.rest last.rest) ∙ ap (λ (x : List ℕ). x ++ last.rest) held.whole ∙ last.whole }
+
+pub returns-clause-front : goal.returns-clause-front
+returns-clause-front g c = ?
 
 pub returns-in-Err-clause-leaves : goal.returns-in-Err-clause-leaves
 returns-in-Err-clause-leaves g c =

@@ -1,6 +1,6 @@
 use Rattle.std.proofs.Common.{◌≡◌, ◌∙◌, subst, refl, map, IsOk}
 use Rattle.cax64_sequence.specs.List.{StaysAs, total_len, total_notices}
-use Rattle.cax64_sequence.proofs.Lists.{whole_list, on_ok, no_err, never_err, keeps_on}
+use Rattle.cax64_sequence.proofs.Lists.{whole_list, on_ok, no_err, never_err, keeps_on, adds_in_front}
 use Rattle.cax64_sink.specs.Keeps.{Keeps}
 use Rattle.cax64_sink.specs.Recorder.{recorder_state}
 use Rattle.cax64_sink.specs.Room.{HasRoom}
@@ -21,6 +21,7 @@ returns g c =
     record {
       adds = on_ok c.map_err.result all.1;
       unchanged = no_err (StaysAs s t) c.map_err.result ok;
+      front = adds_in_front all.1;
       error = never_err (λ e. e ≡ NoMemory) c.map_err.result ok;
       keeps = keeps_on same c.encode_each.ensures.keeps;
       room = λ b n. ok;

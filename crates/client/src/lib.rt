@@ -1,0 +1,46 @@
+//! What can be proved over the assembler by those who stand on it: each proof here cites public clauses alone.
+#![tactic(auto)]
+
+ghost use Rattle.std.specs.Prelude.{◌≡◌, ◌<◌, ◌≤◌, IsTrue, All, IfOk, [], length, map};
+ghost use Rattle.cranelift_assembler_x64.specs.FixedSink.{fixed_sink_state};
+ghost use Rattle.cranelift_assembler_x64.specs.Instruction.{can_encode_in};
+ghost use Rattle.cranelift_assembler_x64.specs.Recorder.{recorder_state};
+ghost use Rattle.cranelift_assembler_x64.specs.Sequence.{IsFront};
+ghost use Rattle.cranelift_assembler_x64.specs.Vec.{vec_state};
+
+use cranelift_assembler_x64::inst::{lock_addl_mi_sxb, nop_1b};
+use cranelift_assembler_x64::laws::first_of_a_list;
+use cranelift_assembler_x64::reader::read_inst;
+use cranelift_assembler_x64::{
+    Amode, AmodeOffsetPlusKnownOffset, FixedSink, Inst, Instruction, Numbers, Recorder, Refused,
+    Registers, Row, Simm8, encode_all,
+};
+use std::alloc::{AllocError, Allocator};
+
+/// Two instructions in a buffer of 32 bytes: it has room for them, so nothing can be refused.
+pub fn count_and_wait(counter: u8) -> FixedSink<32>
+    requires { counter < 16 }
+    ensures { length (fixed_sink_state result).bytes ≤ 26 }
+{
+    let place = Amode::ImmReg {
+        base: counter,
+        simm32: AmodeOffsetPlusKnownOffset::ZERO,
+        trap: None,
+    };
+    let count = lock_addl_mi_sxb::<Numbers>::new(place, Simm8::new(1));
+    let mut sink = FixedSink::<32>::new();
+    count.encode(&mut sink).unwrap();
+    nop_1b::new().encode(&mut sink).unwrap();
+    sink
+}
+
+/// Puts instructions behind what a recorder holds, which stays in front whatever happens.
+pub fn append<R: Registers, A: Allocator>(
+    insts: &[Inst<R>],
+    recorder: &mut Recorder<A>,
+) -> Result<(), Refused>
+    requires { All (λ i. IsTrue (can_encode_in (recorder_state recorder.old) (⟦<Inst<R> as Instruction>⟧.meant i))) insts.now }
+    ensures { IsFront (recorder_state recorder.old).bytes (recorder_state recorder.new).bytes }
+{
+    encode_all(insts, recorder)
+}
