@@ -1,18 +1,14 @@
-use Rattle.std.proofs.Common.{◌≡◌, ◌<◌, refl}
+use Rattle.std.proofs.Common.{◌≡◌, ◌<◌, refl, slice_index}
 use Rattle.std.proofs.lemmas.Bool.{ltb-true}
 use Rattle.std.specs.Prelude.{true, nat_lt}
 use Rattle.cax64_machine_code.specs.declared.row.Row.{Row}
 use Rattle.cax64_machine_code.specs.declared.row.Row.TheVariants.{lock_addb_mi}
 use Rattle.cax64_machine_code.specs.Rows.{line_of}
-use Rattle.cax64_table.specs.Packed.{unpacked, number_of, entry_of}
+use Rattle.cax64_table.specs.Packed.{unpacked, number_of}
+use Rattle.cax64_table.specs.declared.packed.TheConstants.{TABLE}
 
--- each entry has the name and the line of the row in its place
-pub name_is : (row : Row) → (entry_of row).0 ≡ row
-unfolding number_of
-name_is lock_addb_mi = refl
-name_is _ = refl
-
-pub entry_is : (row : Row) → unpacked (entry_of row).1 ≡ line_of row
+-- each entry is the line of the row in its place
+pub entry_is : (row : Row) → unpacked (slice_index TABLE (number_of row)) ≡ line_of row
 unfolding line_of number_of
 entry_is lock_addb_mi = refl
 entry_is _ = refl

@@ -18,4 +18,4 @@ key_of opcode digit = (if opcode.escape then 4096 else 0) + opcode.byte * 16 + u
 
 -- the key of a row's entry
 abbrev pub row_key : Row → ℕ
-row_key row = (entry_of row).1 / 2 ^ 17
+row_key row = entry_of row / 2 ^ 17

@@ -1,4 +1,4 @@
-use Rattle.std.specs.Prelude.{ℕ, ◌/◌, ◌%◌, ◌^◌, ◌==◌, Bool, if◌then◌else◌, Option, Some, None, slice_index_or}
+use Rattle.std.specs.Prelude.{ℕ, ◌/◌, ◌%◌, ◌^◌, ◌==◌, Bool, if◌then◌else◌, Option, Some, None, slice_index}
 use Rattle.cax64_machine_code.specs.declared.line.Opcode.{Opcode}
 use Rattle.cax64_machine_code.specs.declared.line.Line.{Line}
 use Rattle.cax64_machine_code.specs.declared.line.PrefixField.{PrefixField}
@@ -12,7 +12,6 @@ use Rattle.cax64_machine_code.specs.declared.line.PlaceField.TheVariants.{Memory
 use Rattle.cax64_machine_code.specs.declared.line.TailField.TheVariants.{NoTail, Modrm}
 use Rattle.cax64_machine_code.specs.declared.line.ImmField.TheVariants.{NoImm, Imm, Simm}
 use Rattle.cax64_machine_code.specs.declared.row.Row.{Row}
-use Rattle.cax64_machine_code.specs.declared.row.Row.TheVariants.{lock_addb_mi}
 use Rattle.cax64_machine_code.specs.contracts.row.Row.{the_type}
 use denote.Enum.Declared.{tag_of}
 use Rattle.cax64_table.specs.declared.packed.TheConstants.{TABLE}
@@ -69,6 +68,6 @@ unpacked packed = record {
 unfoldable pub number_of : Row → ℕ
 number_of row = tag_of the_type row
 
--- the entry of a row: its name, and its packed number
-abbrev pub entry_of : Row → Row × ℕ
-entry_of row = slice_index_or TABLE (number_of row) (lock_addb_mi, 0)
+-- the entry of a row
+abbrev pub entry_of : Row → ℕ
+entry_of row = slice_index TABLE (number_of row)

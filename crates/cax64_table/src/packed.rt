@@ -15,166 +15,167 @@ use cax64_machine_code::row::Row;
 
 /// From the lowest bit: the number of bytes of the immediate in three bits, its sign; two bits of W, 2 for either
 /// value; VEX; then lock, 66, F2, F3 and REX, or pp and map of two bits each, L and vvvv; the place in two bits, what
-/// stands in the reg field in two, the digit in four, 8 for none; the opcode byte and the escape.
-const TABLE: [(Row, u64); 158] = [
-    (Row::lock_addb_mi, 0x1000_88a1),
-    (Row::lock_addw_mi, 0x1020_8982),
-    (Row::lock_addl_mi, 0x1020_8884),
-    (Row::lock_addq_mi_sxl, 0x1020_889c),
-    (Row::lock_addl_mi_sxb, 0x1060_8889),
-    (Row::lock_addq_mi_sxb, 0x1060_8899),
-    (Row::lock_addb_mr, 0x0011_08a0),
-    (Row::lock_addw_mr, 0x0031_8980),
-    (Row::lock_addl_mr, 0x0031_8880),
-    (Row::lock_addq_mr, 0x0031_8890),
-    (Row::lock_orb_mi, 0x1002_88a1),
-    (Row::lock_orw_mi, 0x1022_8982),
-    (Row::lock_orl_mi, 0x1022_8884),
-    (Row::lock_orq_mi_sxl, 0x1022_889c),
-    (Row::lock_orl_mi_sxb, 0x1062_8889),
-    (Row::lock_orq_mi_sxb, 0x1062_8899),
-    (Row::lock_orb_mr, 0x0111_08a0),
-    (Row::lock_orw_mr, 0x0131_8980),
-    (Row::lock_orl_mr, 0x0131_8880),
-    (Row::lock_orq_mr, 0x0131_8890),
-    (Row::lock_adcb_mi, 0x1004_88a1),
-    (Row::lock_adcw_mi, 0x1024_8982),
-    (Row::lock_adcl_mi, 0x1024_8884),
-    (Row::lock_adcq_mi_sxl, 0x1024_889c),
-    (Row::lock_adcl_mi_sxb, 0x1064_8889),
-    (Row::lock_adcq_mi_sxb, 0x1064_8899),
-    (Row::lock_adcb_mr, 0x0211_08a0),
-    (Row::lock_adcw_mr, 0x0231_8980),
-    (Row::lock_adcl_mr, 0x0231_8880),
-    (Row::lock_adcq_mr, 0x0231_8890),
-    (Row::lock_sbbb_mi, 0x1006_88a1),
-    (Row::lock_sbbw_mi, 0x1026_8982),
-    (Row::lock_sbbl_mi, 0x1026_8884),
-    (Row::lock_sbbq_mi_sxl, 0x1026_889c),
-    (Row::lock_sbbl_mi_sxb, 0x1066_8889),
-    (Row::lock_sbbq_mi_sxb, 0x1066_8899),
-    (Row::lock_sbbb_mr, 0x0311_08a0),
-    (Row::lock_sbbw_mr, 0x0331_8980),
-    (Row::lock_sbbl_mr, 0x0331_8880),
-    (Row::lock_sbbq_mr, 0x0331_8890),
-    (Row::lock_andb_mi, 0x1008_88a1),
-    (Row::lock_andw_mi, 0x1028_8982),
-    (Row::lock_andl_mi, 0x1028_8884),
-    (Row::lock_andq_mi_sxl, 0x1028_889c),
-    (Row::lock_andl_mi_sxb, 0x1068_8889),
-    (Row::lock_andq_mi_sxb, 0x1068_8899),
-    (Row::lock_andb_mr, 0x0411_08a0),
-    (Row::lock_andw_mr, 0x0431_8980),
-    (Row::lock_andl_mr, 0x0431_8880),
-    (Row::lock_andq_mr, 0x0431_8890),
-    (Row::lock_subb_mi, 0x100a_88a1),
-    (Row::lock_subw_mi, 0x102a_8982),
-    (Row::lock_subl_mi, 0x102a_8884),
-    (Row::lock_subq_mi_sxl, 0x102a_889c),
-    (Row::lock_subl_mi_sxb, 0x106a_8889),
-    (Row::lock_subq_mi_sxb, 0x106a_8899),
-    (Row::lock_subb_mr, 0x0511_08a0),
-    (Row::lock_subw_mr, 0x0531_8980),
-    (Row::lock_subl_mr, 0x0531_8880),
-    (Row::lock_subq_mr, 0x0531_8890),
-    (Row::lock_xorb_mi, 0x100c_88a1),
-    (Row::lock_xorw_mi, 0x102c_8982),
-    (Row::lock_xorl_mi, 0x102c_8884),
-    (Row::lock_xorq_mi_sxl, 0x102c_889c),
-    (Row::lock_xorl_mi_sxb, 0x106c_8889),
-    (Row::lock_xorq_mi_sxb, 0x106c_8899),
-    (Row::lock_xorb_mr, 0x0611_08a0),
-    (Row::lock_xorw_mr, 0x0631_8980),
-    (Row::lock_xorl_mr, 0x0631_8880),
-    (Row::lock_xorq_mr, 0x0631_8890),
-    (Row::lock_xaddb_mr, 0x3811_08a0),
-    (Row::lock_xaddw_mr, 0x3831_8980),
-    (Row::lock_xaddl_mr, 0x3831_8880),
-    (Row::lock_xaddq_mr, 0x3831_8890),
-    (Row::lock_cmpxchgb_mr, 0x3611_08a0),
-    (Row::lock_cmpxchgw_mr, 0x3631_8980),
-    (Row::lock_cmpxchgl_mr, 0x3631_8880),
-    (Row::lock_cmpxchgq_mr, 0x3631_8890),
-    (Row::lock_cmpxchg16b_m, 0x38e2_8890),
-    (Row::xchgb_rm, 0x10d1_0820),
-    (Row::xchgw_rm, 0x10f1_8900),
-    (Row::xchgl_rm, 0x10f1_8800),
-    (Row::xchgq_rm, 0x10f1_8810),
-    (Row::rolb_m1, 0x1a00_c820),
-    (Row::rolw_m1, 0x1a20_a900),
-    (Row::roll_m1, 0x1a20_a800),
-    (Row::rolq_m1, 0x1a20_a810),
-    (Row::rorb_m1, 0x1a02_c820),
-    (Row::rorw_m1, 0x1a22_a900),
-    (Row::rorl_m1, 0x1a22_a800),
-    (Row::rorq_m1, 0x1a22_a810),
-    (Row::shlb_m1, 0x1a08_c820),
-    (Row::shlw_m1, 0x1a28_a900),
-    (Row::shll_m1, 0x1a28_a800),
-    (Row::shlq_m1, 0x1a28_a810),
-    (Row::shrb_m1, 0x1a0a_c820),
-    (Row::shrw_m1, 0x1a2a_a900),
-    (Row::shrl_m1, 0x1a2a_a800),
-    (Row::shrq_m1, 0x1a2a_a810),
-    (Row::sarb_m1, 0x1a0e_c820),
-    (Row::sarw_m1, 0x1a2e_a900),
-    (Row::sarl_m1, 0x1a2e_a800),
-    (Row::sarq_m1, 0x1a2e_a810),
-    (Row::callq_m, 0x1fe4_a820),
-    (Row::jmpq_m, 0x1fe8_a820),
-    (Row::andps_a, 0x2a91_a820),
-    (Row::cmpps_a, 0x3851_a821),
-    (Row::cmppd_a, 0x3851_a921),
-    (Row::cmpss_a, 0x3851_ac21),
-    (Row::cmpsd_a, 0x3851_aa21),
-    (Row::andb_i, 0x0490_0821),
-    (Row::callq_d, 0x1d10_082c),
-    (Row::jmp_d8, 0x1d70_0829),
-    (Row::jmp_d32, 0x1d30_082c),
-    (Row::jo_d8, 0x0e10_0829),
-    (Row::jno_d8, 0x0e30_0829),
-    (Row::jb_d8, 0x0e50_0829),
-    (Row::jae_d8, 0x0e70_0829),
-    (Row::je_d8, 0x0e90_0829),
-    (Row::jne_d8, 0x0eb0_0829),
-    (Row::jbe_d8, 0x0ed0_0829),
-    (Row::ja_d8, 0x0ef0_0829),
-    (Row::js_d8, 0x0f10_0829),
-    (Row::jns_d8, 0x0f30_0829),
-    (Row::jp_d8, 0x0f50_0829),
-    (Row::jnp_d8, 0x0f70_0829),
-    (Row::jl_d8, 0x0f90_0829),
-    (Row::jge_d8, 0x0fb0_0829),
-    (Row::jle_d8, 0x0fd0_0829),
-    (Row::jg_d8, 0x0ff0_0829),
-    (Row::jo_d32, 0x3010_082c),
-    (Row::jno_d32, 0x3030_082c),
-    (Row::jb_d32, 0x3050_082c),
-    (Row::jae_d32, 0x3070_082c),
-    (Row::je_d32, 0x3090_082c),
-    (Row::jne_d32, 0x30b0_082c),
-    (Row::jbe_d32, 0x30d0_082c),
-    (Row::ja_d32, 0x30f0_082c),
-    (Row::js_d32, 0x3110_082c),
-    (Row::jns_d32, 0x3130_082c),
-    (Row::jp_d32, 0x3150_082c),
-    (Row::jnp_d32, 0x3170_082c),
-    (Row::jl_d32, 0x3190_082c),
-    (Row::jge_d32, 0x31b0_082c),
-    (Row::jle_d32, 0x31d0_082c),
-    (Row::jg_d32, 0x31f0_082c),
-    (Row::vcmpps_b, 0x1851_b241),
-    (Row::vcmppd_b, 0x1851_b2c1),
-    (Row::vcmpss_b, 0x1851_b341),
-    (Row::vcmpsd_b, 0x1851_b3c1),
-    (Row::vcvtpd2ps_a, 0x0b51_a2c0),
-    (Row::vcvttpd2dq_a, 0x1cd1_a2c0),
-    (Row::mulxl_rvm, 0x1ed1_b5c0),
-    (Row::mulxq_rvm, 0x1ed1_b5d0),
-    (Row::nop_1b, 0x1210_0020),
-    (Row::nop_2b, 0x1210_0120),
-    (Row::nopl_rm, 0x23e0_a800),
-    (Row::nopw_rm, 0x23e0_a900),
+/// stands in the reg field in two, the digit in four, 8 for none; the opcode byte and the escape. The rows, named beside
+/// their numbers, are in the order of [`Row`].
+const TABLE: [u64; 158] = [
+    0x1000_88a1, // lock_addb_mi
+    0x1020_8982, // lock_addw_mi
+    0x1020_8884, // lock_addl_mi
+    0x1020_889c, // lock_addq_mi_sxl
+    0x1060_8889, // lock_addl_mi_sxb
+    0x1060_8899, // lock_addq_mi_sxb
+    0x0011_08a0, // lock_addb_mr
+    0x0031_8980, // lock_addw_mr
+    0x0031_8880, // lock_addl_mr
+    0x0031_8890, // lock_addq_mr
+    0x1002_88a1, // lock_orb_mi
+    0x1022_8982, // lock_orw_mi
+    0x1022_8884, // lock_orl_mi
+    0x1022_889c, // lock_orq_mi_sxl
+    0x1062_8889, // lock_orl_mi_sxb
+    0x1062_8899, // lock_orq_mi_sxb
+    0x0111_08a0, // lock_orb_mr
+    0x0131_8980, // lock_orw_mr
+    0x0131_8880, // lock_orl_mr
+    0x0131_8890, // lock_orq_mr
+    0x1004_88a1, // lock_adcb_mi
+    0x1024_8982, // lock_adcw_mi
+    0x1024_8884, // lock_adcl_mi
+    0x1024_889c, // lock_adcq_mi_sxl
+    0x1064_8889, // lock_adcl_mi_sxb
+    0x1064_8899, // lock_adcq_mi_sxb
+    0x0211_08a0, // lock_adcb_mr
+    0x0231_8980, // lock_adcw_mr
+    0x0231_8880, // lock_adcl_mr
+    0x0231_8890, // lock_adcq_mr
+    0x1006_88a1, // lock_sbbb_mi
+    0x1026_8982, // lock_sbbw_mi
+    0x1026_8884, // lock_sbbl_mi
+    0x1026_889c, // lock_sbbq_mi_sxl
+    0x1066_8889, // lock_sbbl_mi_sxb
+    0x1066_8899, // lock_sbbq_mi_sxb
+    0x0311_08a0, // lock_sbbb_mr
+    0x0331_8980, // lock_sbbw_mr
+    0x0331_8880, // lock_sbbl_mr
+    0x0331_8890, // lock_sbbq_mr
+    0x1008_88a1, // lock_andb_mi
+    0x1028_8982, // lock_andw_mi
+    0x1028_8884, // lock_andl_mi
+    0x1028_889c, // lock_andq_mi_sxl
+    0x1068_8889, // lock_andl_mi_sxb
+    0x1068_8899, // lock_andq_mi_sxb
+    0x0411_08a0, // lock_andb_mr
+    0x0431_8980, // lock_andw_mr
+    0x0431_8880, // lock_andl_mr
+    0x0431_8890, // lock_andq_mr
+    0x100a_88a1, // lock_subb_mi
+    0x102a_8982, // lock_subw_mi
+    0x102a_8884, // lock_subl_mi
+    0x102a_889c, // lock_subq_mi_sxl
+    0x106a_8889, // lock_subl_mi_sxb
+    0x106a_8899, // lock_subq_mi_sxb
+    0x0511_08a0, // lock_subb_mr
+    0x0531_8980, // lock_subw_mr
+    0x0531_8880, // lock_subl_mr
+    0x0531_8890, // lock_subq_mr
+    0x100c_88a1, // lock_xorb_mi
+    0x102c_8982, // lock_xorw_mi
+    0x102c_8884, // lock_xorl_mi
+    0x102c_889c, // lock_xorq_mi_sxl
+    0x106c_8889, // lock_xorl_mi_sxb
+    0x106c_8899, // lock_xorq_mi_sxb
+    0x0611_08a0, // lock_xorb_mr
+    0x0631_8980, // lock_xorw_mr
+    0x0631_8880, // lock_xorl_mr
+    0x0631_8890, // lock_xorq_mr
+    0x3811_08a0, // lock_xaddb_mr
+    0x3831_8980, // lock_xaddw_mr
+    0x3831_8880, // lock_xaddl_mr
+    0x3831_8890, // lock_xaddq_mr
+    0x3611_08a0, // lock_cmpxchgb_mr
+    0x3631_8980, // lock_cmpxchgw_mr
+    0x3631_8880, // lock_cmpxchgl_mr
+    0x3631_8890, // lock_cmpxchgq_mr
+    0x38e2_8890, // lock_cmpxchg16b_m
+    0x10d1_0820, // xchgb_rm
+    0x10f1_8900, // xchgw_rm
+    0x10f1_8800, // xchgl_rm
+    0x10f1_8810, // xchgq_rm
+    0x1a00_c820, // rolb_m1
+    0x1a20_a900, // rolw_m1
+    0x1a20_a800, // roll_m1
+    0x1a20_a810, // rolq_m1
+    0x1a02_c820, // rorb_m1
+    0x1a22_a900, // rorw_m1
+    0x1a22_a800, // rorl_m1
+    0x1a22_a810, // rorq_m1
+    0x1a08_c820, // shlb_m1
+    0x1a28_a900, // shlw_m1
+    0x1a28_a800, // shll_m1
+    0x1a28_a810, // shlq_m1
+    0x1a0a_c820, // shrb_m1
+    0x1a2a_a900, // shrw_m1
+    0x1a2a_a800, // shrl_m1
+    0x1a2a_a810, // shrq_m1
+    0x1a0e_c820, // sarb_m1
+    0x1a2e_a900, // sarw_m1
+    0x1a2e_a800, // sarl_m1
+    0x1a2e_a810, // sarq_m1
+    0x1fe4_a820, // callq_m
+    0x1fe8_a820, // jmpq_m
+    0x2a91_a820, // andps_a
+    0x3851_a821, // cmpps_a
+    0x3851_a921, // cmppd_a
+    0x3851_ac21, // cmpss_a
+    0x3851_aa21, // cmpsd_a
+    0x0490_0821, // andb_i
+    0x1d10_082c, // callq_d
+    0x1d70_0829, // jmp_d8
+    0x1d30_082c, // jmp_d32
+    0x0e10_0829, // jo_d8
+    0x0e30_0829, // jno_d8
+    0x0e50_0829, // jb_d8
+    0x0e70_0829, // jae_d8
+    0x0e90_0829, // je_d8
+    0x0eb0_0829, // jne_d8
+    0x0ed0_0829, // jbe_d8
+    0x0ef0_0829, // ja_d8
+    0x0f10_0829, // js_d8
+    0x0f30_0829, // jns_d8
+    0x0f50_0829, // jp_d8
+    0x0f70_0829, // jnp_d8
+    0x0f90_0829, // jl_d8
+    0x0fb0_0829, // jge_d8
+    0x0fd0_0829, // jle_d8
+    0x0ff0_0829, // jg_d8
+    0x3010_082c, // jo_d32
+    0x3030_082c, // jno_d32
+    0x3050_082c, // jb_d32
+    0x3070_082c, // jae_d32
+    0x3090_082c, // je_d32
+    0x30b0_082c, // jne_d32
+    0x30d0_082c, // jbe_d32
+    0x30f0_082c, // ja_d32
+    0x3110_082c, // js_d32
+    0x3130_082c, // jns_d32
+    0x3150_082c, // jp_d32
+    0x3170_082c, // jnp_d32
+    0x3190_082c, // jl_d32
+    0x31b0_082c, // jge_d32
+    0x31d0_082c, // jle_d32
+    0x31f0_082c, // jg_d32
+    0x1851_b241, // vcmpps_b
+    0x1851_b2c1, // vcmppd_b
+    0x1851_b341, // vcmpss_b
+    0x1851_b3c1, // vcmpsd_b
+    0x0b51_a2c0, // vcvtpd2ps_a
+    0x1cd1_a2c0, // vcvttpd2dq_a
+    0x1ed1_b5c0, // mulxl_rvm
+    0x1ed1_b5d0, // mulxq_rvm
+    0x1210_0020, // nop_1b
+    0x1210_0120, // nop_2b
+    0x23e0_a800, // nopl_rm
+    0x23e0_a900, // nopw_rm
 ];
 
 /// The rows by their keys, which rise.
@@ -452,10 +453,8 @@ fn number(row: Row) -> usize
     row as usize
 }
 
-/// What the table has in the place of a row: its name, and its line as one number.
-fn entry(row: Row) -> (Row, u64)
-    ensures named { result.0 ≡ row }
-    ensures is { result ≡ entry_of row }
+fn entry(row: Row) -> u64
+    ensures { result ≡ entry_of row }
 {
     TABLE[number(row)]
 }
@@ -464,7 +463,7 @@ fn entry(row: Row) -> (Row, u64)
 fn key(row: Row) -> u64
     ensures { result ≡ row_key row }
 {
-    entry(row).1 >> 17
+    entry(row) >> 17
 }
 
 /// How many rows have a key below this one.
@@ -511,5 +510,5 @@ pub(crate) fn rows_of(opcode: Opcode, digit: Option<u8>) -> &'static [Row]
 pub fn line(row: Row) -> Line
     ensures { result ≡ line_of row }
 {
-    unpack(entry(row).1)
+    unpack(entry(row))
 }
