@@ -210,7 +210,7 @@ pub fn emit_modrm_sib_disp<R: AsReg, S: CodeSink>(
     ensures notice_room { FallsBy (S.state sink.old).notice_room (S.state sink.new).notice_room (target_count mem_e.now) }
     ensures most { tail_length (tail_meant R.enc (S.state sink.old).offsets enc_g mem_e.now bytes_at_end evex_scaling) ≤ 6 }
     // No bytes that read as the operand are fewer than are asked for.
-    ensures least { (t : List ℕ) → IsBytes t → IsTailMeant (tail_meant R.enc (S.state sink.old).offsets enc_g mem_e.now bytes_at_end evex_scaling) t → tail_length (tail_meant R.enc (S.state sink.old).offsets enc_g mem_e.now bytes_at_end evex_scaling) ≤ length t }
+    ensures least { let meant = tail_meant R.enc (S.state sink.old).offsets enc_g mem_e.now bytes_at_end evex_scaling in (t : List ℕ) → IsBytes t → IsTailMeant meant t → tail_length meant ≤ length t }
 {
     let displacement = mem_e.displacement(sink);
     let code = tail_of(enc_g, mem_e, displacement, bytes_at_end, evex_scaling);
