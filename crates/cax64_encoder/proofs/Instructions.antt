@@ -64,9 +64,9 @@ run_leaves {acts = acts} {s} {t} (Err e) h run =
     }
 
 -- the old bytes stay in front
-pub stays_in_front : {M : Type 0} {m : Meant M} {s t : State} (r : Result (Unit {0}) SinkError) → OnOk r (AddsInstruction m s t) → OnErr r (LeavesInstruction m s t) → IsFront s.bytes t.bytes
-stays_in_front (Ok tt) adds leaves = record { rest = adds.added; whole = sym adds.bytes }
-stays_in_front (Err e) adds leaves = record { rest = leaves.left; whole = sym leaves.bytes }
+pub stays_in_front : {M : Type 0} (m : Meant M) (s t : State) (r : Result (Unit {0}) SinkError) → OnOk r (AddsInstruction m s t) → OnErr r (LeavesInstruction m s t) → IsFront s.bytes t.bytes
+stays_in_front m s t (Ok tt) adds leaves = record { rest = adds.added; whole = sym adds.bytes }
+stays_in_front m s t (Err e) adds leaves = record { rest = leaves.left; whole = sym leaves.bytes }
 
 pub run_error : {acts : List Action} {s t : State} (r : Result (Unit {0}) SinkError) → Ran acts s t r → IfErr r (λ e. s.answers e ≡ true)
 run_error (Ok tt) run = tt

@@ -205,18 +205,18 @@ adds_more ms m s u t h keeps k =
     }
 
 -- the old bytes stay in front
-pub adds_in_front : {M : Type 0} {ms : List (Meant M)} {s t : State} → AddsAll ms s t → IsFront s.bytes t.bytes
-adds_in_front h = record { rest = h.added; whole = sym h.bytes }
+pub adds_in_front : {M : Type 0} (ms : List (Meant M)) (s t : State) → AddsAll ms s t → IsFront s.bytes t.bytes
+adds_in_front ms s t h = record { rest = h.added; whole = sym h.bytes }
 
-pub leaves_in_front : {M : Type 0} {ms : List (Meant M)} {whole : ℕ} {s t : State} → LeavesAll ms whole s t → IsFront s.bytes t.bytes
-leaves_in_front {s = s} h = record {
+pub leaves_in_front : {M : Type 0} (ms : List (Meant M)) (whole : ℕ) (s t : State) → LeavesAll ms whole s t → IsFront s.bytes t.bytes
+leaves_in_front ms whole s t h = record {
   rest = h.adds.added ++ h.leaves.left;
   whole = sym (append_assoc s.bytes h.adds.added h.leaves.left) ∙ ap (λ (x : List ℕ). x ++ h.leaves.left) (sym h.adds.bytes) ∙ sym h.leaves.bytes;
 }
 
-pub stays_in_front : {M : Type 0} {ms : List (Meant M)} {s t : State} (r : Result (Unit {0}) Refused) → OnOk r (AddsAll ms s t) → IfErr r (λ e. LeavesAll ms e.whole s t) → IsFront s.bytes t.bytes
-stays_in_front (Ok tt) adds leaves = adds_in_front adds
-stays_in_front (Err e) adds leaves = leaves_in_front leaves
+pub stays_in_front : {M : Type 0} (ms : List (Meant M)) (s t : State) (r : Result (Unit {0}) Refused) → OnOk r (AddsAll ms s t) → IfErr r (λ e. LeavesAll ms e.whole s t) → IsFront s.bytes t.bytes
+stays_in_front ms s t (Ok tt) adds leaves = adds_in_front ms s t adds
+stays_in_front ms s t (Err e) adds leaves = leaves_in_front ms e.whole s t leaves
 
 -- the bytes and notices of a state are all that counts before
 pub adds_from : {M : Type 0} {ms : List (Meant M)} (s u t : State) → u.bytes ≡ s.bytes → u.notices ≡ s.notices → u.records ≡ s.records → AddsAll ms u t → AddsAll ms s t

@@ -15,7 +15,7 @@ loop-whole-init g c =
 
 pub returns-in-Err-clause-front : goal.returns-in-Err-clause-front
 returns-in-Err-clause-front g c =
-    let held = adds_in_front c.loop-whole.invariant.adds in
+    let held = adds_in_front _ _ _ c.loop-whole.invariant.adds in
     let last = c.in-Err.ensures.front in
     record { rest = held.rest ++ last.rest; whole = sym (append_assoc _ held.rest last.rest) ∙ ap (λ (x : List ℕ). x ++ last.rest) held.whole ∙ last.whole }
 

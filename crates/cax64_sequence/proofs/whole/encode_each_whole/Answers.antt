@@ -21,7 +21,7 @@ returns g c =
     record {
       adds = on_ok c.map_err.result all.1;
       unchanged = no_err (StaysAs s t) c.map_err.result ok;
-      front = adds_in_front all.1;
+      front = adds_in_front _ _ _ all.1;
       error = never_err (λ e. e ≡ NoMemory) c.map_err.result ok;
       keeps = keeps_on same c.encode_each.ensures.keeps;
       room = λ b n. ok;

@@ -8,7 +8,7 @@ returns g c =
     record {
       adds = run_adds c.put.result meant c.put.ensures;
       leaves = run_leaves c.put.result meant c.put.ensures;
-      front = stays_in_front c.put.result (run_adds c.put.result meant c.put.ensures) (run_leaves c.put.result meant c.put.ensures);
+      front = stays_in_front _ _ _ c.put.result (run_adds c.put.result meant c.put.ensures) (run_leaves c.put.result meant c.put.ensures);
       error = run_error c.put.result c.put.ensures;
       keeps = ran_keeps c.put.ensures;
       enough = run_enough meant c.put.ensures;
