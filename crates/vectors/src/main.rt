@@ -9,8 +9,10 @@ mod address;
 mod columns;
 mod encoding;
 mod fields;
+mod immediates;
 mod instruction;
 mod lists;
+mod names;
 mod prefixes;
 mod program;
 mod reading;
@@ -30,31 +32,55 @@ use std::{fs, io};
 pub enum Kind {
     Tails,
     Relative,
+    Operands,
     Disp,
     Rex,
     Vex,
     Evex,
     Apx,
+    Immediates,
+    Ranges,
+    Names,
     Instructions,
+    Worked,
     Faults,
     Refusals,
     Reader,
     Program,
 }
 
-const KINDS: [Kind; 12] = [
-    Kind::Tails,
-    Kind::Relative,
-    Kind::Disp,
-    Kind::Rex,
-    Kind::Vex,
-    Kind::Evex,
-    Kind::Apx,
-    Kind::Instructions,
-    Kind::Faults,
-    Kind::Refusals,
-    Kind::Reader,
-    Kind::Program,
+/// Each file's name before `.tsv`. Those that are `worked` have the rows by which the machine code was specified, and
+/// what stands at the ends of ranges.
+const FILES: [(&str, Kind); 29] = [
+    ("tails", Kind::Tails),
+    ("worked_tails", Kind::Tails),
+    ("relative", Kind::Relative),
+    ("worked_relative", Kind::Relative),
+    ("worked_operands", Kind::Operands),
+    ("disp", Kind::Disp),
+    ("worked_disp", Kind::Disp),
+    ("rex", Kind::Rex),
+    ("worked_rex", Kind::Rex),
+    ("vex", Kind::Vex),
+    ("worked_vex", Kind::Vex),
+    ("evex", Kind::Evex),
+    ("worked_evex", Kind::Evex),
+    ("apx", Kind::Apx),
+    ("worked_apx", Kind::Apx),
+    ("immediates", Kind::Immediates),
+    ("worked_immediates", Kind::Immediates),
+    ("worked_ranges", Kind::Ranges),
+    ("worked_names", Kind::Names),
+    ("instructions", Kind::Instructions),
+    ("worked_instructions", Kind::Worked),
+    ("faults", Kind::Faults),
+    ("worked_faults", Kind::Faults),
+    ("refusals", Kind::Refusals),
+    ("worked_refusals", Kind::Refusals),
+    ("reader", Kind::Reader),
+    ("worked_reader", Kind::Reader),
+    ("program", Kind::Program),
+    ("worked_program", Kind::Program),
 ];
 
 /// The columns of `instructions` that nothing answers yet.
@@ -65,31 +91,28 @@ const UNANSWERED_OF_INSTRUCTIONS: [&str; 9] = [
 /// The columns of `faults` that nothing answers yet.
 const UNANSWERED_OF_FAULTS: [&str; 1] = ["visits"];
 
-impl Kind {
-    /// The file's name before `.tsv`.
-    fn name(self) -> &'static str {
-        match self {
-            Kind::Tails => "tails",
-            Kind::Relative => "relative",
-            Kind::Disp => "disp",
-            Kind::Rex => "rex",
-            Kind::Vex => "vex",
-            Kind::Evex => "evex",
-            Kind::Apx => "apx",
-            Kind::Instructions => "instructions",
-            Kind::Faults => "faults",
-            Kind::Refusals => "refusals",
-            Kind::Reader => "reader",
-            Kind::Program => "program",
-        }
-    }
+/// The columns of `immediates` that nothing answers yet.
+const UNANSWERED_OF_IMMEDIATES: [&str; 2] = ["extension", "text"];
 
+impl Kind {
     /// The columns that nothing answers yet. They are left out of each line before it is read.
     fn unanswered(self) -> &'static [&'static str] {
         match self {
             Kind::Instructions => &UNANSWERED_OF_INSTRUCTIONS,
             Kind::Faults => &UNANSWERED_OF_FAULTS,
+            Kind::Immediates => &UNANSWERED_OF_IMMEDIATES,
             _ => &[],
+        }
+    }
+
+    /// How many fronts, shorter than the instruction and read as none, stand behind a line that came out as wanted.
+    pub(crate) fn fronts(self, came: &str) -> usize {
+        match self {
+            Kind::Instructions | Kind::Worked => {
+                let bytes = came.split('\t').next();
+                bytes.map_or(0, |pairs| pairs.len() / 2)
+            }
+            _ => 0,
         }
     }
 
@@ -103,12 +126,17 @@ impl Kind {
         match self {
             Kind::Tails => tails::answer_tail(fields, came),
             Kind::Relative => tails::answer_relative(alloc, fields, came),
+            Kind::Operands => tails::answer_operand(alloc, fields, came),
             Kind::Disp => tails::answer_disp(fields, came),
             Kind::Rex => prefixes::answer_rex(fields, came),
             Kind::Vex => prefixes::answer_vex(fields, came),
             Kind::Evex => prefixes::answer_evex(fields, came),
             Kind::Apx => prefixes::answer_apx(fields, came),
+            Kind::Immediates => immediates::answer_immediate(fields, came),
+            Kind::Ranges => immediates::answer_range(fields, came),
+            Kind::Names => names::answer_name(fields, came),
             Kind::Instructions => encoding::answer_instruction(alloc, fields, came),
+            Kind::Worked => encoding::answer_worked(alloc, fields, came),
             Kind::Faults => encoding::answer_fault(alloc, fields, came),
             Kind::Refusals => lists::answer_refusal(alloc, fields, came),
             Kind::Reader => reading::answer_reading(alloc, fields, came),
@@ -117,8 +145,15 @@ impl Kind {
     }
 }
 
-fn print_report(rt: &impl Print, kind: Kind, report: &Report) -> io::Result<()> {
-    let name = kind.name();
+fn print_left_out(rt: &impl Print, kind: Kind) -> io::Result<()> {
+    print!(rt; ", not compared:")?;
+    for column in kind.unanswered() {
+        print!(rt; " {column}")?;
+    }
+    Ok(())
+}
+
+fn print_report(rt: &impl Print, name: &str, kind: Kind, report: &Report) -> io::Result<()> {
     let lines = report.lines;
     let equal = report.equal;
     print!(rt; "{name}: {lines} lines, {equal} equal")?;
@@ -130,10 +165,12 @@ fn print_report(rt: &impl Print, kind: Kind, report: &Report) -> io::Result<()> 
         let malformed = report.malformed;
         print!(rt; ", {malformed} malformed")?;
     }
-    let mut separator = ", not compared:";
-    for column in kind.unanswered() {
-        print!(rt; "{separator} {column}")?;
-        separator = "";
+    if report.fronts > 0 {
+        let fronts = report.fronts;
+        print!(rt; ", {fronts} shorter fronts read as none")?;
+    }
+    if report.leaves_out {
+        print_left_out(rt, kind)?;
     }
     println!(rt; "")?;
     if let Some(line) = report.first_malformed {
@@ -150,8 +187,7 @@ fn print_report(rt: &impl Print, kind: Kind, report: &Report) -> io::Result<()> 
 }
 
 /// Compares a file and prints what it came to. Answers whether all lines are equal, or the file is absent.
-fn run_file(rt: &HostRuntime, kind: Kind) -> io::Result<bool> {
-    let name = kind.name();
+fn run_file(rt: &HostRuntime, name: &str, kind: Kind) -> io::Result<bool> {
     let path = format!(in rt.alloc(); "{name}.tsv")?;
     let text = match fs::read_to_string(rt, path.as_str()) {
         Ok(text) => text,
@@ -162,14 +198,14 @@ fn run_file(rt: &HostRuntime, kind: Kind) -> io::Result<bool> {
         Err(error) => return Err(error),
     };
     let report = report_of(rt.alloc(), kind, text.as_str())?;
-    print_report(rt, kind, &report)?;
+    print_report(rt, name, kind, &report)?;
     Ok(report.is_clean())
 }
 
 fn main(rt: HostRuntime) -> io::Result<ExitCode> {
     let mut clean = true;
-    for kind in KINDS {
-        clean = run_file(&rt, kind)? && clean;
+    for (name, kind) in FILES {
+        clean = run_file(&rt, name, kind)? && clean;
     }
     Ok(if clean {
         ExitCode::SUCCESS

@@ -97,6 +97,16 @@ fn write_reading(came: &mut String, reading: &Reading) -> Result<(), Fault> {
     Ok(())
 }
 
+/// The length of a proper front that is read as an instruction, if there is one.
+pub(crate) fn shorter_reading(bytes: &[u8]) -> Option<usize> {
+    for length in 0..bytes.len() {
+        if read_inst(&bytes[..length]).is_some() {
+            return Some(length);
+        }
+    }
+    None
+}
+
 pub(crate) fn answer_reading(
     alloc: Global,
     fields: &mut Fields<'_>,

@@ -1,7 +1,8 @@
 //! ModR/M, SIB and displacement.
 
-use crate::address::{Parts, target_of};
-use crate::columns::{write_bytes, write_calls};
+use crate::address::{Parts, amode_of, target_of};
+use crate::columns::{write_bytes, write_calls, write_notices};
+use crate::encoding::recorder_of;
 use crate::fields::{Fault, Fields};
 use cax64_test_support::CallRecorder;
 use cranelift_assembler_x64::rex::Disp;
@@ -42,6 +43,31 @@ pub(crate) fn answer_relative(
         |_| Fault::NoMemory,
     )?;
     write_calls(came, &sink)
+}
+
+/// Any address, where it is addressable.
+pub(crate) fn answer_operand(
+    alloc: Global,
+    fields: &mut Fields<'_>,
+    came: &mut String,
+) -> Result<(), Fault> {
+    let enc_g = fields.number(255)?;
+    let address = amode_of(fields.text()?)?;
+    let bytes_at_end = fields.number(255)?;
+    let factor = fields.factor()?;
+    let mut sink = recorder_of(alloc, fields.text()?)?;
+    if !address.is_addressable(&sink) {
+        came.push_str("-\t-\t-")?;
+        return Ok(());
+    }
+    let displacement = address.displacement(&sink);
+    emit_modrm_sib_disp(&mut sink, enc_g, &address, bytes_at_end, factor).map_err(
+        |_| Fault::NoMemory,
+    )?;
+    write!(came, "{displacement}\t")?;
+    write_bytes(came, sink.bytes())?;
+    came.push('\t')?;
+    write_notices(came, sink.notices())
 }
 
 fn write_class(came: &mut String, class: Disp) -> Result<(), Fault> {

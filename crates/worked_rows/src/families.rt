@@ -1,0 +1,159 @@
+//! Instructions, tails and lists over families of registers that aren't plain numbers.
+
+use cax64_test_support::{All, Few, Named, Virtual};
+use cranelift_assembler_x64::inst::{andb_i, andps_a, lock_addl_mr, lock_xaddl_mr};
+use cranelift_assembler_x64::{
+    Amode, AmodeOffset, AmodeOffsetPlusKnownOffset, AsReg, CodeSink, Fault, Fixed, Gpr, Imm8, Inst,
+    Instruction, NonRspGpr, Recorder, Scale, Size, Xmm, XmmMem, emit_modrm_sib_disp, encode_all,
+};
+use std::alloc::Global;
+use std::test::Fail;
+
+/// The family's register of a number.
+fn reg<R: AsReg>(number: u8) -> Result<R, Fail> {
+    if R::accepts(number) {
+        return Ok(R::new(number));
+    }
+    Err("the family has no such register".into())
+}
+
+fn based<R: AsReg>(base: R) -> Amode<R> {
+    Amode::ImmReg {
+        base,
+        simm32: AmodeOffsetPlusKnownOffset::ZERO,
+        trap: None,
+    }
+}
+
+fn indexed<R: AsReg>(base: R, index: R) -> Amode<R> {
+    Amode::ImmRegRegShift {
+        base,
+        index: NonRspGpr::new(index),
+        scale: Scale::Two,
+        simm32: AmodeOffset::ZERO,
+        trap: None,
+    }
+}
+
+fn add<R: AsReg>(place: Amode<R>, register: R) -> Inst<All<R>> {
+    lock_addl_mr::new(place, Gpr::new(register)).into()
+}
+
+fn exchange<R: AsReg>(place: Amode<R>, register: R) -> Inst<All<R>> {
+    lock_xaddl_mr::new(place, Gpr::new(register)).into()
+}
+
+fn mask<R: AsReg>(register: R) -> Inst<All<R>> {
+    andb_i::new(Fixed(register), Imm8::new(0xAA)).into()
+}
+
+fn and_vectors<R: AsReg>(first: R, second: R) -> Inst<All<R>> {
+    andps_a::new(Xmm::new(first), XmmMem::Xmm(second)).into()
+}
+
+/// The bytes of a list, where each of it is encodable.
+fn encoded<R: AsReg>(alloc: Global, insts: &[Inst<All<R>>]) -> Option<Vec<u8>> {
+    let mut sink = Recorder::new(alloc);
+    if !insts.iter().all(|inst| inst.is_encodable(&sink)) || encode_all(insts, &mut sink).is_err() {
+        return None;
+    }
+    Some(sink.into_bytes())
+}
+
+/// The bytes of a tail, where it is addressable.
+fn tail<R: AsReg>(alloc: Global, enc_g: u8, place: &Amode<R>) -> Option<Vec<u8>> {
+    let mut sink = Vec::new(alloc);
+    if !place.is_addressable(&sink) {
+        return None;
+    }
+    match emit_modrm_sib_disp(&mut sink, enc_g, place, 0, None) {
+        Ok(()) => Some(sink),
+        Err(_) => None,
+    }
+}
+
+fn are(bytes: Option<Vec<u8>>, wanted: &[u8]) -> bool {
+    match bytes {
+        Some(bytes) => bytes.as_slice() == wanted,
+        None => false,
+    }
+}
+
+const LIST: [u8; 11] = [
+    0x24, 0xAA, 0xF0, 0x41, 0x01, 0x45, 0x00, 0x44, 0x0F, 0x54, 0xED,
+];
+
+/// Whether registers 0, 5 and 13 of the family encode as the hardware's.
+fn encodes<R: AsReg>(alloc: Global) -> Result<bool, Fail> {
+    let (zero, five, thirteen) = (reg::<R>(0)?, reg::<R>(5)?, reg::<R>(13)?);
+    let list = [
+        mask(zero),
+        add(based(thirteen), zero),
+        and_vectors(thirteen, five),
+    ];
+    Ok(
+        are(encoded(alloc, &list), &LIST)
+            && are(tail(alloc, 0, &based(five)), &[0x45, 0x00])
+            && are(
+                tail(alloc, 5, &indexed(thirteen, five)),
+                &[0x6C, 0x6D, 0x00],
+            ),
+    )
+}
+
+/// Why the instruction can't be encoded.
+fn fault<R: AsReg>(alloc: Global, inst: Inst<All<R>>) -> Option<Fault> {
+    let sink: Vec<u8> = Vec::new(alloc);
+    let fault = inst.first_fault(&sink);
+    if inst.is_encodable(&sink) == fault.is_none() {
+        fault
+    } else {
+        None
+    }
+}
+
+/// Whether an instruction that holds a register that isn't real is refused at the register's place.
+fn refuses<R: AsReg>(alloc: Global, other: R) -> Result<bool, Fail> {
+    let zero = reg::<R>(0)?;
+    Ok(
+        !other.is_real()
+            && fault(alloc, add(based(other), zero)) == Some(Fault::Register(0))
+            && fault(alloc, exchange(based(other), zero)) == Some(Fault::Register(1))
+            && fault(alloc, add(indexed(zero, other), zero)) == Some(Fault::Register(1))
+            && fault(alloc, mask(other)) == Some(Fault::Fixed(0))
+            && tail(alloc, 0, &based(other)).is_none()
+            && encoded(alloc, &[mask(zero), add(based(other), zero)]).is_none(),
+    )
+}
+
+#[test]
+fn registers_that_may_be_virtual(rt: HostRuntime) -> Result<(), Fail> {
+    assert!(rt; encodes::<Virtual>(rt.alloc())?);
+    assert!(rt; refuses(rt.alloc(), Virtual(200))?);
+    assert!(rt; refuses(rt.alloc(), Virtual(0xFFFF_FF00))?);
+    let at_stack = indexed(Virtual(0), Virtual(4));
+    assert!(rt; fault(rt.alloc(), add(at_stack, Virtual(1))) == Some(Fault::Index(1)));
+    let at_twelve = indexed(Virtual(0), Virtual(12));
+    assert!(rt; fault(rt.alloc(), add(at_twelve, Virtual(1))) == None);
+    assert!(rt; !Virtual::accepts(16));
+    Ok(())
+}
+
+#[test]
+fn three_registers_alone(rt: HostRuntime) -> Result<(), Fail> {
+    assert!(rt; encodes::<Few>(rt.alloc())?);
+    assert!(rt; refuses(rt.alloc(), Few(7))?);
+    assert!(rt; fault(rt.alloc(), mask(Few(13))) == Some(Fault::Fixed(0)));
+    assert!(rt; !Few::accepts(4) && !Few::accepts(16));
+    Ok(())
+}
+
+#[test]
+fn registers_that_always_have_a_name(rt: HostRuntime) -> Result<(), Fail> {
+    assert!(rt; encodes::<Named>(rt.alloc())?);
+    assert!(rt; refuses(rt.alloc(), Named(200))?);
+    assert!(rt; !Gpr::new(Named(130)).is_real());
+    let name = Gpr::new(Named(130)).to_string(rt.alloc(), Size::Quadword)?;
+    assert!(rt; name.as_str() == "v130");
+    Ok(())
+}
