@@ -21,7 +21,7 @@ mod tails;
 mod values;
 
 use crate::fields::{Fault, Fields};
-use crate::report::{Report, report_of};
+use crate::report::{Difference, Report, report_of};
 use std::alloc::Global;
 use std::io::ErrorKind;
 use std::process::ExitCode;
@@ -49,38 +49,24 @@ pub enum Kind {
     Program,
 }
 
-/// Each file's name before `.tsv`. Those that are `worked` have the rows by which the machine code was specified, and
-/// what stands at the ends of ranges.
-const FILES: [(&str, Kind); 29] = [
-    ("tails", Kind::Tails),
-    ("worked_tails", Kind::Tails),
-    ("relative", Kind::Relative),
-    ("worked_relative", Kind::Relative),
-    ("worked_operands", Kind::Operands),
-    ("disp", Kind::Disp),
-    ("worked_disp", Kind::Disp),
-    ("rex", Kind::Rex),
-    ("worked_rex", Kind::Rex),
-    ("vex", Kind::Vex),
-    ("worked_vex", Kind::Vex),
-    ("evex", Kind::Evex),
-    ("worked_evex", Kind::Evex),
-    ("apx", Kind::Apx),
-    ("worked_apx", Kind::Apx),
-    ("immediates", Kind::Immediates),
-    ("worked_immediates", Kind::Immediates),
-    ("worked_ranges", Kind::Ranges),
-    ("worked_names", Kind::Names),
-    ("instructions", Kind::Instructions),
-    ("worked_instructions", Kind::Worked),
-    ("faults", Kind::Faults),
-    ("worked_faults", Kind::Faults),
-    ("refusals", Kind::Refusals),
-    ("worked_refusals", Kind::Refusals),
-    ("reader", Kind::Reader),
-    ("worked_reader", Kind::Reader),
-    ("program", Kind::Program),
-    ("worked_program", Kind::Program),
+const KINDS: [Kind; 17] = [
+    Kind::Tails,
+    Kind::Relative,
+    Kind::Operands,
+    Kind::Disp,
+    Kind::Rex,
+    Kind::Vex,
+    Kind::Evex,
+    Kind::Apx,
+    Kind::Immediates,
+    Kind::Ranges,
+    Kind::Names,
+    Kind::Instructions,
+    Kind::Worked,
+    Kind::Faults,
+    Kind::Refusals,
+    Kind::Reader,
+    Kind::Program,
 ];
 
 /// The columns of `instructions` that nothing answers yet.
@@ -95,6 +81,38 @@ const UNANSWERED_OF_FAULTS: [&str; 1] = ["visits"];
 const UNANSWERED_OF_IMMEDIATES: [&str; 2] = ["extension", "text"];
 
 impl Kind {
+    /// The file's name before `.tsv`.
+    fn name(self) -> &'static str {
+        match self {
+            Kind::Tails => "tails",
+            Kind::Relative => "relative",
+            Kind::Operands => "operands",
+            Kind::Disp => "disp",
+            Kind::Rex => "rex",
+            Kind::Vex => "vex",
+            Kind::Evex => "evex",
+            Kind::Apx => "apx",
+            Kind::Immediates => "immediates",
+            Kind::Ranges => "ranges",
+            Kind::Names => "names",
+            Kind::Instructions => "instructions",
+            Kind::Worked => "worked_instructions",
+            Kind::Faults => "faults",
+            Kind::Refusals => "refusals",
+            Kind::Reader => "reader",
+            Kind::Program => "program",
+        }
+    }
+
+    /// Whether there is a second file, with the rows by which the machine code was specified and what stands at the ends
+    /// of ranges. Its name begins with `worked_`.
+    fn has_worked_rows(self) -> bool {
+        !matches!(
+            self,
+            Kind::Operands | Kind::Ranges | Kind::Names | Kind::Instructions | Kind::Worked
+        )
+    }
+
     /// The columns that nothing answers yet. They are left out of each line before it is read.
     fn unanswered(self) -> &'static [&'static str] {
         match self {
@@ -153,22 +171,29 @@ fn print_left_out(rt: &impl Print, kind: Kind) -> io::Result<()> {
     Ok(())
 }
 
+fn print_count(rt: &impl Print, count: usize, what: &str) -> io::Result<()> {
+    if count > 0 {
+        print!(rt; ", {count} {what}")?;
+    }
+    Ok(())
+}
+
+fn print_difference(rt: &impl Print, difference: &Difference) -> io::Result<()> {
+    let line = difference.line;
+    let wanted = difference.wanted.as_str();
+    let came = difference.came.as_str();
+    println!(rt; "  line {line} wanted {wanted}")?;
+    println!(rt; "  line {line} came   {came}")
+}
+
 fn print_report(rt: &impl Print, name: &str, kind: Kind, report: &Report) -> io::Result<()> {
     let lines = report.lines;
+    print!(rt; "{name}: {lines} lines, ")?;
     let equal = report.equal;
-    print!(rt; "{name}: {lines} lines, {equal} equal")?;
-    if report.passed_over > 0 {
-        let passed_over = report.passed_over;
-        print!(rt; ", {passed_over} passed over")?;
-    }
-    if report.malformed > 0 {
-        let malformed = report.malformed;
-        print!(rt; ", {malformed} malformed")?;
-    }
-    if report.fronts > 0 {
-        let fronts = report.fronts;
-        print!(rt; ", {fronts} shorter fronts read as none")?;
-    }
+    print!(rt; "{equal} equal")?;
+    print_count(rt, report.passed_over, "passed over")?;
+    print_count(rt, report.malformed, "malformed")?;
+    print_count(rt, report.fronts, "shorter fronts read as none")?;
     if report.leaves_out {
         print_left_out(rt, kind)?;
     }
@@ -176,19 +201,17 @@ fn print_report(rt: &impl Print, name: &str, kind: Kind, report: &Report) -> io:
     if let Some(line) = report.first_malformed {
         println!(rt; "  line {line} of {name}.tsv is malformed")?;
     }
-    if let Some(difference) = &report.first_difference {
-        let line = difference.line;
-        let wanted = difference.wanted.as_str();
-        let came = difference.came.as_str();
-        println!(rt; "  line {line} wanted {wanted}")?;
-        println!(rt; "  line {line} came   {came}")?;
+    match &report.first_difference {
+        Some(difference) => print_difference(rt, difference),
+        None => Ok(()),
     }
-    Ok(())
 }
 
 /// Compares a file and prints what it came to. Answers whether all lines are equal, or the file is absent.
-fn run_file(rt: &HostRuntime, name: &str, kind: Kind) -> io::Result<bool> {
-    let path = format!(in rt.alloc(); "{name}.tsv")?;
+fn run_file(rt: &HostRuntime, front: &str, kind: Kind) -> io::Result<bool> {
+    let end = kind.name();
+    let name = format!(in rt.alloc(); "{front}{end}")?;
+    let path = format!(in rt.alloc(); "{front}{end}.tsv")?;
     let text = match fs::read_to_string(rt, path.as_str()) {
         Ok(text) => text,
         Err(error) if error.kind() == ErrorKind::NotFound => {
@@ -198,14 +221,17 @@ fn run_file(rt: &HostRuntime, name: &str, kind: Kind) -> io::Result<bool> {
         Err(error) => return Err(error),
     };
     let report = report_of(rt.alloc(), kind, text.as_str())?;
-    print_report(rt, name, kind, &report)?;
+    print_report(rt, name.as_str(), kind, &report)?;
     Ok(report.is_clean())
 }
 
 fn main(rt: HostRuntime) -> io::Result<ExitCode> {
     let mut clean = true;
-    for (name, kind) in FILES {
-        clean = run_file(&rt, name, kind)? && clean;
+    for kind in KINDS {
+        clean = run_file(&rt, "", kind)? && clean;
+        if kind.has_worked_rows() {
+            clean = run_file(&rt, "worked_", kind)? && clean;
+        }
     }
     Ok(if clean {
         ExitCode::SUCCESS

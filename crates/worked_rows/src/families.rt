@@ -4,9 +4,9 @@ use cax64_test_support::{All, Few, Named, Virtual};
 use cranelift_assembler_x64::inst::{andb_i, andps_a, lock_addl_mr, lock_xaddl_mr};
 use cranelift_assembler_x64::{
     Amode, AmodeOffset, AmodeOffsetPlusKnownOffset, AsReg, CodeSink, Fault, Fixed, Gpr, Imm8, Inst,
-    Instruction, NonRspGpr, Recorder, Scale, Size, Xmm, XmmMem, emit_modrm_sib_disp, encode_all,
+    Instruction, NonRspGpr, Scale, Size, Xmm, XmmMem, emit_modrm_sib_disp, encode_all,
 };
-use std::alloc::Global;
+use std::alloc::{AllocFailed, Global};
 use std::test::Fail;
 
 /// The family's register of a number.
@@ -51,13 +51,16 @@ fn and_vectors<R: AsReg>(first: R, second: R) -> Inst<All<R>> {
     andps_a::new(Xmm::new(first), XmmMem::Xmm(second)).into()
 }
 
-/// The bytes of a list, where each of it is encodable.
-fn encoded<R: AsReg>(alloc: Global, insts: &[Inst<All<R>>]) -> Option<Vec<u8>> {
-    let mut sink = Recorder::new(alloc);
-    if !insts.iter().all(|inst| inst.is_encodable(&sink)) || encode_all(insts, &mut sink).is_err() {
-        return None;
+/// Encodes a list, if each of it is encodable. Answers whether it did.
+fn put_all<R: AsReg, S: CodeSink>(insts: &[Inst<All<R>>], sink: &mut S) -> bool {
+    if !insts.iter().all(|inst| inst.is_encodable(sink)) {
+        return false;
     }
-    Some(sink.into_bytes())
+    encode_all(insts, sink).is_ok()
+}
+
+fn no_memory<T: Drop>(_failed: AllocFailed<T>) -> Fail {
+    "no memory".into()
 }
 
 /// The bytes of a tail, where it is addressable.
@@ -86,14 +89,19 @@ const LIST: [u8; 11] = [
 /// Whether registers 0, 5 and 13 of the family encode as the hardware's.
 fn encodes<R: AsReg>(alloc: Global) -> Result<bool, Fail> {
     let (zero, five, thirteen) = (reg::<R>(0)?, reg::<R>(5)?, reg::<R>(13)?);
-    let list = [
-        mask(zero),
-        add(based(thirteen), zero),
-        and_vectors(thirteen, five),
-    ];
+    let mut list = Vec::new(alloc);
+    list.push(mask(zero)).map_err(no_memory)?;
+    list.push(add(based(thirteen), zero)).map_err(no_memory)?;
+    list.push(and_vectors(thirteen, five)).map_err(no_memory)?;
+    let mut sink = Vec::new(alloc);
+    Ok(put_all(&list, &mut sink) && sink.as_slice() == LIST.as_slice())
+}
+
+/// Whether tails with registers 5 and 13 are the hardware's.
+fn has_tails<R: AsReg>(alloc: Global) -> Result<bool, Fail> {
+    let (five, thirteen) = (reg::<R>(5)?, reg::<R>(13)?);
     Ok(
-        are(encoded(alloc, &list), &LIST)
-            && are(tail(alloc, 0, &based(five)), &[0x45, 0x00])
+        are(tail(alloc, 0, &based(five)), &[0x45, 0x00])
             && are(
                 tail(alloc, 5, &indexed(thirteen, five)),
                 &[0x6C, 0x6D, 0x00],
@@ -116,20 +124,27 @@ fn fault<R: AsReg>(alloc: Global, inst: Inst<All<R>>) -> Option<Fault> {
 fn refuses<R: AsReg>(alloc: Global, other: R) -> Result<bool, Fail> {
     let zero = reg::<R>(0)?;
     Ok(
-        !other.is_real()
-            && fault(alloc, add(based(other), zero)) == Some(Fault::Register(0))
+        fault(alloc, add(based(other), zero)) == Some(Fault::Register(0))
             && fault(alloc, exchange(based(other), zero)) == Some(Fault::Register(1))
             && fault(alloc, add(indexed(zero, other), zero)) == Some(Fault::Register(1))
-            && fault(alloc, mask(other)) == Some(Fault::Fixed(0))
-            && tail(alloc, 0, &based(other)).is_none()
-            && encoded(alloc, &[mask(zero), add(based(other), zero)]).is_none(),
+            && fault(alloc, mask(other)) == Some(Fault::Fixed(0)),
     )
+}
+
+/// Whether neither a list nor a tail holds the register.
+fn is_kept_out<R: AsReg>(alloc: Global, other: R) -> Result<bool, Fail> {
+    let zero = reg::<R>(0)?;
+    let mut list = Vec::new(alloc);
+    list.push(mask(zero)).map_err(no_memory)?;
+    list.push(add(based(other), zero)).map_err(no_memory)?;
+    let mut sink = Vec::new(alloc);
+    Ok(!other.is_real() && tail(alloc, 0, &based(other)).is_none() && !put_all(&list, &mut sink))
 }
 
 #[test]
 fn registers_that_may_be_virtual(rt: HostRuntime) -> Result<(), Fail> {
-    assert!(rt; encodes::<Virtual>(rt.alloc())?);
-    assert!(rt; refuses(rt.alloc(), Virtual(200))?);
+    assert!(rt; encodes::<Virtual>(rt.alloc())? && has_tails::<Virtual>(rt.alloc())?);
+    assert!(rt; refuses(rt.alloc(), Virtual(200))? && is_kept_out(rt.alloc(), Virtual(200))?);
     assert!(rt; refuses(rt.alloc(), Virtual(0xFFFF_FF00))?);
     let at_stack = indexed(Virtual(0), Virtual(4));
     assert!(rt; fault(rt.alloc(), add(at_stack, Virtual(1))) == Some(Fault::Index(1)));
@@ -141,8 +156,8 @@ fn registers_that_may_be_virtual(rt: HostRuntime) -> Result<(), Fail> {
 
 #[test]
 fn three_registers_alone(rt: HostRuntime) -> Result<(), Fail> {
-    assert!(rt; encodes::<Few>(rt.alloc())?);
-    assert!(rt; refuses(rt.alloc(), Few(7))?);
+    assert!(rt; encodes::<Few>(rt.alloc())? && has_tails::<Few>(rt.alloc())?);
+    assert!(rt; refuses(rt.alloc(), Few(7))? && is_kept_out(rt.alloc(), Few(7))?);
     assert!(rt; fault(rt.alloc(), mask(Few(13))) == Some(Fault::Fixed(0)));
     assert!(rt; !Few::accepts(4) && !Few::accepts(16));
     Ok(())
@@ -150,8 +165,8 @@ fn three_registers_alone(rt: HostRuntime) -> Result<(), Fail> {
 
 #[test]
 fn registers_that_always_have_a_name(rt: HostRuntime) -> Result<(), Fail> {
-    assert!(rt; encodes::<Named>(rt.alloc())?);
-    assert!(rt; refuses(rt.alloc(), Named(200))?);
+    assert!(rt; encodes::<Named>(rt.alloc())? && has_tails::<Named>(rt.alloc())?);
+    assert!(rt; refuses(rt.alloc(), Named(200))? && is_kept_out(rt.alloc(), Named(200))?);
     assert!(rt; !Gpr::new(Named(130)).is_real());
     let name = Gpr::new(Named(130)).to_string(rt.alloc(), Size::Quadword)?;
     assert!(rt; name.as_str() == "v130");
