@@ -71,6 +71,17 @@ fn put_instruction<S: CodeSink>(sink: &mut S) -> Result<(), SinkError> {
     inst.encode(sink)
 }
 
+/// Puts a list, where each of it is encodable.
+fn put_all<S: CodeSink>(insts: &[Inst<Numbers>], sink: &mut S) -> Result<(), SinkError> {
+    if !insts.iter().all(|inst| inst.is_encodable(sink)) {
+        return Ok(());
+    }
+    match encode_all(insts, sink) {
+        Ok(()) => Ok(()),
+        Err(refused) => Err(refused.error),
+    }
+}
+
 fn put_list<S: CodeSink>(sink: &mut S) -> Result<(), SinkError> {
     let insts: [Inst<Numbers>; 4] = [
         nop_9b::new().into(),
@@ -78,10 +89,7 @@ fn put_list<S: CodeSink>(sink: &mut S) -> Result<(), SinkError> {
         compare().into(),
         lock_addl_mr::new(TRAPPING, Gpr::new(1)).into(),
     ];
-    if !insts.iter().all(|inst| inst.is_encodable(sink)) {
-        return Ok(());
-    }
-    encode_all(&insts, sink).map_err(|refused| refused.error)
+    put_all(&insts, sink)
 }
 
 impl Put {

@@ -51,12 +51,36 @@ fn and_vectors<R: AsReg>(first: R, second: R) -> Inst<All<R>> {
     andps_a::new(Xmm::new(first), XmmMem::Xmm(second)).into()
 }
 
-/// Encodes a list, if each of it is encodable. Answers whether it did.
-fn put_all<R: AsReg, S: CodeSink>(insts: &[Inst<All<R>>], sink: &mut S) -> bool {
+/// Encodes a list, if each of it is encodable. Answers whether it did. One generic in the family reaches a limit of the
+/// prover, so each family has its own.
+fn put_virtuals<S: CodeSink>(insts: &[Inst<All<Virtual>>], sink: &mut S) -> bool {
     if !insts.iter().all(|inst| inst.is_encodable(sink)) {
         return false;
     }
-    encode_all(insts, sink).is_ok()
+    match encode_all(insts, sink) {
+        Ok(()) => true,
+        Err(_) => false,
+    }
+}
+
+fn put_few<S: CodeSink>(insts: &[Inst<All<Few>>], sink: &mut S) -> bool {
+    if !insts.iter().all(|inst| inst.is_encodable(sink)) {
+        return false;
+    }
+    match encode_all(insts, sink) {
+        Ok(()) => true,
+        Err(_) => false,
+    }
+}
+
+fn put_named<S: CodeSink>(insts: &[Inst<All<Named>>], sink: &mut S) -> bool {
+    if !insts.iter().all(|inst| inst.is_encodable(sink)) {
+        return false;
+    }
+    match encode_all(insts, sink) {
+        Ok(()) => true,
+        Err(_) => false,
+    }
 }
 
 fn no_memory<T: Drop>(_failed: AllocFailed<T>) -> Fail {
@@ -86,15 +110,23 @@ const LIST: [u8; 11] = [
     0x24, 0xAA, 0xF0, 0x41, 0x01, 0x45, 0x00, 0x44, 0x0F, 0x54, 0xED,
 ];
 
-/// Whether registers 0, 5 and 13 of the family encode as the hardware's.
-fn encodes<R: AsReg>(alloc: Global) -> Result<bool, Fail> {
+/// Instructions with registers 0, 5 and 13 of the family.
+fn with_real<R: AsReg>(alloc: Global) -> Result<Vec<Inst<All<R>>>, Fail> {
     let (zero, five, thirteen) = (reg::<R>(0)?, reg::<R>(5)?, reg::<R>(13)?);
     let mut list = Vec::new(alloc);
     list.push(mask(zero)).map_err(no_memory)?;
     list.push(add(based(thirteen), zero)).map_err(no_memory)?;
     list.push(and_vectors(thirteen, five)).map_err(no_memory)?;
-    let mut sink = Vec::new(alloc);
-    Ok(put_all(&list, &mut sink) && sink.as_slice() == LIST.as_slice())
+    Ok(list)
+}
+
+/// Instructions of which the second holds a register of the caller's.
+fn with_other<R: AsReg>(alloc: Global, other: R) -> Result<Vec<Inst<All<R>>>, Fail> {
+    let zero = reg::<R>(0)?;
+    let mut list = Vec::new(alloc);
+    list.push(mask(zero)).map_err(no_memory)?;
+    list.push(add(based(other), zero)).map_err(no_memory)?;
+    Ok(list)
 }
 
 /// Whether tails with registers 5 and 13 are the hardware's.
@@ -131,20 +163,29 @@ fn refuses<R: AsReg>(alloc: Global, other: R) -> Result<bool, Fail> {
     )
 }
 
-/// Whether neither a list nor a tail holds the register.
-fn is_kept_out<R: AsReg>(alloc: Global, other: R) -> Result<bool, Fail> {
-    let zero = reg::<R>(0)?;
-    let mut list = Vec::new(alloc);
-    list.push(mask(zero)).map_err(no_memory)?;
-    list.push(add(based(other), zero)).map_err(no_memory)?;
-    let mut sink = Vec::new(alloc);
-    Ok(!other.is_real() && tail(alloc, 0, &based(other)).is_none() && !put_all(&list, &mut sink))
+#[test]
+fn lists_hold_real_registers_alone(rt: HostRuntime) -> Result<(), Fail> {
+    let mut sink = Vec::new(rt.alloc());
+    assert!(rt; put_virtuals(&with_real(rt.alloc())?, &mut sink));
+    assert!(rt; sink.as_slice() == LIST.as_slice());
+    assert!(rt; !put_virtuals(&with_other(rt.alloc(), Virtual(200))?, &mut sink));
+    let mut sink = Vec::new(rt.alloc());
+    assert!(rt; put_few(&with_real(rt.alloc())?, &mut sink));
+    assert!(rt; sink.as_slice() == LIST.as_slice());
+    assert!(rt; !put_few(&with_other(rt.alloc(), Few(7))?, &mut sink));
+    let mut sink = Vec::new(rt.alloc());
+    assert!(rt; put_named(&with_real(rt.alloc())?, &mut sink));
+    assert!(rt; sink.as_slice() == LIST.as_slice());
+    assert!(rt; !put_named(&with_other(rt.alloc(), Named(200))?, &mut sink));
+    Ok(())
 }
 
 #[test]
 fn registers_that_may_be_virtual(rt: HostRuntime) -> Result<(), Fail> {
-    assert!(rt; encodes::<Virtual>(rt.alloc())? && has_tails::<Virtual>(rt.alloc())?);
-    assert!(rt; refuses(rt.alloc(), Virtual(200))? && is_kept_out(rt.alloc(), Virtual(200))?);
+    assert!(rt; has_tails::<Virtual>(rt.alloc())?);
+    assert!(rt;
+        refuses(rt.alloc(), Virtual(200))? && tail(rt.alloc(), 0, &based(Virtual(200))).is_none()
+    );
     assert!(rt; refuses(rt.alloc(), Virtual(0xFFFF_FF00))?);
     let at_stack = indexed(Virtual(0), Virtual(4));
     assert!(rt; fault(rt.alloc(), add(at_stack, Virtual(1))) == Some(Fault::Index(1)));
@@ -156,8 +197,8 @@ fn registers_that_may_be_virtual(rt: HostRuntime) -> Result<(), Fail> {
 
 #[test]
 fn three_registers_alone(rt: HostRuntime) -> Result<(), Fail> {
-    assert!(rt; encodes::<Few>(rt.alloc())? && has_tails::<Few>(rt.alloc())?);
-    assert!(rt; refuses(rt.alloc(), Few(7))? && is_kept_out(rt.alloc(), Few(7))?);
+    assert!(rt; has_tails::<Few>(rt.alloc())?);
+    assert!(rt; refuses(rt.alloc(), Few(7))? && tail(rt.alloc(), 0, &based(Few(7))).is_none());
     assert!(rt; fault(rt.alloc(), mask(Few(13))) == Some(Fault::Fixed(0)));
     assert!(rt; !Few::accepts(4) && !Few::accepts(16));
     Ok(())
@@ -165,8 +206,10 @@ fn three_registers_alone(rt: HostRuntime) -> Result<(), Fail> {
 
 #[test]
 fn registers_that_always_have_a_name(rt: HostRuntime) -> Result<(), Fail> {
-    assert!(rt; encodes::<Named>(rt.alloc())? && has_tails::<Named>(rt.alloc())?);
-    assert!(rt; refuses(rt.alloc(), Named(200))? && is_kept_out(rt.alloc(), Named(200))?);
+    assert!(rt; has_tails::<Named>(rt.alloc())?);
+    assert!(rt;
+        refuses(rt.alloc(), Named(200))? && tail(rt.alloc(), 0, &based(Named(200))).is_none()
+    );
     assert!(rt; !Gpr::new(Named(130)).is_real());
     let name = Gpr::new(Named(130)).to_string(rt.alloc(), Size::Quadword)?;
     assert!(rt; name.as_str() == "v130");
