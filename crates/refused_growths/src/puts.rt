@@ -7,8 +7,8 @@ use cranelift_assembler_x64::inst::{andb_i, cmpps_a, lock_addl_mr, nop_9b};
 use cranelift_assembler_x64::rex::{Disp, RexPrefix};
 use cranelift_assembler_x64::vex::VexPrefix;
 use cranelift_assembler_x64::{
-    Amode, AmodeOffsetPlusKnownOffset, CodeSink, Constant, DeferredTarget, Fixed, Gpr, Imm8, Imm64,
-    Inst, Instruction, Label, Notice, Recorder, SinkError, TrapCode, Xmm, XmmMem,
+    Amode, AmodeOffsetPlusKnownOffset, CodeSink, Constant, DeferredTarget, Fixed, Gpr, Imm8, Imm16,
+    Imm64, Inst, Instruction, Label, Notice, Recorder, SinkError, TrapCode, Xmm, XmmMem,
     emit_modrm_sib_disp, encode_all,
 };
 use std::alloc::{AllocError, Allocator, Global};
@@ -33,6 +33,7 @@ const TRAPPING: Amode<u8> = Amode::ImmReg {
 enum Put {
     Each,
     Immediate,
+    ShortImmediate,
     Rex,
     Vex,
     Evex,
@@ -97,6 +98,7 @@ impl Put {
         match self {
             Put::Each => put_each(sink),
             Put::Immediate => Imm64::new(0x0123_4567_89AB_CDEF).encode(sink),
+            Put::ShortImmediate => Imm16::new(0x1234).encode(sink),
             Put::Rex => RexPrefix::one_op(8, true, false).encode(sink),
             Put::Vex => VexPrefix::ThreeByte(0xC1, 0x78).encode(sink),
             Put::Evex => EvexPrefix::new(0, 0, (Some(0), None), 0, 0, 1, false, false).encode(sink),
@@ -120,7 +122,7 @@ struct Case {
 
 const UNTOLD: [Notice; 2] = [Notice::Target(0, LABEL), Notice::Target(0, LABEL)];
 
-const CASES: [Case; 9] = [
+const CASES: [Case; 10] = [
     Case {
         put: Put::Each,
         bytes: &[8, 7, 6, 5, 4, 3, 2, 1, 4, 3, 2, 1, 2, 1, 1],
@@ -130,6 +132,12 @@ const CASES: [Case; 9] = [
     Case {
         put: Put::Immediate,
         bytes: &[0xEF, 0xCD, 0xAB, 0x89, 0x67, 0x45, 0x23, 0x01],
+        told: 0,
+        notices: UNTOLD,
+    },
+    Case {
+        put: Put::ShortImmediate,
+        bytes: &[0x34, 0x12],
         told: 0,
         notices: UNTOLD,
     },

@@ -3,7 +3,7 @@
 use crate::columns::{write_bytes, write_calls, write_fault, write_notices};
 use crate::fields::{Fault, Fields, parsed};
 use crate::instruction::instructions_of;
-use crate::reading::shorter_reading;
+use crate::reading::note_front;
 use cax64_test_support::{CallRecorder, Numbers};
 use cranelift_assembler_x64::reader::read_inst;
 use cranelift_assembler_x64::{Inst, Instruction, Recorder, Row};
@@ -58,14 +58,6 @@ fn encode_one(
     let length = inst.encoded_len(sink);
     inst.encode(sink).map_err(|_| Fault::NoMemory)?;
     Ok((length, inst.row()))
-}
-
-/// Notes a front of the bytes that is read as an instruction.
-fn note_front(came: &mut String, bytes: &[u8]) -> Result<(), Fault> {
-    if let Some(length) = shorter_reading(bytes) {
-        write!(came, " but the first {length} bytes are read")?;
-    }
-    Ok(())
 }
 
 pub(crate) fn answer_instruction(
