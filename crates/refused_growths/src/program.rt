@@ -34,14 +34,20 @@ impl Grows for Run {
         let mut out: Vec<u8> = Vec::new(self.global);
         let mut err: Vec<u8> = Vec::new(self.global);
         let status = run(alloc, self.words, &mut out, &mut err);
-        let is_a_front = self.want.as_bytes().starts_with(out.as_slice());
-        match (status, out.as_slice(), err.as_slice()) {
-            (0, out, []) if out == self.want.as_bytes() => Outcome::Made,
-            (3, [] | [.., b'\n'], b"no memory\n") if is_a_front => Outcome::Refused,
+        let is_told = err.as_slice() == b"no memory\n".as_slice();
+        match (status, out.as_slice()) {
+            (0, out) if out == self.want.as_bytes() && err.is_empty() => Outcome::Made,
+            (3, out) if is_told && is_front_of_lines(out, self.want) => Outcome::Refused,
             _ => Outcome::Wrong,
         }
     }
 }
+
+fn is_front_of_lines(out: &[u8], want: &str) -> bool {
+    want.as_bytes().starts_with(out) && matches!(out, [] | [.., b'\n'])
+}
+
+const FIRST_ROW: &str = "andb_i: 24 aa: andb_i 2 0\n";
 
 /// There is a heap with memory for the first line and none for the second.
 #[derive(Clone, Copy)]
@@ -52,8 +58,8 @@ impl Grows for FirstRow {
         let mut out: Vec<u8> = Vec::new(self.0);
         let mut err: Vec<u8> = Vec::new(self.0);
         match (run(alloc, &[], &mut out, &mut err), out.as_slice()) {
-            (3, b"andb_i: 24 aa: andb_i 2 0\n") => Outcome::Made,
             (3, []) => Outcome::Refused,
+            (3, out) if out == FIRST_ROW.as_bytes() => Outcome::Made,
             _ => Outcome::Wrong,
         }
     }
@@ -68,13 +74,11 @@ impl Grows for Usage {
         let mut out: Vec<u8> = Vec::new(self.0);
         let mut err: Vec<u8> = Vec::new(self.0);
         let words = ["tail", "8", "13", "12", "3", "0", "127"];
-        match (
-            run(alloc, &words, &mut out, &mut err),
-            out.as_slice(),
-            err.as_slice(),
-        ) {
-            (2, [], b"usage\n") => Outcome::Made,
-            _ => Outcome::Wrong,
+        let status = run(alloc, &words, &mut out, &mut err);
+        if status == 2 && out.is_empty() && err.as_slice() == b"usage\n".as_slice() {
+            Outcome::Made
+        } else {
+            Outcome::Wrong
         }
     }
 }
