@@ -4,8 +4,8 @@ ghost use Rattle.std.specs.Prelude.{◌≡◌};
 ghost use Rattle.cax64_inst.specs.declared.Inst.TheVariants as inst;
 
 use crate::Inst;
-use cax64_register::Registers;
 use arith::{andb_i, mulxl_rvm, mulxq_rvm, shlb_m1, xchgb_rm};
+use cax64_register::Registers;
 
 impl<R: Registers> From<andb_i<R>> for Inst<R> {
     ghost from_gives = { λ i result. result ≡ inst.andb_i i };

@@ -5,7 +5,9 @@ ghost use Rattle.cax64_inst.specs.declared.Inst.TheVariants as inst;
 
 use crate::Inst;
 use cax64_register::Registers;
-use lock_a::{lock_addb_mr, lock_addl_mi, lock_addl_mi_sxb, lock_addl_mr, lock_addq_mi_sxl, lock_addw_mi};
+use lock_a::{
+    lock_addb_mr, lock_addl_mi, lock_addl_mi_sxb, lock_addl_mr, lock_addq_mi_sxl, lock_addw_mi,
+};
 
 impl<R: Registers> From<lock_addw_mi<R>> for Inst<R> {
     ghost from_gives = { λ i result. result ≡ inst.lock_addw_mi i };

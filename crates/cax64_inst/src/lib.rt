@@ -6,14 +6,16 @@ ghost use Rattle.std.specs.Prelude.{◌≡◌};
 ghost use Rattle.cax64_inst.specs.Inst.{row_of, operands_of, without_registers};
 
 use arith::{andb_i, mulxl_rvm, mulxq_rvm, shlb_m1, xchgb_rm};
-use jump::{callq_m, je_d32, jmp_d8, jmpq_m};
-use lock_a::{lock_addb_mr, lock_addl_mi, lock_addl_mi_sxb, lock_addl_mr, lock_addq_mi_sxl, lock_addw_mi};
-use lock_x::{lock_cmpxchg16b_m, lock_cmpxchgl_mr, lock_xaddl_mr};
-use nop::{nop_1b, nop_2b, nop_3b, nop_4b, nop_5b, nop_6b, nop_7b, nop_8b, nop_9b};
-use simd::{andps_a, cmpps_a, cmpss_a, vcmpps_b, vcvtpd2ps_a};
 use cax64_machine_code::row::Row;
 use cax64_operand::{Operand, Operands, RegisterVisitor, RowAndOperands};
 use cax64_register::Registers;
+use jump::{callq_m, je_d32, jmp_d8, jmpq_m};
+use lock_a::{
+    lock_addb_mr, lock_addl_mi, lock_addl_mi_sxb, lock_addl_mr, lock_addq_mi_sxl, lock_addw_mi,
+};
+use lock_x::{lock_cmpxchg16b_m, lock_cmpxchgl_mr, lock_xaddl_mr};
+use nop::{nop_1b, nop_2b, nop_3b, nop_4b, nop_5b, nop_6b, nop_7b, nop_8b, nop_9b};
+use simd::{andps_a, cmpps_a, cmpss_a, vcmpps_b, vcvtpd2ps_a};
 
 mod from_arith;
 mod from_jump;

@@ -1,12 +1,16 @@
-//! Texts, tails and lists where memory runs out: each growth is refused in turn, a larger heap each time,
-//! until all is made.
+//! Where memory runs out, or a writer refuses: each growth is refused in turn, a larger heap each time, until all is made;
+//! and what stands after a refusal is a beginning.
 #![tactic(auto)]
 
 #[cfg(test)]
+mod growth;
+#[cfg(test)]
 mod lists;
 #[cfg(test)]
-mod registers;
+mod program;
 #[cfg(test)]
-mod sinks;
+mod puts;
 #[cfg(test)]
-mod tails;
+mod texts;
+#[cfg(test)]
+mod writers;

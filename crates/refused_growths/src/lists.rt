@@ -1,66 +1,85 @@
-//! Lists of instructions: a list that is put whole is put, or nothing is.
+//! Calls that add all or nothing.
 
+use crate::growth::{Grows, Outcome, is_refused};
 use cax64_test_support::Numbers;
 use cranelift_assembler_x64::inst::{lock_addl_mr, nop_9b};
 use cranelift_assembler_x64::{
     Amode, AmodeOffsetPlusKnownOffset, CodeSink, Gpr, Inst, Instruction, Notice, Recorder,
     SinkError, TrapCode, encode_all_whole,
 };
-use linked_list_allocator::LocalHeap;
-use std::alloc::Allocator;
+use std::alloc::{AllocError, Allocator};
 use std::num::NonZeroU8;
-use std::process::Abort;
-use std::test::Fail;
+
+const CODE: TrapCode = TrapCode(NonZeroU8::MIN);
+
+const TRAPPING: Amode<u8> = Amode::ImmReg {
+    base: 0,
+    simm32: AmodeOffsetPlusKnownOffset::ZERO,
+    trap: Some(CODE),
+};
 
 const BYTES: [u8; 13] = [
     0x90, 0x66, 0x0F, 0x1F, 0x84, 0x00, 0x00, 0x00, 0x00, 0x00, 0xF0, 0x01, 0x08,
 ];
 
-/// Encodes a list whole, each instruction of which has to be encodable.
-fn put_all_whole<A: Allocator>(
-    rt: &impl Abort,
-    insts: &[Inst<Numbers>],
-    recorder: &mut Recorder<A>,
-) -> Result<(), SinkError> {
-    assert!(rt; insts.iter().all(|i| i.is_encodable(recorder)));
-    assert!(rt; insts.len() <= usize::MAX / 13);
-    encode_all_whole(insts, recorder)
-}
-
-/// A recorder over a heap of each size holds what it held before, until the heap is large enough for all of the list.
-#[test]
-fn a_list_is_put_whole_or_not_at_all(rt: HostRuntime) -> Result<(), Fail> {
-    let code = TrapCode(NonZeroU8::new(5).ok_or("no code")?);
-    let place = Amode::ImmReg {
-        base: 0,
-        simm32: AmodeOffsetPlusKnownOffset::ZERO,
-        trap: Some(code),
-    };
+fn put_whole<A: Allocator>(sink: &mut Recorder<A>) -> Result<(), SinkError> {
     let insts: [Inst<Numbers>; 2] = [
         nop_9b::new().into(),
-        lock_addl_mr::new(place, Gpr::new(1)).into(),
+        lock_addl_mr::new(TRAPPING, Gpr::new(1)).into(),
     ];
-    let mut refused = 0usize;
-    let mut whole = false;
-    for blocks in 2..24 {
-        let heap = LocalHeap::new(rt.alloc(), 16 * blocks)?;
-        let _first: Vec<u8, &LocalHeap> = Vec::with_capacity(&heap, 1)?;
-        let mut sink = Recorder::new(&heap);
+    if !insts.iter().all(|inst| inst.is_encodable(sink)) || insts.len() > usize::MAX / 13 {
+        return Ok(());
+    }
+    encode_all_whole(&insts, sink)
+}
+
+/// A list that is put whole, behind a byte.
+#[derive(Clone, Copy)]
+struct Whole;
+
+impl Grows for Whole {
+    fn run<A: Allocator + Copy>(&self, alloc: A) -> Outcome {
+        let mut sink = Recorder::new(alloc);
         if sink.put1(0x90).is_err() {
-            continue;
+            return Outcome::Refused;
         }
-        let result = put_all_whole(&rt, &insts, &mut sink);
-        whole = result == Ok(());
-        if whole {
-            assert_eq!(rt; sink.bytes(), BYTES.as_slice());
-            assert_eq!(rt; sink.notices(), [Notice::Trap(10, code)].as_slice());
-        } else {
-            assert_eq!(rt; result, Err(SinkError::NoMemory), "in {blocks} blocks");
-            assert_eq!(rt; sink.bytes(), &BYTES[..1], "in {blocks} blocks");
-            assert!(rt; sink.notices().is_empty());
-            refused = refused.saturating_add(1);
+        let told = [Notice::Trap(10, CODE)];
+        match (put_whole(&mut sink), sink.bytes(), sink.notices()) {
+            (Ok(()), bytes, notices) if bytes == BYTES.as_slice() && notices == told.as_slice() => {
+                Outcome::Made
+            }
+            (Err(SinkError::NoMemory), [0x90], []) => Outcome::Refused,
+            _ => Outcome::Wrong,
         }
     }
-    assert!(rt; whole && refused >= 2, "refused {refused} times");
+}
+
+/// Room for bytes and notices, behind two bytes and a notice.
+#[derive(Clone, Copy)]
+struct Reserve;
+
+impl Grows for Reserve {
+    fn run<A: Allocator + Copy>(&self, alloc: A) -> Outcome {
+        let mut sink = Recorder::new(alloc);
+        if sink.put2(0x0102).is_err() || sink.add_trap(CODE).is_err() {
+            return Outcome::Refused;
+        }
+        let told = [Notice::Trap(2, CODE)];
+        let result = sink.reserve(30, 10);
+        if sink.bytes() != [0x02, 0x01].as_slice() || sink.notices() != told.as_slice() {
+            return Outcome::Wrong;
+        }
+        match result {
+            Ok(()) => Outcome::Made,
+            Err(SinkError::NoMemory) => Outcome::Refused,
+            Err(SinkError::Full) => Outcome::Wrong,
+        }
+    }
+}
+
+#[test]
+fn a_refusal_adds_nothing(rt: HostRuntime) -> Result<(), AllocError> {
+    assert!(rt; is_refused(rt.alloc(), &Whole, 3)?);
+    assert!(rt; is_refused(rt.alloc(), &Reserve, 4)?);
     Ok(())
 }

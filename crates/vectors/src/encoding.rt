@@ -1,8 +1,9 @@
 //! Single instructions.
 
-use crate::columns::{write_calls, write_fault};
+use crate::columns::{write_bytes, write_calls, write_fault, write_notices};
 use crate::fields::{Fault, Fields, parsed};
 use crate::instruction::instructions_of;
+use crate::reading::note_front;
 use cax64_test_support::{CallRecorder, Numbers};
 use cranelift_assembler_x64::reader::read_inst;
 use cranelift_assembler_x64::{Inst, Instruction, Recorder, Row};
@@ -43,23 +44,20 @@ fn text_of(alloc: Global, fields: &mut Fields<'_>) -> Result<String, Fault> {
     Ok(format!(in alloc; "{name} {values}")?)
 }
 
-/// The instruction has to be encodable.
-fn write_encoding(
-    came: &mut String,
+/// Encodes a list of one instruction, which has to be encodable. Answers the length that it is said to have, and its row.
+fn encode_one(
     insts: &[Inst<Numbers>],
-    mut sink: CallRecorder<Global>,
-) -> Result<(), Fault> {
+    sink: &mut CallRecorder<Global>,
+) -> Result<(u8, Row), Fault> {
     let [inst] = insts else {
         return Err(Fault::Malformed);
     };
-    if !inst.is_encodable(&sink) {
+    if !inst.is_encodable(sink) {
         return Err(Fault::Malformed);
     }
-    let length = inst.encoded_len(&sink);
-    inst.encode(&mut sink).map_err(|_| Fault::NoMemory)?;
-    write_calls(came, &sink)?;
-    write!(came, "\t{length}\t")?;
-    write_row(came, sink.bytes(), inst.row())
+    let length = inst.encoded_len(sink);
+    inst.encode(sink).map_err(|_| Fault::NoMemory)?;
+    Ok((length, inst.row()))
 }
 
 pub(crate) fn answer_instruction(
@@ -68,8 +66,31 @@ pub(crate) fn answer_instruction(
     came: &mut String,
 ) -> Result<(), Fault> {
     let text = text_of(alloc, fields)?;
-    let sink = CallRecorder::new(alloc, recorder_of(alloc, fields.text()?)?);
-    write_encoding(came, &instructions_of(alloc, text.as_str())?, sink)
+    let mut sink = CallRecorder::new(alloc, recorder_of(alloc, fields.text()?)?);
+    let (length, row) = encode_one(&instructions_of(alloc, text.as_str())?, &mut sink)?;
+    write_calls(came, &sink)?;
+    write!(came, "\t{length}\t")?;
+    write_row(came, sink.bytes(), row)?;
+    note_front(came, sink.bytes())
+}
+
+/// Bytes and notices, where the length and the row that is read are the right ones.
+pub(crate) fn answer_worked(
+    alloc: Global,
+    fields: &mut Fields<'_>,
+    came: &mut String,
+) -> Result<(), Fault> {
+    let text = text_of(alloc, fields)?;
+    let mut sink = CallRecorder::new(alloc, recorder_of(alloc, fields.text()?)?);
+    let (length, row) = encode_one(&instructions_of(alloc, text.as_str())?, &mut sink)?;
+    write_bytes(came, sink.bytes())?;
+    came.push('\t')?;
+    write_notices(came, sink.notices())?;
+    let read = read_inst(sink.bytes()).map(|reading| (reading.length, reading.row));
+    if read != Some((length, row)) || usize::from(length) != sink.bytes().len() {
+        came.push_str(" but length or row are others")?;
+    }
+    note_front(came, sink.bytes())
 }
 
 fn write_first_fault(

@@ -5,7 +5,9 @@ use crate::encoding::recorder_of;
 use crate::fields::{Fault, Fields, parsed};
 use crate::instruction::instructions_of;
 use cax64_test_support::{Numbers, RefusingSink};
-use cranelift_assembler_x64::{CodeSink, FixedSink, Inst, Instruction, Recorder, encode_all};
+use cranelift_assembler_x64::{
+    CodeSink, FixedSink, Inst, Instruction, Recorder, encode_all, encode_all_whole,
+};
 use std::alloc::Global;
 
 /// The size of the fixed sink.
@@ -58,6 +60,23 @@ fn write_refused_call(
     write_notices(came, recorder.notices())
 }
 
+/// A recorder that takes the list whole or not at all.
+fn write_whole(
+    came: &mut String,
+    insts: &[Inst<Numbers>],
+    mut recorder: Recorder<Global>,
+) -> Result<(), Fault> {
+    let is_encodable = insts.iter().all(|inst| inst.is_encodable(&recorder));
+    if !is_encodable || insts.len() > usize::MAX / 13 {
+        return Err(Fault::Malformed);
+    }
+    encode_all_whole(insts, &mut recorder).map_err(|_| Fault::NoMemory)?;
+    came.push_str("ok\t")?;
+    write_bytes(came, recorder.bytes())?;
+    came.push('\t')?;
+    write_notices(came, recorder.notices())
+}
+
 fn write_refusal(
     came: &mut String,
     insts: &[Inst<Numbers>],
@@ -68,6 +87,7 @@ fn write_refusal(
     match limit {
         "room" if number <= SIZE => write_room(came, insts, number),
         "call" if number > 0 => write_refused_call(came, insts, recorder, number - 1),
+        "whole" => write_whole(came, insts, recorder),
         _ => Err(Fault::Malformed),
     }
 }

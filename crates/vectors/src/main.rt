@@ -9,8 +9,10 @@ mod address;
 mod columns;
 mod encoding;
 mod fields;
+mod immediates;
 mod instruction;
 mod lists;
+mod names;
 mod prefixes;
 mod program;
 mod reading;
@@ -19,7 +21,7 @@ mod tails;
 mod values;
 
 use crate::fields::{Fault, Fields};
-use crate::report::{Report, report_of};
+use crate::report::{Difference, Report, report_of};
 use std::alloc::Global;
 use std::io::ErrorKind;
 use std::process::ExitCode;
@@ -30,27 +32,37 @@ use std::{fs, io};
 pub enum Kind {
     Tails,
     Relative,
+    Operands,
     Disp,
     Rex,
     Vex,
     Evex,
     Apx,
+    Immediates,
+    Ranges,
+    Names,
     Instructions,
+    Worked,
     Faults,
     Refusals,
     Reader,
     Program,
 }
 
-const KINDS: [Kind; 12] = [
+const KINDS: [Kind; 17] = [
     Kind::Tails,
     Kind::Relative,
+    Kind::Operands,
     Kind::Disp,
     Kind::Rex,
     Kind::Vex,
     Kind::Evex,
     Kind::Apx,
+    Kind::Immediates,
+    Kind::Ranges,
+    Kind::Names,
     Kind::Instructions,
+    Kind::Worked,
     Kind::Faults,
     Kind::Refusals,
     Kind::Reader,
@@ -65,18 +77,26 @@ const UNANSWERED_OF_INSTRUCTIONS: [&str; 9] = [
 /// The columns of `faults` that nothing answers yet.
 const UNANSWERED_OF_FAULTS: [&str; 1] = ["visits"];
 
+/// The columns of `immediates` that nothing answers yet.
+const UNANSWERED_OF_IMMEDIATES: [&str; 2] = ["extension", "text"];
+
 impl Kind {
     /// The file's name before `.tsv`.
     fn name(self) -> &'static str {
         match self {
             Kind::Tails => "tails",
             Kind::Relative => "relative",
+            Kind::Operands => "operands",
             Kind::Disp => "disp",
             Kind::Rex => "rex",
             Kind::Vex => "vex",
             Kind::Evex => "evex",
             Kind::Apx => "apx",
+            Kind::Immediates => "immediates",
+            Kind::Ranges => "ranges",
+            Kind::Names => "names",
             Kind::Instructions => "instructions",
+            Kind::Worked => "worked_instructions",
             Kind::Faults => "faults",
             Kind::Refusals => "refusals",
             Kind::Reader => "reader",
@@ -84,12 +104,33 @@ impl Kind {
         }
     }
 
+    /// Whether there is a second file, with the rows by which the machine code was specified and what stands at the ends
+    /// of ranges. Its name begins with `worked_`.
+    fn has_worked_rows(self) -> bool {
+        !matches!(
+            self,
+            Kind::Operands | Kind::Ranges | Kind::Names | Kind::Instructions | Kind::Worked
+        )
+    }
+
     /// The columns that nothing answers yet. They are left out of each line before it is read.
     fn unanswered(self) -> &'static [&'static str] {
         match self {
             Kind::Instructions => &UNANSWERED_OF_INSTRUCTIONS,
             Kind::Faults => &UNANSWERED_OF_FAULTS,
+            Kind::Immediates => &UNANSWERED_OF_IMMEDIATES,
             _ => &[],
+        }
+    }
+
+    /// How many fronts, shorter than the instruction and read as none, stand behind a line that came out as wanted.
+    pub(crate) fn fronts(self, came: &str) -> usize {
+        match self {
+            Kind::Instructions | Kind::Worked => {
+                let bytes = came.split('\t').next();
+                bytes.map_or(0, |pairs| pairs.len() / 2)
+            }
+            _ => 0,
         }
     }
 
@@ -103,12 +144,17 @@ impl Kind {
         match self {
             Kind::Tails => tails::answer_tail(fields, came),
             Kind::Relative => tails::answer_relative(alloc, fields, came),
+            Kind::Operands => tails::answer_operand(alloc, fields, came),
             Kind::Disp => tails::answer_disp(fields, came),
             Kind::Rex => prefixes::answer_rex(fields, came),
             Kind::Vex => prefixes::answer_vex(fields, came),
             Kind::Evex => prefixes::answer_evex(fields, came),
             Kind::Apx => prefixes::answer_apx(fields, came),
+            Kind::Immediates => immediates::answer_immediate(fields, came),
+            Kind::Ranges => immediates::answer_range(fields, came),
+            Kind::Names => names::answer_name(fields, came),
             Kind::Instructions => encoding::answer_instruction(alloc, fields, came),
+            Kind::Worked => encoding::answer_worked(alloc, fields, came),
             Kind::Faults => encoding::answer_fault(alloc, fields, came),
             Kind::Refusals => lists::answer_refusal(alloc, fields, came),
             Kind::Reader => reading::answer_reading(alloc, fields, came),
@@ -117,42 +163,55 @@ impl Kind {
     }
 }
 
-fn print_report(rt: &impl Print, kind: Kind, report: &Report) -> io::Result<()> {
-    let name = kind.name();
-    let lines = report.lines;
-    let equal = report.equal;
-    print!(rt; "{name}: {lines} lines, {equal} equal")?;
-    if report.passed_over > 0 {
-        let passed_over = report.passed_over;
-        print!(rt; ", {passed_over} passed over")?;
-    }
-    if report.malformed > 0 {
-        let malformed = report.malformed;
-        print!(rt; ", {malformed} malformed")?;
-    }
-    let mut separator = ", not compared:";
+fn print_left_out(rt: &impl Print, kind: Kind) -> io::Result<()> {
+    print!(rt; ", not compared:")?;
     for column in kind.unanswered() {
-        print!(rt; "{separator} {column}")?;
-        separator = "";
+        print!(rt; " {column}")?;
+    }
+    Ok(())
+}
+
+fn print_count(rt: &impl Print, count: usize, what: &str) -> io::Result<()> {
+    if count > 0 {
+        print!(rt; ", {count} {what}")?;
+    }
+    Ok(())
+}
+
+fn print_difference(rt: &impl Print, difference: &Difference) -> io::Result<()> {
+    let line = difference.line;
+    let wanted = difference.wanted.as_str();
+    let came = difference.came.as_str();
+    println!(rt; "  line {line} wanted {wanted}")?;
+    println!(rt; "  line {line} came   {came}")
+}
+
+fn print_report(rt: &impl Print, name: &str, kind: Kind, report: &Report) -> io::Result<()> {
+    let lines = report.lines;
+    print!(rt; "{name}: {lines} lines, ")?;
+    let equal = report.equal;
+    print!(rt; "{equal} equal")?;
+    print_count(rt, report.passed_over, "passed over")?;
+    print_count(rt, report.malformed, "malformed")?;
+    print_count(rt, report.fronts, "shorter fronts read as none")?;
+    if report.leaves_out {
+        print_left_out(rt, kind)?;
     }
     println!(rt; "")?;
     if let Some(line) = report.first_malformed {
         println!(rt; "  line {line} of {name}.tsv is malformed")?;
     }
-    if let Some(difference) = &report.first_difference {
-        let line = difference.line;
-        let wanted = difference.wanted.as_str();
-        let came = difference.came.as_str();
-        println!(rt; "  line {line} wanted {wanted}")?;
-        println!(rt; "  line {line} came   {came}")?;
+    match &report.first_difference {
+        Some(difference) => print_difference(rt, difference),
+        None => Ok(()),
     }
-    Ok(())
 }
 
 /// Compares a file and prints what it came to. Answers whether all lines are equal, or the file is absent.
-fn run_file(rt: &HostRuntime, kind: Kind) -> io::Result<bool> {
-    let name = kind.name();
-    let path = format!(in rt.alloc(); "{name}.tsv")?;
+fn run_file(rt: &HostRuntime, front: &str, kind: Kind) -> io::Result<bool> {
+    let end = kind.name();
+    let name = format!(in rt.alloc(); "{front}{end}")?;
+    let path = format!(in rt.alloc(); "{front}{end}.tsv")?;
     let text = match fs::read_to_string(rt, path.as_str()) {
         Ok(text) => text,
         Err(error) if error.kind() == ErrorKind::NotFound => {
@@ -162,14 +221,17 @@ fn run_file(rt: &HostRuntime, kind: Kind) -> io::Result<bool> {
         Err(error) => return Err(error),
     };
     let report = report_of(rt.alloc(), kind, text.as_str())?;
-    print_report(rt, kind, &report)?;
+    print_report(rt, name.as_str(), kind, &report)?;
     Ok(report.is_clean())
 }
 
 fn main(rt: HostRuntime) -> io::Result<ExitCode> {
     let mut clean = true;
     for kind in KINDS {
-        clean = run_file(&rt, kind)? && clean;
+        clean = run_file(&rt, "", kind)? && clean;
+        if kind.has_worked_rows() {
+            clean = run_file(&rt, "worked_", kind)? && clean;
+        }
     }
     Ok(if clean {
         ExitCode::SUCCESS

@@ -97,6 +97,24 @@ fn write_reading(came: &mut String, reading: &Reading) -> Result<(), Fault> {
     Ok(())
 }
 
+/// The length of a proper front that is read as an instruction, if there is one.
+fn shorter_reading(bytes: &[u8]) -> Option<usize> {
+    for length in 0..bytes.len() {
+        if read_inst(&bytes[..length]).is_some() {
+            return Some(length);
+        }
+    }
+    None
+}
+
+/// Notes a front of an instruction's bytes that is read as one.
+pub(crate) fn note_front(came: &mut String, bytes: &[u8]) -> Result<(), Fault> {
+    if let Some(length) = shorter_reading(bytes) {
+        write!(came, " but the first {length} bytes are read")?;
+    }
+    Ok(())
+}
+
 pub(crate) fn answer_reading(
     alloc: Global,
     fields: &mut Fields<'_>,
@@ -106,7 +124,11 @@ pub(crate) fn answer_reading(
     // how the bytes were made
     let _ = fields.text()?;
     match read_inst(&bytes) {
-        Some(reading) => write_reading(came, &reading),
+        Some(reading) => {
+            write_reading(came, &reading)?;
+            let own = bytes.get(..usize::from(reading.length));
+            note_front(came, own.ok_or(Fault::Malformed)?)
+        }
         None => {
             came.push_str("none\t-\t-\t-\t-\t-\t-")?;
             Ok(())

@@ -18,8 +18,12 @@ pub struct Difference {
 pub struct Report {
     pub lines: usize,
     pub equal: usize,
+    /// Fronts of instructions that are read as none, in the lines that are equal.
+    pub fronts: usize,
     pub passed_over: usize,
     pub malformed: usize,
+    /// Whether it has columns that are left out.
+    pub leaves_out: bool,
     pub first_malformed: Option<usize>,
     pub first_difference: Option<Difference>,
 }
@@ -29,8 +33,10 @@ impl Report {
         Report {
             lines: 0,
             equal: 0,
+            fronts: 0,
             passed_over: 0,
             malformed: 0,
+            leaves_out: false,
             first_malformed: None,
             first_difference: None,
         }
@@ -41,10 +47,11 @@ impl Report {
         self.first_malformed.is_none() && self.first_difference.is_none()
     }
 
-    fn compare(&mut self, line: usize, answer: Answer) {
+    fn compare(&mut self, kind: Kind, line: usize, answer: Answer) {
         let Answer { wanted, came } = answer;
         if came == wanted {
             self.equal = self.equal.saturating_add(1);
+            self.fronts = self.fronts.saturating_add(kind.fronts(came.as_str()));
         } else if self.first_difference.is_none() {
             self.first_difference = Some(Difference { line, wanted, came });
         }
@@ -97,12 +104,16 @@ pub(crate) fn report_of(alloc: Global, kind: Kind, text: &str) -> Result<Report,
     let mut report = Report::new();
     let (header, cases) = text.split_once('\n').unwrap_or((text, ""));
     let names = header.strip_prefix('#').unwrap_or(header);
+    report.leaves_out = kind
+        .unanswered()
+        .iter()
+        .any(|left| names.split('\t').any(|name| name == *left));
     let mut number = 1usize;
     for line in cases.lines() {
         number = number.saturating_add(1);
         report.lines = report.lines.saturating_add(1);
         match answer_of(alloc, kind, names, line) {
-            Ok(answer) => report.compare(number, answer),
+            Ok(answer) => report.compare(kind, number, answer),
             Err(Fault::Malformed) => report.add_malformed(number),
             Err(Fault::PassedOver) => report.passed_over = report.passed_over.saturating_add(1),
             Err(Fault::NoMemory) => return Err(AllocError),

@@ -1,9 +1,10 @@
 //! ModR/M, SIB and displacement.
 
-use crate::address::{Parts, target_of};
-use crate::columns::{write_bytes, write_calls};
-use crate::fields::{Fault, Fields};
-use cax64_test_support::CallRecorder;
+use crate::address::{Parts, amode_of, target_of};
+use crate::columns::{write_bytes, write_calls, write_notices};
+use crate::encoding::recorder_of;
+use crate::fields::{Fault, Fields, parsed};
+use cax64_test_support::{CallRecorder, RefusingSink};
 use cranelift_assembler_x64::rex::Disp;
 use cranelift_assembler_x64::{Amode, FixedSink, Recorder, emit_modrm_sib_disp};
 use std::alloc::Global;
@@ -42,6 +43,39 @@ pub(crate) fn answer_relative(
         |_| Fault::NoMemory,
     )?;
     write_calls(came, &sink)
+}
+
+/// How many calls a sink takes.
+fn calls_of(text: &str) -> Result<usize, Fault> {
+    match text {
+        "-" => Ok(usize::MAX),
+        calls => parsed(calls),
+    }
+}
+
+/// Any address, where it is addressable, into a sink that takes so many calls: what stands in it afterwards.
+pub(crate) fn answer_operand(
+    alloc: Global,
+    fields: &mut Fields<'_>,
+    came: &mut String,
+) -> Result<(), Fault> {
+    let enc_g = fields.number(255)?;
+    let address = amode_of(fields.text()?)?;
+    let bytes_at_end = fields.number(255)?;
+    let factor = fields.factor()?;
+    let recorder = recorder_of(alloc, fields.text()?)?;
+    let mut sink = RefusingSink::new(recorder, calls_of(fields.text()?)?);
+    if !address.is_addressable(&sink) {
+        came.push_str("-\t-\t-")?;
+        return Ok(());
+    }
+    let displacement = address.displacement(&sink);
+    let _ = emit_modrm_sib_disp(&mut sink, enc_g, &address, bytes_at_end, factor);
+    write!(came, "{displacement}\t")?;
+    let recorder = sink.into_recorder();
+    write_bytes(came, recorder.bytes())?;
+    came.push('\t')?;
+    write_notices(came, recorder.notices())
 }
 
 fn write_class(came: &mut String, class: Disp) -> Result<(), Fault> {

@@ -1,15 +1,20 @@
-//! Worked rows: instructions, and the bytes and notices that a sink has afterwards.
+//! What has to be Rust of the worked rows: the example, calls that need a type of their own, and each generic function at
+//! a concrete type. The rows themselves are lines of the files that `vectors` reads.
 #![tactic(auto)]
 
 #[cfg(test)]
-mod faults;
+mod addresses;
 #[cfg(test)]
-mod instructions;
+mod families;
 #[cfg(test)]
-mod lists;
+mod fixed_sinks;
 #[cfg(test)]
-mod operands;
+mod patched;
 #[cfg(test)]
 mod readme;
 #[cfg(test)]
-mod single;
+mod registers;
+#[cfg(test)]
+mod sinks;
+#[cfg(test)]
+mod table;

@@ -1,0 +1,70 @@
+//! Immediates.
+
+use crate::columns::write_bytes;
+use crate::fields::{Fault, Fields, parsed};
+use cranelift_assembler_x64::{
+    FixedSink, Imm8, Imm16, Imm32, Imm64, OutOfRange, Simm8, Simm16, Simm32, SinkError,
+};
+use std::str::FromStr;
+
+/// The immediate of a number, made and cloned through the traits.
+fn immediate<N: FromStr, T: From<N> + Clone>(text: &str) -> Result<T, Fault>
+where
+    <N as FromStr>::Err: Drop,
+{
+    let made = T::from(parsed::<N>(text)?);
+    made.clone().map_err(|_| Fault::NoMemory)
+}
+
+/// Sixty-four bits are the only ones whose value nothing else asks for.
+fn immediate_of_64_bits(text: &str) -> Result<Imm64, Fault> {
+    Ok(Imm64::new(immediate::<u64, Imm64>(text)?.value()))
+}
+
+fn put(kind: &str, text: &str, sink: &mut FixedSink<8>) -> Result<Result<(), SinkError>, Fault> {
+    Ok(match kind {
+        "Imm8" => immediate::<u8, Imm8>(text)?.encode(sink),
+        "Imm16" => immediate::<u16, Imm16>(text)?.encode(sink),
+        "Imm32" => immediate::<u32, Imm32>(text)?.encode(sink),
+        "Imm64" => immediate_of_64_bits(text)?.encode(sink),
+        "Simm8" => immediate::<i8, Simm8>(text)?.encode(sink),
+        "Simm16" => immediate::<i16, Simm16>(text)?.encode(sink),
+        "Simm32" => immediate::<i32, Simm32>(text)?.encode(sink),
+        _ => return Err(Fault::Malformed),
+    })
+}
+
+pub(crate) fn answer_immediate(fields: &mut Fields<'_>, came: &mut String) -> Result<(), Fault> {
+    let kind = fields.text()?;
+    let value = fields.text()?;
+    let mut sink = FixedSink::new();
+    if put(kind, value, &mut sink)? != Ok(()) {
+        came.push_str("refused ")?;
+    }
+    write_bytes(came, sink.bytes())
+}
+
+/// The immediate of a number that may be out of its range.
+fn tried<T: TryFrom<i32>>(number: i32) -> Result<T, T::Error> {
+    T::try_from(number)
+}
+
+fn value_of(kind: &str, number: i32) -> Result<Result<i64, OutOfRange>, Fault> {
+    Ok(match kind {
+        "Imm8" => tried::<Imm8>(number).map(|imm| imm.value() as i64),
+        "Imm16" => tried::<Imm16>(number).map(|imm| imm.value() as i64),
+        "Imm32" => Ok(Imm32::from(number).value() as i64),
+        "Simm8" => tried::<Simm8>(number).map(|imm| imm.value() as i64),
+        "Simm16" => tried::<Simm16>(number).map(|imm| imm.value() as i64),
+        _ => return Err(Fault::Malformed),
+    })
+}
+
+pub(crate) fn answer_range(fields: &mut Fields<'_>, came: &mut String) -> Result<(), Fault> {
+    let kind = fields.text()?;
+    match value_of(kind, fields.signed()?)? {
+        Ok(value) => write!(came, "{value}")?,
+        Err(OutOfRange) => came.push('-')?,
+    }
+    Ok(())
+}

@@ -1,5 +1,0 @@
-//! Each prefix, put into a sink.
-
-mod evex;
-mod rex;
-mod vex;
