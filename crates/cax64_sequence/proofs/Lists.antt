@@ -292,7 +292,8 @@ stopped_bytes meant xs i x old mid new h e before last =
     let all_len : total_len (take (i + 1) ms) ≡ total_len (map meant (take i xs)) + len (meant x) = ap total_len one_more ∙ len_more (map meant (take i xs)) (meant x) in
     let whole : take (length ms) ms ≡ ms = take-length ms in
     let within : i + 1 ≤ length ms = omega (arith, length-map xs meant) in
-    let fewer : total_len (take (i + 1) ms) ≤ total_len ms = rw whole at len_of_fewer ms (i + 1) (length ms) within in
+    let fewer_than : total_len (take (i + 1) ms) ≤ total_len (take (length ms) ms) = len_of_fewer ms (i + 1) (length ms) within in
+    let fewer : total_len (take (i + 1) ms) ≤ total_len ms = rw whole at fewer_than in
     falls_less old new (total_len (take (i + 1) ms)) (total_len ms) fewer (falls_on old mid new (total_len (map meant (take i xs))) (len (meant x)) _ all_len before last)
 
 pub stopped_notices : {A M : Type 0} (meant : A → Meant M) (xs : List A) (i : ℕ) (x : A) (old mid new : Room) → i < length xs → x ≡ get_or xs i x → FallsBy old mid (total_notices (map meant (take i xs))) → FallsBy mid new (notice_count (meant x)) → FallsBy old new (total_notices (map meant xs))
@@ -302,8 +303,15 @@ stopped_notices meant xs i x old mid new h e before last =
     let all_notices : total_notices (take (i + 1) ms) ≡ total_notices (map meant (take i xs)) + notice_count (meant x) = ap total_notices one_more ∙ notice_count_more (map meant (take i xs)) (meant x) in
     let whole : take (length ms) ms ≡ ms = take-length ms in
     let within : i + 1 ≤ length ms = omega (arith, length-map xs meant) in
-    let fewer : total_notices (take (i + 1) ms) ≤ total_notices ms = rw whole at notices_of_fewer ms (i + 1) (length ms) within in
+    let fewer_than : total_notices (take (i + 1) ms) ≤ total_notices (take (length ms) ms) = notices_of_fewer ms (i + 1) (length ms) within in
+    let fewer : total_notices (take (i + 1) ms) ≤ total_notices ms = rw whole at fewer_than in
     falls_less old new (total_notices (take (i + 1) ms)) (total_notices ms) fewer (falls_on old mid new (total_notices (map meant (take i xs))) (notice_count (meant x)) _ all_notices before last)
+
+-- at the end all has been taken
+pub all_but_none : {A : Type 0} (xs : List A) (i : ℕ) → length xs ≤ i → i ≤ length xs → take i xs ≡ xs
+all_but_none xs i most least =
+    let all : i ≡ length xs = omega arith in
+    ap (λ (n : ℕ). take n xs) all ∙ take-length xs
 
 -- a list that stopped at an instruction
 pub leaves_at : {A M : Type 0} (meant : A → Meant M) (xs : List A) (i : ℕ) (x : A) (s u t : State) → i < length xs → x ≡ get_or xs i x → AddsAll (map meant (take i xs)) s u → Keeps s u → FallsBy s.byte_room u.byte_room (total_len (map meant (take i xs))) → FallsBy s.notice_room u.notice_room (total_notices (map meant (take i xs))) → LeavesInstruction (meant x) u t → LeavesAll (map meant xs) i s t

@@ -5,7 +5,7 @@ use Rattle.cax64_encoder.specs.Notices.{notice_count}
 use Rattle.cax64_sequence.specs.List.{total_len, total_notices}
 use Rattle.cax64_sink.specs.Room.{HasRoom, FallsBy}
 use Rattle.cax64_encoder.proofs.Instructions.{one_notice}
-use Rattle.cax64_sequence.proofs.Lists.{adds_none, adds_more, map_more, len_more, notice_count_more, keeps_on, keeps_self, falls_on, falls_zero, room_left, err_is_no_ok, adds_in_front, refused_late, stopped_bytes, stopped_notices, leaves_at}
+use Rattle.cax64_sequence.proofs.Lists.{adds_none, adds_more, map_more, len_more, notice_count_more, keeps_on, keeps_self, falls_on, falls_zero, room_left, err_is_no_ok, adds_in_front, all_but_none, refused_late, stopped_bytes, stopped_notices, leaves_at}
 use Rattle.cax64_sequence.proofs.sequence.encode_each.Goals as goal
 
 pub loop-whole-init : goal.loop-whole-init
@@ -20,7 +20,13 @@ returns-in-Err-clause-front g c =
     record { rest = held.rest ++ last.rest; whole = sym (append_assoc _ held.rest last.rest) ∙ ap (λ (x : List ℕ). x ++ last.rest) held.whole ∙ last.whole }
 
 pub returns-clause-front : goal.returns-clause-front
-returns-clause-front g c = ?
+returns-clause-front g c = adds_in_front _ _ _ c.loop-whole.invariant.adds
+
+pub returns-clause-byte_room : goal.returns-clause-byte_room
+returns-clause-byte_room g c = rw (all_but_none c.args.insts.now c.loop-whole.whole c.loop-whole-test.false c.loop-whole.auto.whole-end) at c.loop-whole.invariant.byte_room
+
+pub returns-clause-notice_room : goal.returns-clause-notice_room
+returns-clause-notice_room g c = rw (all_but_none c.args.insts.now c.loop-whole.whole c.loop-whole-test.false c.loop-whole.auto.whole-end) at c.loop-whole.invariant.notice_room
 
 pub returns-in-Err-clause-leaves : goal.returns-in-Err-clause-leaves
 returns-in-Err-clause-leaves g c =
