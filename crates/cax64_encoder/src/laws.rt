@@ -1,9 +1,10 @@
 //! Laws of the items here. The functions do no more than the call that they speak of.
 
-ghost use Rattle.std.specs.Prelude.{◌≡◌, ◌≤◌, ◌-◌, ◌↔◌, IsTrue, IsOk, OnOk, OnErr, IfErr, length};
+ghost use Rattle.std.specs.Prelude.{◌≡◌, ◌≤◌, ◌-◌, ◌↔◌, true, IsTrue, IsOk, OnOk, OnErr, IfErr, length};
 ghost use Rattle.cax64_encoder.specs.Instruction.{can_encode_in, len_in, Adds, Leaves};
 ghost use Rattle.cax64_sink.specs.FixedSink.{fixed_sink_state};
 
+use crate::fault::Fault;
 use crate::instruction::Instruction;
 use cax64_sink::{FixedSink, SinkError};
 
@@ -20,3 +21,8 @@ pub fn encode_to_fixed_sink<I: Instruction, const N: usize>(
 {
     inst.encode(sink)
 }
+
+/// Faults compare equal where they are equal, and nowhere else. It does nothing: its clause is the law.
+pub fn laws_of_equality()
+    ensures { (a b : Fault) → (⟦<Fault as PartialEq>⟧.eq a b ≡ true) ↔ (a ≡ b) }
+{}

@@ -1,1 +1,2 @@
+-- What the clauses of public functions say.
 pub mod List

@@ -1,6 +1,6 @@
 //! Laws of the items here. The functions do no more than the call that they speak of.
 
-ghost use Rattle.std.specs.Prelude.{◌≡◌, ◌≤◌, ◌-◌, ◌↔◌, ℕ, IsTrue, All, IsOk, OnOk, IfErr, take, length, List, ◌∷◌};
+ghost use Rattle.std.specs.Prelude.{◌≡◌, ◌≤◌, ◌-◌, ◌↔◌, ℕ, true, IsTrue, All, IsOk, OnOk, IfErr, take, length, List, ◌∷◌};
 ghost use Rattle.cax64_encoder.specs.Instruction.{can_encode_in};
 ghost use Rattle.cax64_sequence.specs.List.{AddsList, LeavesList, FirstReads, meants, total_len, list_len};
 ghost use Rattle.cax64_sink.specs.FixedSink.{fixed_sink_state};
@@ -33,4 +33,9 @@ pub fn encode_all_to_fixed_sink<R: Registers, const N: usize>(
 /// others: so a list is read back one by one.
 pub fn first_of_a_list()
     ensures { (meant : Parts) (later : List Parts) (b : List ℕ) → ReadsAllAs (meant ∷ later) b → FirstReads meant later b }
+{}
+
+/// Refusals of lists compare equal where they are equal, and nowhere else. It does nothing: its clause is the law.
+pub fn laws_of_equality()
+    ensures { (a b : Refused) → (⟦<Refused as PartialEq>⟧.eq a b ≡ true) ↔ (a ≡ b) }
 {}
