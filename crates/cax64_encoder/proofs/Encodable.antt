@@ -1,5 +1,5 @@
-use Rattle.std.proofs.Common.{◌≡◌, ℕ, Bool, true, false, refl, ◌∙◌, ap, sym, Option, Some, None, List, [], ◌∷◌, length, ℤ}
-use Rattle.std.specs.Prelude.{◌&&◌, ◌↔◌, IsTrue, is_none, is_some, not}
+use Rattle.std.proofs.Common.{◌≡◌, ℕ, Bool, true, false, refl, ◌∙◌, ap, Option, Some, None, List, length, ℤ}
+use Rattle.std.specs.Prelude.{◌↔◌, IsTrue, is_some, not}
 use Rattle.std.proofs.lemmas.Bool.{and_parts}
 use Rattle.cax64_machine_code.specs.Len.{len_of}
 use Rattle.cax64_machine_code.specs.Rows.{line_of}
@@ -16,7 +16,7 @@ use Rattle.cax64_sink.specs.Call.{Action}
 use Rattle.cax64_encoder.specs.Encodes.{EncodesParts, EncodesAs, form_parts}
 use Rattle.cax64_encoder.specs.Fault.{all_met, late_offset_fits, late_fault, first_unmet, first_fault, is_encodable, fault_of_meant}
 use Rattle.cax64_encoder.specs.Form.{form_of, fits}
-use Rattle.cax64_encoder.specs.Meant.{Meant, meant_of, nop_or, operands_meant, place_in}
+use Rattle.cax64_encoder.specs.Meant.{meant_of, nop_or, operands_meant, place_in}
 use Rattle.cax64_encoder.specs.Notices.{memory_notices, notice_count}
 use Rattle.cax64_encoder.specs.Place.{memory_in, displacement_in}
 use Rattle.cax64_encoder.specs.Real.{is_absent_or_real, place_is_real, form_is_real, place_is_addressable}

@@ -1,5 +1,5 @@
-use Rattle.std.proofs.Common.{◌≡◌, ℕ, suc, arith, refl, ◌∙◌, ap, Bool, true, false, Option, Some, None, List, [], ◌∷◌, length}
-use Rattle.std.specs.Prelude.{◌==◌, ◌&&◌, nat_le}
+use Rattle.std.proofs.Common.{◌≡◌, ℕ, suc, arith, refl, ◌∙◌, ap, Bool, true, false, None, List, [], ◌∷◌, length}
+use Rattle.std.specs.Prelude.{◌==◌, nat_le}
 use Rattle.std.proofs.lemmas.Bool.{and_parts}
 use Rattle.std.proofs.lemmas.Bool.Decides.{nat_tests}
 use Rattle.cax64_address.specs.declared.operand.GprMem.{GprMem}
@@ -24,7 +24,7 @@ use Rattle.cax64_operand.specs.declared.operand.Operand.TheVariants as operand
 use Rattle.cax64_encoder.specs.Form.{with_role, with_roles, form_of, fits, tail_fits, reg_fits, place_fits, is_no_place, vvvv_fits}
 use Rattle.cax64_encoder.specs.Meant.{numbers_in, place_in, imm_in, first, second}
 use Rattle.cax64_encoder.specs.Place.{gpr_mem_place, xmm_mem_place}
-use Rattle.cax64_encoder.specs.Role.{role_of, roles_of}
+use Rattle.cax64_encoder.specs.Role.{roles_of}
 use Rattle.cax64_encoder.specs.declared.form.Form.{Form}
 use Rattle.cax64_encoder.specs.declared.number.Number.{Number}
 use Rattle.cax64_encoder.specs.declared.role.PlaceOperand.{PlaceOperand}

@@ -1,5 +1,5 @@
-use Rattle.std.proofs.Common.{◌≡◌, ℕ, Bool, true, false, refl, Option, Some, None, List, [], ◌∷◌, ℤ}
-use Rattle.std.specs.Prelude.{◌&&◌, ◌==◌, not, nat_lt, if◌then◌else◌}
+use Rattle.std.proofs.Common.{◌≡◌, ℕ, Bool, true, false, refl, List, [], ◌∷◌}
+use Rattle.std.specs.Prelude.{◌&&◌, ◌==◌, not, nat_lt}
 use Rattle.std.proofs.lemmas.Bool.{and_parts}
 use Rattle.cax64_register.specs.Real.{is_real, is_real_non_rsp}
 use Rattle.cax64_address.specs.Address.{registers_are_real}
@@ -15,7 +15,7 @@ use Rattle.cax64_encoder.specs.Real.{is_absent_or_real, place_is_real, form_is_r
 use Rattle.cax64_encoder.specs.Role.{number, role_of, roles_of}
 use Rattle.cax64_encoder.specs.Visits.{amode_visits, place_visits, visits_of}
 use Rattle.cax64_encoder.specs.declared.fault.Visited.{Visited}
-use Rattle.cax64_encoder.specs.declared.fault.Visited.TheVariants.{Plain, Index, Fixed}
+use Rattle.cax64_encoder.specs.declared.fault.Visited.TheVariants.{Index, Fixed}
 use Rattle.cax64_encoder.specs.declared.number.Number.{Number}
 use Rattle.cax64_encoder.specs.declared.role.PlaceOperand.{PlaceOperand}
 use Rattle.cax64_encoder.specs.declared.role.PlaceOperand.TheVariants as place

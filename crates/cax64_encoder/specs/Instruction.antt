@@ -1,4 +1,4 @@
-use Rattle.std.specs.Prelude.{◌≡◌, ℕ, ℤ, Option, Some, None, List, ◌++◌, length, if◌then◌else◌, IfSome, IsTrue, Bool}
+use Rattle.std.specs.Prelude.{◌≡◌, ℕ, ℤ, Option, Some, None, List, ◌++◌, length, if◌then◌else◌, IfSome, Bool}
 use Rattle.cax64_address.specs.declared.amode.Amode.{Amode}
 use Rattle.cax64_machine_code.specs.Fields.{IsBytes}
 use Rattle.cax64_machine_code.specs.Sequence.{ReadsAs, IsProperFront}

@@ -10,7 +10,6 @@ use Rattle.cax64_operand.specs.Immediate.{imm_size, imm_value}
 use Rattle.cax64_operand.specs.OperandList.{list_of, nop_of}
 use Rattle.cax64_operand.specs.declared.immediate.ImmOperand.{ImmOperand}
 use Rattle.cax64_operand.specs.declared.nop.Nop.{Nop}
-use Rattle.cax64_operand.specs.declared.operand.Operand.{Operand}
 use Rattle.cax64_operand.specs.declared.operand.Operands.{Operands}
 use Rattle.cax64_encoder.specs.Nop.{nop_parts, nop_bytes}
 use Rattle.cax64_encoder.specs.Number.{number_value}

@@ -69,4 +69,3 @@ pub record PrefixFor {M : Type 0} (enc : M → ℕ) (line : Line) (reg : ℕ) (v
   pub are_bytes : IsBytes pre
   pub size : length pre ≤ prefix_size line.prefix
   pub length : length pre ≡ written_prefix_len enc line.prefix line reg operand
-

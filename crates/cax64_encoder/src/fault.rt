@@ -199,10 +199,8 @@ fn late_fault<M: AsReg, S: CodeSink>(place: &PlaceOperand<M>, sink: &S) -> Optio
 /// Why operands can't be encoded for this sink: the first register, in the order of visits, that isn't as it has to be,
 /// or else the late offset.
 pub fn first_fault<R: Registers, S: CodeSink>(operands: &Operands<R>, sink: &S) -> Option<Fault>
-    ensures {
-        let roles = roles_of ⟦<R as RegisterFamily>⟧.family (list_of operands.now) in
-        result ≡ first_fault (S.state sink.now).offsets (visits_of ⟦<R as RegisterFamily>⟧.family.read_gpr roles) (memory_in (place_in roles))
-    }
+    ensures { let roles = roles_of ⟦<R as RegisterFamily>⟧.family (list_of operands.now) in
+        result ≡ first_fault (S.state sink.now).offsets (visits_of ⟦<R as RegisterFamily>⟧.family.read_gpr roles) (memory_in (place_in roles)) }
 {
     match first_unmet(&all_visits(operands)) {
         Some(fault) => Some(fault),

@@ -24,10 +24,7 @@ fn put_imm<S: CodeSink>(sink: &mut S, imm: ImmOperand) -> Result<(), SinkError>
 
 /// Puts an immediate, if there is one.
 #[tactic(auto, using(cax64_sink::proofs::Runs::ran_none))]
-pub fn put_optional_imm<S: CodeSink>(
-    sink: &mut S,
-    imm: Option<ImmOperand>,
-) -> Result<(), SinkError>
+pub fn put_optional_imm<S: CodeSink>(sink: &mut S, imm: Option<ImmOperand>) -> Result<(), SinkError>
     ensures { Ran (optional_imm_actions imm) (S.state sink.old) (S.state sink.new) result }
 {
     match imm {

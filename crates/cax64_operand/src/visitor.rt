@@ -115,11 +115,9 @@ pub fn visit_two_gprs<R: Registers, V: RegisterVisitor<R>>(
     second: &mut Gpr<R::WriteGpr>,
     visitor: &mut V,
 )
-    ensures {
-        MatchBool (R.WriteGpr.eq first.old second.old)
-            (V.steps.write_gpr visitor.old first.old first.new visitor.new × (second.new ≡ first.new))
-            (Then (λ u. V.steps.write_gpr visitor.old first.old first.new u) (λ u. V.steps.write_gpr u second.old second.new visitor.new))
-    }
+    ensures { MatchBool (R.WriteGpr.eq first.old second.old)
+        (V.steps.write_gpr visitor.old first.old first.new visitor.new × (second.new ≡ first.new))
+        (Then (λ u. V.steps.write_gpr visitor.old first.old first.new u) (λ u. V.steps.write_gpr u second.old second.new visitor.new)) }
 {
     if *first.as_ref() == *second.as_ref() {
         visitor.write_gpr(first.as_mut());

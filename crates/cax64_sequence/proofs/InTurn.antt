@@ -1,8 +1,8 @@
-use Rattle.std.proofs.Common.{◌≡◌, ℕ, suc, ◌+◌, ◌≤◌, arith, refl, ◌∙◌, ap, sym, Option, Some, None, List, [], ◌∷◌, ◌++◌, length, drop}
+use Rattle.std.proofs.Common.{◌≡◌, ℕ, suc, ◌≤◌, arith, refl, ◌∙◌, ap, sym, Option, Some, None, List, [], ◌∷◌, ◌++◌, length, drop}
 use Rattle.std.specs.Prelude.{option_map, option_and_then}
 use Rattle.std.proofs.lemmas.List.{drop-append-le, length-drop}
 use Rattle.cax64_machine_code.specs.Reading.{Parts, read}
-use Rattle.cax64_machine_code.specs.Sequence.{Same, EachSame, read_all, total_length, ReadsAllAs}
+use Rattle.cax64_machine_code.specs.Sequence.{EachSame, read_all, total_length, ReadsAllAs}
 use Rattle.cax64_machine_code.specs.declared.reading.Reading.{Reading}
 use Rattle.cax64_sequence.specs.List.{FirstReads}
 

@@ -1,0 +1,62 @@
+//! A twin of the enumeration of all instructions, with two of them, on which wrong arms are tried quickly.
+#![tactic(auto)]
+#![allow(non_camel_case_types)]
+
+ghost use Rattle.std.specs.Prelude.{◌≡◌};
+ghost use Rattle.inst_twin.specs.Twin.{row_of, operands_of, without_registers};
+
+use cax64_machine_code::row::Row;
+use cax64_operand::{Operand, Operands, RegisterVisitor, RowAndOperands};
+use cax64_register::Registers;
+use lock_x::lock_xaddb_mr;
+use nop::nop_1b;
+
+/// One of two instructions.
+#[derive(Drop)]
+pub enum Twin<R: Registers> {
+    nop_1b(nop_1b),
+    lock_xaddb_mr(lock_xaddb_mr<R>),
+}
+
+/// The operands of an instruction without registers, for any family. Others would be left out.
+fn without_registers<R: Registers, S: Registers>(operands: Operands<R>) -> Operands<S>
+    ensures { result ≡ without_registers operands }
+{
+    match operands {
+        Operands::One(Operand::Imm(imm)) => Operands::One(Operand::Imm(imm)),
+        Operands::Nop(nop) => Operands::Nop(nop),
+        _ => Operands::Zero,
+    }
+}
+
+impl<R: Registers> RowAndOperands for Twin<R> {
+    type Family = R;
+
+    ghost row_of = { row_of };
+
+    ghost operands_of = { operands_of };
+
+    #[tactic(auto, unfolding(crate::specs::Twin::row_of))]
+    fn row(&self) -> Row {
+        match self {
+            Twin::nop_1b(i) => i.row(),
+            Twin::lock_xaddb_mr(i) => i.row(),
+        }
+    }
+
+    #[tactic(auto, unfolding(crate::specs::Twin::row_of, crate::specs::Twin::operands_of))]
+    fn operands(&self) -> Operands<R> {
+        match self {
+            Twin::nop_1b(i) => without_registers(i.operands()),
+            Twin::lock_xaddb_mr(i) => i.operands(),
+        }
+    }
+
+    #[tactic(auto, unfolding(crate::specs::Twin::row_of, crate::specs::Twin::operands_of))]
+    fn visit<V: RegisterVisitor<R>>(&mut self, visitor: &mut V) {
+        match self {
+            Twin::nop_1b(i) => i.visit(visitor),
+            Twin::lock_xaddb_mr(i) => i.visit(visitor),
+        }
+    }
+}
