@@ -7,6 +7,7 @@ use cranelift_assembler_x64::{Inst, Instruction, Numbers, RegisterVisitor};
 use std::alloc::Global;
 
 /// Writes each call that it gets, with spaces between them. The registers stay.
+#[derive(Drop)]
 struct VisitText {
     text: String,
     is_refused: bool,
@@ -107,7 +108,10 @@ pub(crate) fn write_visits(
     if visitor.is_refused {
         return Err(Fault::NoMemory);
     }
-    let text = if visitor.text.is_empty() { "-" } else { visitor.text.as_str() };
-    came.push_str(text)?;
+    if visitor.text.is_empty() {
+        came.push('-')?;
+    } else {
+        came.push_str(visitor.text.as_str())?;
+    }
     Ok(())
 }

@@ -11,6 +11,7 @@ use cranelift_assembler_x64::{
 use std::test::Fail;
 
 /// Lowers each number from 128 up by 128.
+#[derive(Drop)]
 struct Lower;
 
 /// The number in the hardware.
@@ -86,6 +87,7 @@ impl RegisterVisitor<Numbers> for Lower {
 }
 
 /// Counts the calls that it gets. The registers of any family stay.
+#[derive(Drop)]
 struct Count(usize);
 
 impl Count {
