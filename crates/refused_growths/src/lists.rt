@@ -1,10 +1,9 @@
 //! Calls that add all or nothing.
 
 use crate::growth::{Grows, Outcome, is_refused};
-use cax64_test_support::Numbers;
 use cranelift_assembler_x64::inst::{lock_addl_mr, nop_9b};
 use cranelift_assembler_x64::{
-    Amode, AmodeOffsetPlusKnownOffset, CodeSink, Gpr, Inst, Instruction, Notice, Recorder,
+    Amode, AmodeOffsetPlusKnownOffset, CodeSink, Gpr, Inst, Instruction, Notice, Numbers, Recorder,
     SinkError, TrapCode, encode_all_whole,
 };
 use std::alloc::{AllocError, Allocator};

@@ -1,14 +1,13 @@
 //! Calls that put into a sink: what stands after a refusal is a front of the bytes and of the notices.
 
 use crate::growth::{Grows, Outcome, is_refused};
-use cax64_test_support::Numbers;
 use cranelift_assembler_x64::evex::EvexPrefix;
 use cranelift_assembler_x64::inst::{andb_i, cmpps_a, lock_addl_mr, nop_9b};
 use cranelift_assembler_x64::rex::{Disp, RexPrefix};
 use cranelift_assembler_x64::vex::VexPrefix;
 use cranelift_assembler_x64::{
     Amode, AmodeOffsetPlusKnownOffset, CodeSink, Constant, DeferredTarget, Fixed, Gpr, Imm8, Imm16,
-    Imm64, Inst, Instruction, Label, Notice, Recorder, SinkError, TrapCode, Xmm, XmmMem,
+    Imm64, Inst, Instruction, Label, Notice, Numbers, Recorder, SinkError, TrapCode, Xmm, XmmMem,
     emit_modrm_sib_disp, encode_all,
 };
 use std::alloc::{AllocError, Allocator, Global};

@@ -4,9 +4,10 @@ use crate::columns::{write_bytes, write_calls, write_fault, write_notices};
 use crate::fields::{Fault, Fields, parsed};
 use crate::instruction::instructions_of;
 use crate::reading::note_front;
-use cax64_test_support::{CallRecorder, Numbers};
+use crate::visits::write_visits;
+use cax64_test_support::CallRecorder;
 use cranelift_assembler_x64::reader::read_inst;
-use cranelift_assembler_x64::{Inst, Instruction, Recorder, Row};
+use cranelift_assembler_x64::{Inst, Instruction, Numbers, Recorder, Row};
 use std::alloc::Global;
 
 /// An empty recorder that knows the offsets of a column.
@@ -67,10 +68,13 @@ pub(crate) fn answer_instruction(
 ) -> Result<(), Fault> {
     let text = text_of(alloc, fields)?;
     let mut sink = CallRecorder::new(alloc, recorder_of(alloc, fields.text()?)?);
-    let (length, row) = encode_one(&instructions_of(alloc, text.as_str())?, &mut sink)?;
+    let mut insts = instructions_of(alloc, text.as_str())?;
+    let (length, row) = encode_one(&insts, &mut sink)?;
     write_calls(came, &sink)?;
     write!(came, "\t{length}\t")?;
     write_row(came, sink.bytes(), row)?;
+    came.push('\t')?;
+    write_visits(alloc, came, &mut insts)?;
     note_front(came, sink.bytes())
 }
 
@@ -117,5 +121,8 @@ pub(crate) fn answer_fault(
 ) -> Result<(), Fault> {
     let text = text_of(alloc, fields)?;
     let sink = recorder_of(alloc, fields.text()?)?;
-    write_first_fault(came, &instructions_of(alloc, text.as_str())?, &sink)
+    let mut insts = instructions_of(alloc, text.as_str())?;
+    write_first_fault(came, &insts, &sink)?;
+    came.push('\t')?;
+    write_visits(alloc, came, &mut insts)
 }

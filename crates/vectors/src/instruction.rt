@@ -2,14 +2,13 @@
 
 use crate::fields::{Fault, parsed};
 use crate::values::Values;
-use cax64_test_support::Numbers;
-use cranelift_assembler_x64::Inst;
 use cranelift_assembler_x64::inst::{
     andb_i, andps_a, callq_m, cmpps_a, cmpss_a, je_d32, jmp_d8, jmpq_m, lock_addb_mr, lock_addl_mi,
     lock_addl_mi_sxb, lock_addl_mr, lock_addq_mi_sxl, lock_addw_mi, lock_cmpxchg16b_m,
     lock_cmpxchgl_mr, lock_xaddl_mr, mulxl_rvm, mulxq_rvm, nop_1b, nop_2b, nop_3b, nop_4b, nop_5b,
     nop_6b, nop_7b, nop_8b, nop_9b, shlb_m1, vcmpps_b, vcvtpd2ps_a, xchgb_rm,
 };
+use cranelift_assembler_x64::{Inst, Numbers};
 use std::alloc::Global;
 
 /// Where instructions go. The functions that name them are generic in it, since a branch of a function that knows the

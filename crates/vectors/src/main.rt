@@ -19,6 +19,7 @@ mod reading;
 mod report;
 mod tails;
 mod values;
+mod visits;
 
 use crate::fields::{Fault, Fields};
 use crate::report::{Difference, Report, report_of};
@@ -70,12 +71,9 @@ const KINDS: [Kind; 17] = [
 ];
 
 /// The columns of `instructions` that nothing answers yet.
-const UNANSWERED_OF_INSTRUCTIONS: [&str; 9] = [
-    "bytes2", "calls2", "notices2", "len2", "text", "xed", "mnemonic", "features", "visits",
+const UNANSWERED_OF_INSTRUCTIONS: [&str; 8] = [
+    "bytes2", "calls2", "notices2", "len2", "text", "xed", "mnemonic", "features",
 ];
-
-/// The columns of `faults` that nothing answers yet.
-const UNANSWERED_OF_FAULTS: [&str; 1] = ["visits"];
 
 /// The columns of `immediates` that nothing answers yet.
 const UNANSWERED_OF_IMMEDIATES: [&str; 2] = ["extension", "text"];
@@ -117,7 +115,6 @@ impl Kind {
     fn unanswered(self) -> &'static [&'static str] {
         match self {
             Kind::Instructions => &UNANSWERED_OF_INSTRUCTIONS,
-            Kind::Faults => &UNANSWERED_OF_FAULTS,
             Kind::Immediates => &UNANSWERED_OF_IMMEDIATES,
             _ => &[],
         }

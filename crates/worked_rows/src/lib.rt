@@ -18,3 +18,5 @@ mod registers;
 mod sinks;
 #[cfg(test)]
 mod table;
+#[cfg(test)]
+mod visits;

@@ -1,11 +1,10 @@
 //! A relative field that is patched after the instruction is encoded. The field's place is the one that was told, and what
 //! it holds is added: the address counts from the instruction's end.
 
-use cax64_test_support::Numbers;
 use cranelift_assembler_x64::inst::{callq_m, cmpps_a, lock_addl_mr};
 use cranelift_assembler_x64::reader::{Place, read_inst};
 use cranelift_assembler_x64::{
-    Amode, DeferredTarget, Gpr, GprMem, Imm8, Instruction, Label, Notice, Recorder, Xmm, XmmMem,
+    Amode, DeferredTarget, Gpr, GprMem, Imm8, Instruction, Label, Notice, Numbers, Recorder, Xmm, XmmMem,
 };
 use std::alloc::Global;
 

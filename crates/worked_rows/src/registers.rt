@@ -4,10 +4,10 @@ ghost use Rattle.std.specs.Mem.{FitsInMemory};
 ghost use Rattle.cax64_register.specs.Real.{is_real};
 ghost use Rattle.cax64_register.specs.contracts.fixed.Fixed.{the_row};
 
-use cax64_test_support::{Few, Numbers, Virtual};
+use cax64_test_support::{Few, Virtual};
 use cranelift_assembler_x64::gpr::enc::{R8, R12, RAX, RCX, RSP};
 use cranelift_assembler_x64::xmm::enc::XMM15;
-use cranelift_assembler_x64::{AsReg, Fixed, Gpr, NonRspGpr, Registers, Size, Xmm};
+use cranelift_assembler_x64::{AsReg, Fixed, Gpr, NonRspGpr, Numbers, Registers, Size, Xmm};
 use std::alloc::{AllocError, Global};
 use std::fmt::Debug;
 use std::test::Fail;

@@ -1,9 +1,6 @@
 -- What the command `tail` prints.
 use Rattle.std.specs.Prelude.{◌<◌, ℕ, ℤ, List, Option, None}
-use Rattle.cranelift_assembler_x64.specs.Address.{index_bit, base_bit, place_of}
-use Rattle.cranelift_assembler_x64.specs.Displacement.{factor_of}
-use Rattle.cranelift_assembler_x64.specs.Shortest.{Shortest}
-use Rattle.cranelift_assembler_x64.specs.Tail.{IsTail}
+use Rattle.cranelift_assembler_x64.specs.OperandTail.{tail_meant, IsTailMeant, IsShortest}
 use Rattle.cranelift_assembler_x64.specs.declared.Amode.{Amode}
 use Rattle.x64rows_run.specs.Words.{Writes}
 use Rattle.x64rows_run.specs.Address.{WritesAddress, WritesFactor}
@@ -28,5 +25,5 @@ pub record IsTailOf (reg base index scale disp factor : List ℕ) (bytes : List 
   pub operand : Amode ℕ
   pub scaling : Option ℤ
   pub written : WritesOperand reg base index scale disp factor field operand scaling
-  pub tail : IsTail (index_bit (λ n. n) operand) (base_bit (λ n. n) operand) (factor_of scaling) field (place_of (λ n. n) (λ _. None) 0 operand) bytes
-  pub shortest : Shortest (index_bit (λ n. n) operand) (base_bit (λ n. n) operand) (factor_of scaling) field (place_of (λ n. n) (λ _. None) 0 operand) bytes
+  pub tail : IsTailMeant (tail_meant (λ n. n) (λ _. None) field operand 0 scaling) bytes
+  pub shortest : IsShortest (tail_meant (λ n. n) (λ _. None) field operand 0 scaling) bytes
