@@ -1,21 +1,25 @@
 //! What can be proved over the assembler by those who stand on it: each proof here cites public clauses alone.
 #![tactic(auto)]
 
-ghost use Rattle.std.specs.Prelude.{◌≡◌, ◌<◌, ◌≤◌, IsTrue, All, IfOk, [], length, map};
+mod back_end;
+mod read_back;
+
+ghost use Rattle.std.specs.Prelude.{◌≤◌, ◌<◌, IsTrue, All, length};
 ghost use Rattle.cranelift_assembler_x64.specs.FixedSink.{fixed_sink_state};
 ghost use Rattle.cranelift_assembler_x64.specs.Instruction.{can_encode_in};
 ghost use Rattle.cranelift_assembler_x64.specs.Recorder.{recorder_state};
 ghost use Rattle.cranelift_assembler_x64.specs.Sequence.{IsFront};
-ghost use Rattle.cranelift_assembler_x64.specs.Vec.{vec_state};
 
+pub use back_end::{
+    encode_all_if_encodable, encode_all_of_any_family, encode_if_encodable, encode_or_tell,
+};
 use cranelift_assembler_x64::inst::{lock_addl_mi_sxb, nop_1b};
-use cranelift_assembler_x64::laws::first_of_a_list;
-use cranelift_assembler_x64::reader::read_inst;
 use cranelift_assembler_x64::{
     Amode, AmodeOffsetPlusKnownOffset, FixedSink, Inst, Instruction, Numbers, Recorder, Refused,
-    Registers, Row, Simm8, encode_all,
+    Registers, Simm8, encode_all,
 };
-use std::alloc::{AllocError, Allocator};
+pub use read_back::rows_of_code;
+use std::alloc::Allocator;
 
 /// Two instructions in a buffer of 32 bytes: it has room for them, so nothing can be refused.
 pub fn count_and_wait(counter: u8) -> FixedSink<32>

@@ -1,0 +1,69 @@
+//! The calls that a back end makes, which meet the conditions of `encode` by a test at run time.
+
+ghost use Rattle.std.specs.Prelude.{◌≡◌, IfOk, IsTrue, All};
+ghost use Rattle.cranelift_assembler_x64.specs.Instruction.{can_encode_in, fault_in};
+
+use cranelift_assembler_x64::{
+    CodeSink, Fault, Inst, Instruction, Numbers, Refused, Registers, SinkError, encode_all,
+};
+
+/// Encodes an instruction if it can be encoded, and says whether it did.
+pub fn encode_if_encodable<I: Instruction, S: CodeSink>(
+    inst: &I,
+    sink: &mut S,
+) -> Result<bool, SinkError>
+    ensures { IfOk result (λ done. done ≡ can_encode_in (S.state sink.old) (I.meant inst.now)) }
+{
+    if inst.is_encodable(&*sink) {
+        inst.encode(sink)?;
+        Ok(true)
+    } else {
+        Ok(false)
+    }
+}
+
+/// Encodes an instruction, or says why it can't be encoded.
+pub fn encode_or_tell<I: Instruction, S: CodeSink>(
+    inst: &I,
+    sink: &mut S,
+) -> Result<Option<Fault>, SinkError>
+    ensures { IfOk result (λ fault. fault ≡ fault_in (S.state sink.old) (I.meant inst.now)) }
+{
+    match inst.first_fault(&*sink) {
+        None => inst.encode(sink).map(|()| None),
+        Some(fault) => Ok(Some(fault)),
+    }
+}
+
+/// The same of a list: each is tested before the first is encoded.
+pub fn encode_all_if_encodable<S: CodeSink>(
+    insts: &[Inst<Numbers>],
+    sink: &mut S,
+) -> Result<bool, Refused> {
+    if insts.iter().all(|inst| inst.is_encodable(&*sink)) {
+        encode_all(insts, sink)?;
+        Ok(true)
+    } else {
+        Ok(false)
+    }
+}
+
+/// Whether each of some instructions can be encoded.
+fn all_encodable<I: Instruction, S: CodeSink>(insts: &[I], sink: &S) -> bool
+    ensures { IsTrue result → All (λ i. IsTrue (can_encode_in (S.state sink.now) (I.meant i))) insts.now }
+{
+    insts.iter().all(|inst| inst.is_encodable(sink))
+}
+
+/// The same for any family of registers.
+pub fn encode_all_of_any_family<R: Registers, S: CodeSink>(
+    insts: &[Inst<R>],
+    sink: &mut S,
+) -> Result<bool, Refused> {
+    if all_encodable(insts, &*sink) {
+        encode_all(insts, sink)?;
+        Ok(true)
+    } else {
+        Ok(false)
+    }
+}
