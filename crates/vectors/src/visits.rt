@@ -28,18 +28,18 @@ impl VisitText {
 
 impl RegisterVisitor<Numbers> for VisitText {
     ghost steps = { record {
-        read_gpr = λ v r t w. t ≡ r;
-        read_write_gpr = λ v r t w. t ≡ r;
-        write_gpr = λ v r t w. t ≡ r;
-        fixed_read_gpr = λ n v r t w. t ≡ r;
-        fixed_read_write_gpr = λ n v r t w. t ≡ r;
-        fixed_write_gpr = λ n v r t w. t ≡ r;
-        read_xmm = λ v r t w. t ≡ r;
-        read_write_xmm = λ v r t w. t ≡ r;
-        write_xmm = λ v r t w. t ≡ r;
-        fixed_read_xmm = λ n v r t w. t ≡ r;
-        fixed_read_write_xmm = λ n v r t w. t ≡ r;
-        fixed_write_xmm = λ n v r t w. t ≡ r;
+      read_gpr = λ v r t w. t ≡ r;
+      read_write_gpr = λ v r t w. t ≡ r;
+      write_gpr = λ v r t w. t ≡ r;
+      fixed_read_gpr = λ n v r t w. t ≡ r;
+      fixed_read_write_gpr = λ n v r t w. t ≡ r;
+      fixed_write_gpr = λ n v r t w. t ≡ r;
+      read_xmm = λ v r t w. t ≡ r;
+      read_write_xmm = λ v r t w. t ≡ r;
+      write_xmm = λ v r t w. t ≡ r;
+      fixed_read_xmm = λ n v r t w. t ≡ r;
+      fixed_read_write_xmm = λ n v r t w. t ≡ r;
+      fixed_write_xmm = λ n v r t w. t ≡ r;
     } };
 
     fn read_gpr(&mut self, reg: &mut u8) {

@@ -3,7 +3,9 @@
 use cranelift_assembler_x64::inst::{andb_i, nop_1b};
 use cranelift_assembler_x64::laws::{encode_all_to_fixed_sink, encode_to_fixed_sink};
 use cranelift_assembler_x64::vex::VexPrefix;
-use cranelift_assembler_x64::{Fixed, FixedSink, Imm8, Inst, Instruction, Numbers, Refused, SinkError};
+use cranelift_assembler_x64::{
+    Fixed, FixedSink, Imm8, Inst, Instruction, Numbers, Refused, SinkError,
+};
 use std::process::Abort;
 
 fn put_all(

@@ -4,7 +4,8 @@
 use cranelift_assembler_x64::inst::{callq_m, cmpps_a, lock_addl_mr};
 use cranelift_assembler_x64::reader::{Place, read_inst};
 use cranelift_assembler_x64::{
-    Amode, DeferredTarget, Gpr, GprMem, Imm8, Instruction, Label, Notice, Numbers, Recorder, Xmm, XmmMem,
+    Amode, DeferredTarget, Gpr, GprMem, Imm8, Instruction, Label, Notice, Numbers, Recorder, Xmm,
+    XmmMem,
 };
 use std::alloc::Global;
 

@@ -3,8 +3,8 @@
 use cranelift_assembler_x64::inst::{andb_i, lock_addl_mr};
 use cranelift_assembler_x64::reader::{RegView, read_inst};
 use cranelift_assembler_x64::{
-    Amode, AmodeOffset, AmodeOffsetPlusKnownOffset, Fixed, Gpr, Imm8, Inst, Instruction, Notice, Numbers,
-    Recorder, Row, TrapCode, encode_all,
+    Amode, AmodeOffset, AmodeOffsetPlusKnownOffset, Fixed, Gpr, Imm8, Inst, Instruction, Notice,
+    Numbers, Recorder, Row, TrapCode, encode_all,
 };
 use std::num::NonZeroU8;
 use std::process::Abort;

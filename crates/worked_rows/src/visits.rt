@@ -23,18 +23,18 @@ fn lowered(number: u8) -> u8
 
 impl RegisterVisitor<Numbers> for Lower {
     ghost steps = { record {
-        read_gpr = λ v r t w. t ≡ (if nat_le 128 r then r - 128 else r);
-        read_write_gpr = λ v r t w. t ≡ (if nat_le 128 r then r - 128 else r);
-        write_gpr = λ v r t w. t ≡ (if nat_le 128 r then r - 128 else r);
-        fixed_read_gpr = λ n v r t w. t ≡ (if nat_le 128 r then r - 128 else r);
-        fixed_read_write_gpr = λ n v r t w. t ≡ (if nat_le 128 r then r - 128 else r);
-        fixed_write_gpr = λ n v r t w. t ≡ (if nat_le 128 r then r - 128 else r);
-        read_xmm = λ v r t w. t ≡ (if nat_le 128 r then r - 128 else r);
-        read_write_xmm = λ v r t w. t ≡ (if nat_le 128 r then r - 128 else r);
-        write_xmm = λ v r t w. t ≡ (if nat_le 128 r then r - 128 else r);
-        fixed_read_xmm = λ n v r t w. t ≡ (if nat_le 128 r then r - 128 else r);
-        fixed_read_write_xmm = λ n v r t w. t ≡ (if nat_le 128 r then r - 128 else r);
-        fixed_write_xmm = λ n v r t w. t ≡ (if nat_le 128 r then r - 128 else r);
+      read_gpr = λ v r t w. t ≡ (if nat_le 128 r then r - 128 else r);
+      read_write_gpr = λ v r t w. t ≡ (if nat_le 128 r then r - 128 else r);
+      write_gpr = λ v r t w. t ≡ (if nat_le 128 r then r - 128 else r);
+      fixed_read_gpr = λ n v r t w. t ≡ (if nat_le 128 r then r - 128 else r);
+      fixed_read_write_gpr = λ n v r t w. t ≡ (if nat_le 128 r then r - 128 else r);
+      fixed_write_gpr = λ n v r t w. t ≡ (if nat_le 128 r then r - 128 else r);
+      read_xmm = λ v r t w. t ≡ (if nat_le 128 r then r - 128 else r);
+      read_write_xmm = λ v r t w. t ≡ (if nat_le 128 r then r - 128 else r);
+      write_xmm = λ v r t w. t ≡ (if nat_le 128 r then r - 128 else r);
+      fixed_read_xmm = λ n v r t w. t ≡ (if nat_le 128 r then r - 128 else r);
+      fixed_read_write_xmm = λ n v r t w. t ≡ (if nat_le 128 r then r - 128 else r);
+      fixed_write_xmm = λ n v r t w. t ≡ (if nat_le 128 r then r - 128 else r);
     } };
 
     fn read_gpr(&mut self, reg: &mut u8) {
@@ -98,18 +98,18 @@ impl Count {
 
 impl<R: Registers> RegisterVisitor<R> for Count {
     ghost steps = { record {
-        read_gpr = λ v r t w. t ≡ r;
-        read_write_gpr = λ v r t w. t ≡ r;
-        write_gpr = λ v r t w. t ≡ r;
-        fixed_read_gpr = λ n v r t w. t ≡ r;
-        fixed_read_write_gpr = λ n v r t w. t ≡ r;
-        fixed_write_gpr = λ n v r t w. t ≡ r;
-        read_xmm = λ v r t w. t ≡ r;
-        read_write_xmm = λ v r t w. t ≡ r;
-        write_xmm = λ v r t w. t ≡ r;
-        fixed_read_xmm = λ n v r t w. t ≡ r;
-        fixed_read_write_xmm = λ n v r t w. t ≡ r;
-        fixed_write_xmm = λ n v r t w. t ≡ r;
+      read_gpr = λ v r t w. t ≡ r;
+      read_write_gpr = λ v r t w. t ≡ r;
+      write_gpr = λ v r t w. t ≡ r;
+      fixed_read_gpr = λ n v r t w. t ≡ r;
+      fixed_read_write_gpr = λ n v r t w. t ≡ r;
+      fixed_write_gpr = λ n v r t w. t ≡ r;
+      read_xmm = λ v r t w. t ≡ r;
+      read_write_xmm = λ v r t w. t ≡ r;
+      write_xmm = λ v r t w. t ≡ r;
+      fixed_read_xmm = λ n v r t w. t ≡ r;
+      fixed_read_write_xmm = λ n v r t w. t ≡ r;
+      fixed_write_xmm = λ n v r t w. t ≡ r;
     } };
 
     fn read_gpr(&mut self, _reg: &mut R::ReadGpr) {
@@ -164,7 +164,12 @@ impl<R: Registers> RegisterVisitor<R> for Count {
 #[test]
 fn calls_are_counted(rt: HostRuntime) {
     let mut count = Count(0);
-    let mut multiply = mulxq_rvm::<Numbers>::new(Gpr::new(1), Gpr::new(1), GprMem::Gpr(8), Fixed(2));
+    let mut multiply = mulxq_rvm::<Numbers>::new(
+        Gpr::new(1),
+        Gpr::new(1),
+        GprMem::Gpr(8),
+        Fixed(2),
+    );
     multiply.visit(&mut count);
     assert!(rt; count.0 == 3);
     // without registers it takes visitors of any family
