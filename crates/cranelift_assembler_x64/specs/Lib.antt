@@ -8,16 +8,20 @@ pub use Rattle.cax64_sink.specs.Keeps
 pub use Rattle.cax64_sink.specs.Vec
 pub use Rattle.cax64_sink.specs.Recorder
 pub use Rattle.cax64_sink.specs.FixedSink
+pub use Rattle.cax64_sink.specs.TrapCode
+pub use Rattle.cax64_sink.specs.Laws
 -- Registers, addresses, prefixes.
 pub use Rattle.cax64_register.specs.Names
 pub use Rattle.cax64_register.specs.Real
 pub use Rattle.cax64_address.specs.Address
 pub use Rattle.cax64_address.specs.Displacement
 pub use Rattle.cax64_address.specs.Effective
+pub use Rattle.cax64_address.specs.Emitted
 pub use Rattle.cax64_address.specs.Length
 pub use Rattle.cax64_address.specs.Offset
 pub use Rattle.cax64_address.specs.Operand
 pub use Rattle.cax64_address.specs.OperandTail
+pub use Rattle.cax64_address.specs.Same
 pub use Rattle.cax64_prefix.specs.Puts
 pub use Rattle.cax64_prefix.specs.Rex
 pub use Rattle.cax64_prefix.specs.Vex
@@ -27,6 +31,10 @@ pub use Rattle.cax64_prefix.specs.Apx
 pub use Rattle.cax64_machine_code.specs.Fields
 pub use Rattle.cax64_machine_code.specs.Tail
 pub use Rattle.cax64_machine_code.specs.Prefix
+pub use Rattle.cax64_machine_code.specs.Address as MachineAddress
+pub use Rattle.cax64_machine_code.specs.Evex as MachineEvex
+pub use Rattle.cax64_machine_code.specs.Apx as MachineApx
+pub use Rattle.cax64_machine_code.specs.Names as RowNames
 pub use Rattle.cax64_machine_code.specs.Line
 pub use Rattle.cax64_machine_code.specs.Rows
 pub use Rattle.cax64_machine_code.specs.Reading
@@ -37,6 +45,7 @@ pub use Rattle.cax64_machine_code.specs.Len
 pub use Rattle.cax64_operand.specs.Family
 pub use Rattle.cax64_operand.specs.Immediate
 pub use Rattle.cax64_operand.specs.OperandList
+pub use Rattle.cax64_operand.specs.NopRow
 pub use Rattle.cax64_operand.specs.Shape
 pub use Rattle.cax64_operand.specs.VisitSteps
 pub use Rattle.cax64_operand.specs.Visit
