@@ -21,15 +21,22 @@ const BYTES: [u8; 13] = [
     0x90, 0x66, 0x0F, 0x1F, 0x84, 0x00, 0x00, 0x00, 0x00, 0x00, 0xF0, 0x01, 0x08,
 ];
 
+fn put_if_encodable<A: Allocator>(
+    insts: &[Inst<Numbers>],
+    sink: &mut Recorder<A>,
+) -> Result<(), SinkError> {
+    if !insts.iter().all(|inst| inst.is_encodable(&*sink)) || insts.len() > usize::MAX / 13 {
+        return Ok(());
+    }
+    encode_all_whole(insts, sink)
+}
+
 fn put_whole<A: Allocator>(sink: &mut Recorder<A>) -> Result<(), SinkError> {
     let insts: [Inst<Numbers>; 2] = [
         nop_9b::new().into(),
         lock_addl_mr::new(TRAPPING, Gpr::new(1)).into(),
     ];
-    if !insts.iter().all(|inst| inst.is_encodable(sink)) || insts.len() > usize::MAX / 13 {
-        return Ok(());
-    }
-    encode_all_whole(&insts, sink)
+    put_if_encodable(&insts, sink)
 }
 
 /// A list that is put whole, behind a byte.

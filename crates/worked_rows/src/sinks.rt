@@ -2,7 +2,8 @@
 
 ghost use Rattle.std.specs.Prelude.{◌≡◌, ◌∷◌, []};
 ghost use Rattle.std.specs.Int.{to_le_bytes, w32};
-ghost use Rattle.cax64_sink.specs.Sink.{Ran, put, trap};
+ghost use Rattle.cax64_sink.specs.Call.{put, trap};
+ghost use Rattle.cax64_sink.specs.Run.{Ran};
 
 use cax64_sink::laws::{laws_of_equality, laws_of_fixed_sinks, laws_of_runs};
 use cranelift_assembler_x64::{
