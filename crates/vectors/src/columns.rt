@@ -1,6 +1,6 @@
 //! Columns as they came.
 
-use crate::fields::Fault;
+use named_instructions::fields::Fault;
 use cax64_test_support::CallRecorder;
 use cranelift_assembler_x64 as assembler;
 use cranelift_assembler_x64::{DeferredTarget, Notice};

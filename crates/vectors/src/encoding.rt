@@ -1,8 +1,8 @@
 //! Single instructions.
 
 use crate::columns::{write_bytes, write_calls, write_fault, write_notices};
-use crate::fields::{Fault, Fields, parsed};
-use crate::instruction::instructions_of;
+use named_instructions::fields::{Fault, Fields, parsed};
+use named_instructions::instructions_of;
 use crate::reading::note_front;
 use crate::visits::write_visits;
 use cax64_test_support::CallRecorder;

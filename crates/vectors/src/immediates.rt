@@ -1,7 +1,7 @@
 //! Immediates.
 
 use crate::columns::write_bytes;
-use crate::fields::{Fault, Fields, parsed};
+use named_instructions::fields::{Fault, Fields, parsed};
 use cranelift_assembler_x64::{
     FixedSink, Imm8, Imm16, Imm32, Imm64, OutOfRange, Simm8, Simm16, Simm32, SinkError,
 };

@@ -5,12 +5,9 @@
 //! names the columns. A column is never empty: `-` stands for nothing. Numbers are decimal, bytes hexadecimal pairs.
 #![tactic(auto)]
 
-mod address;
 mod columns;
 mod encoding;
-mod fields;
 mod immediates;
-mod instruction;
 mod lists;
 mod names;
 mod prefixes;
@@ -18,10 +15,9 @@ mod program;
 mod reading;
 mod report;
 mod tails;
-mod values;
 mod visits;
 
-use crate::fields::{Fault, Fields};
+use named_instructions::fields::{Fault, Fields};
 use crate::report::{Difference, Report, report_of};
 use std::alloc::Global;
 use std::io::ErrorKind;

@@ -1,6 +1,6 @@
 //! Names of registers.
 
-use crate::fields::{Fault, Fields};
+use named_instructions::fields::{Fault, Fields};
 use cranelift_assembler_x64::{Size, gpr, xmm};
 
 pub(crate) fn answer_name(fields: &mut Fields<'_>, came: &mut String) -> Result<(), Fault> {

@@ -1,7 +1,7 @@
 //! REX, VEX and EVEX.
 
 use crate::columns::write_bytes;
-use crate::fields::{Fault, Fields};
+use named_instructions::fields::{Fault, Fields};
 use cranelift_assembler_x64::FixedSink;
 use cranelift_assembler_x64::evex::EvexPrefix;
 use cranelift_assembler_x64::rex::RexPrefix;

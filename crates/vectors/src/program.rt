@@ -1,6 +1,6 @@
 //! The program `x64rows`.
 
-use crate::fields::{Fault, Fields};
+use named_instructions::fields::{Fault, Fields};
 use std::alloc::Global;
 use x64rows_run::run;
 

@@ -2,7 +2,7 @@
 
 ghost use Rattle.std.specs.Prelude.{◌<◌, IfOk};
 
-use crate::fields::{Fault, Fields};
+use named_instructions::fields::{Fault, Fields};
 use cranelift_assembler_x64::reader::{Place, Reading, RegView, read_inst};
 use std::alloc::Global;
 

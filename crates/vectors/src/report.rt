@@ -1,7 +1,7 @@
 //! The comparison of a file.
 
 use crate::Kind;
-use crate::fields::{Fault, Fields};
+use named_instructions::fields::{Fault, Fields};
 use std::alloc::{AllocError, Global};
 
 /// A line whose answer isn't the wanted one.

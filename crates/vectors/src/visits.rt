@@ -2,7 +2,7 @@
 
 ghost use Rattle.std.specs.Prelude.{◌≡◌};
 
-use crate::fields::Fault;
+use named_instructions::fields::Fault;
 use cranelift_assembler_x64::{Inst, Instruction, Numbers, RegisterVisitor};
 use std::alloc::Global;
 

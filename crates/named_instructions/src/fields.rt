@@ -30,7 +30,7 @@ pub struct Fields<'a> {
 
 impl<'a> Fields<'a> {
     /// The columns of a line.
-    pub(crate) fn new(line: &'a str) -> Fields<'a> {
+    pub fn new(line: &'a str) -> Fields<'a> {
         Fields {
             rest: Some(line),
             separator: '\t',
@@ -38,7 +38,7 @@ impl<'a> Fields<'a> {
     }
 
     /// The pieces of a column.
-    pub(crate) fn list(column: &'a str, separator: char) -> Fields<'a> {
+    pub fn list(column: &'a str, separator: char) -> Fields<'a> {
         let rest = match column {
             "-" => None,
             pieces => Some(pieces),
@@ -46,17 +46,17 @@ impl<'a> Fields<'a> {
         Fields { rest, separator }
     }
 
-    pub(crate) fn is_at_end(&self) -> bool {
+    pub fn is_at_end(&self) -> bool {
         self.rest.is_none()
     }
 
     /// All columns that are left, with the tabs between them.
-    pub(crate) fn rest(self) -> Result<&'a str, Fault> {
+    pub fn rest(self) -> Result<&'a str, Fault> {
         self.rest.ok_or(Fault::Malformed)
     }
 
     /// The next column.
-    pub(crate) fn text(&mut self) -> Result<&'a str, Fault> {
+    pub fn text(&mut self) -> Result<&'a str, Fault> {
         let rest = self.rest()?;
         match rest.split_once(self.separator) {
             Some((first, others)) => {
@@ -71,14 +71,14 @@ impl<'a> Fields<'a> {
     }
 
     /// A number from 0 to `most`.
-    pub(crate) fn number(&mut self, most: u8) -> Result<u8, Fault>
+    pub fn number(&mut self, most: u8) -> Result<u8, Fault>
         ensures { IfOk result (λ n. n ≤ most) }
     {
         number_of(self.text()?, most)
     }
 
     /// A number from 0 to `most`, or none.
-    pub(crate) fn optional(&mut self, most: u8) -> Result<Option<u8>, Fault>
+    pub fn optional(&mut self, most: u8) -> Result<Option<u8>, Fault>
         ensures { IfOk result (λ o. IfSome o (λ n. n ≤ most)) }
     {
         match self.text()? {
@@ -87,12 +87,12 @@ impl<'a> Fields<'a> {
         }
     }
 
-    pub(crate) fn signed(&mut self) -> Result<i32, Fault> {
+    pub fn signed(&mut self) -> Result<i32, Fault> {
         parsed(self.text()?)
     }
 
     /// The factor of a displacement, 1 to 127, or none.
-    pub(crate) fn factor(&mut self) -> Result<Option<i8>, Fault>
+    pub fn factor(&mut self) -> Result<Option<i8>, Fault>
         ensures { IfOk result (λ o. IfSome o (λ n. pos 1 ≤ℤ n)) }
     {
         match self.optional(127)? {
@@ -103,13 +103,13 @@ impl<'a> Fields<'a> {
     }
 
     /// 0 or 1.
-    pub(crate) fn flag(&mut self) -> Result<bool, Fault> {
+    pub fn flag(&mut self) -> Result<bool, Fault> {
         Ok(self.number(1)? == 1)
     }
 }
 
 /// A number of any type that has the range.
-pub(crate) fn parsed<N: FromStr>(text: &str) -> Result<N, Fault>
+pub fn parsed<N: FromStr>(text: &str) -> Result<N, Fault>
 where
     <N as FromStr>::Err: Drop,
 {

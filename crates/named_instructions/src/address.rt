@@ -30,7 +30,7 @@ impl Parts {
     };
 
     /// Index and scale come both or neither, and a late offset only without them.
-    pub(crate) fn amode(self) -> Result<Amode<u8>, Fault> {
+    pub fn amode(self) -> Result<Amode<u8>, Fault> {
         let base = self.base.ok_or(Fault::Malformed)?;
         let displacement = AmodeOffset::new(self.displacement);
         match (self.index, self.scale, self.late) {
@@ -57,7 +57,7 @@ impl Parts {
     }
 }
 
-pub(crate) fn target_of(text: &str) -> Result<DeferredTarget, Fault> {
+pub fn target_of(text: &str) -> Result<DeferredTarget, Fault> {
     match text.split_once(':') {
         Some(("label", number)) => Ok(DeferredTarget::Label(Label(parsed(number)?))),
         Some(("const", number)) => Ok(DeferredTarget::Constant(Constant(parsed(number)?))),
@@ -72,7 +72,7 @@ fn trap_of(text: &str) -> Result<TrapCode, Fault> {
 }
 
 /// The address of parts `key:value` with commas between them, or of a target behind `rip:`.
-pub(crate) fn amode_of(text: &str) -> Result<Amode<u8>, Fault> {
+pub fn amode_of(text: &str) -> Result<Amode<u8>, Fault> {
     if let Some(target) = text.strip_prefix("rip:") {
         let target = target_of(target)?;
         return Ok(Amode::RipRelative { target });

@@ -1,0 +1,415 @@
+//! `lock and`. (Intel SDM, volume 2, `AND`.)
+
+ghost use Rattle.std.specs.Prelude.{◌≡◌};
+ghost use Rattle.cax64_machine_code.specs.declared.row.Row.TheVariants as row;
+ghost use Rattle.lock_b.specs.Operands.{operands_lock_andb_mi, operands_lock_andw_mi, operands_lock_andl_mi, operands_lock_andq_mi_sxl, operands_lock_andl_mi_sxb, operands_lock_andq_mi_sxb, operands_lock_andb_mr, operands_lock_andw_mr, operands_lock_andl_mr, operands_lock_andq_mr};
+
+use cax64_address::amode::Amode;
+use cax64_immediate::{Extension, Imm8, Imm16, Imm32, Simm8, Simm32};
+use cax64_machine_code::row::Row;
+use cax64_operand::{Immediate, Operand, Operands, RegisterVisitor, RowAndOperands};
+use cax64_register::{Gpr, Registers, Size};
+
+/// `m8` AND `imm8`. Locked.
+#[derive(Drop)]
+pub struct lock_andb_mi<R: Registers> {
+    pub m8: Amode<R::ReadGpr>,
+    pub imm8: Imm8,
+}
+
+impl<R: Registers> lock_andb_mi<R> {
+    pub fn new(m8: Amode<R::ReadGpr>, imm8: Imm8) -> Self
+        ensures m8 { result.m8 ≡ m8 }
+        ensures imm8 { result.imm8 ≡ imm8 }
+    {
+        lock_andb_mi { m8, imm8 }
+    }
+}
+
+impl<R: Registers> RowAndOperands for lock_andb_mi<R> {
+    type Family = R;
+
+    ghost row_of = { λ _. row.lock_andb_mi };
+
+    ghost operands_of = { operands_lock_andb_mi };
+
+    fn row(&self) -> Row {
+        Row::lock_andb_mi
+    }
+
+    #[tactic(auto, unfolding(cax64_machine_code::specs::Rows::line_of))]
+    fn operands(&self) -> Operands<R> {
+        Operands::Two(
+            Operand::ReadAmode(self.m8),
+            Operand::Imm(Immediate::Imm8(self.imm8.value())),
+        )
+    }
+
+    fn visit<V: RegisterVisitor<R>>(&mut self, visitor: &mut V) {
+        visitor.read_amode(&mut self.m8);
+    }
+}
+
+/// `m16` AND `imm16`. Locked.
+#[derive(Drop)]
+pub struct lock_andw_mi<R: Registers> {
+    pub m16: Amode<R::ReadGpr>,
+    pub imm16: Imm16,
+}
+
+impl<R: Registers> lock_andw_mi<R> {
+    pub fn new(m16: Amode<R::ReadGpr>, imm16: Imm16) -> Self
+        ensures m16 { result.m16 ≡ m16 }
+        ensures imm16 { result.imm16 ≡ imm16 }
+    {
+        lock_andw_mi { m16, imm16 }
+    }
+}
+
+impl<R: Registers> RowAndOperands for lock_andw_mi<R> {
+    type Family = R;
+
+    ghost row_of = { λ _. row.lock_andw_mi };
+
+    ghost operands_of = { operands_lock_andw_mi };
+
+    fn row(&self) -> Row {
+        Row::lock_andw_mi
+    }
+
+    #[tactic(auto, unfolding(cax64_machine_code::specs::Rows::line_of))]
+    fn operands(&self) -> Operands<R> {
+        Operands::Two(
+            Operand::ReadAmode(self.m16),
+            Operand::Imm(Immediate::Imm16(self.imm16.value())),
+        )
+    }
+
+    fn visit<V: RegisterVisitor<R>>(&mut self, visitor: &mut V) {
+        visitor.read_amode(&mut self.m16);
+    }
+}
+
+/// `m32` AND `imm32`. Locked.
+#[derive(Drop)]
+pub struct lock_andl_mi<R: Registers> {
+    pub m32: Amode<R::ReadGpr>,
+    pub imm32: Imm32,
+}
+
+impl<R: Registers> lock_andl_mi<R> {
+    pub fn new(m32: Amode<R::ReadGpr>, imm32: Imm32) -> Self
+        ensures m32 { result.m32 ≡ m32 }
+        ensures imm32 { result.imm32 ≡ imm32 }
+    {
+        lock_andl_mi { m32, imm32 }
+    }
+}
+
+impl<R: Registers> RowAndOperands for lock_andl_mi<R> {
+    type Family = R;
+
+    ghost row_of = { λ _. row.lock_andl_mi };
+
+    ghost operands_of = { operands_lock_andl_mi };
+
+    fn row(&self) -> Row {
+        Row::lock_andl_mi
+    }
+
+    #[tactic(auto, unfolding(cax64_machine_code::specs::Rows::line_of))]
+    fn operands(&self) -> Operands<R> {
+        Operands::Two(
+            Operand::ReadAmode(self.m32),
+            Operand::Imm(Immediate::Imm32(self.imm32.value())),
+        )
+    }
+
+    fn visit<V: RegisterVisitor<R>>(&mut self, visitor: &mut V) {
+        visitor.read_amode(&mut self.m32);
+    }
+}
+
+/// `m64` AND `imm32` sign-extended to 64 bits. Locked.
+#[derive(Drop)]
+pub struct lock_andq_mi_sxl<R: Registers> {
+    pub m64: Amode<R::ReadGpr>,
+    pub imm32: Simm32,
+}
+
+impl<R: Registers> lock_andq_mi_sxl<R> {
+    pub fn new(m64: Amode<R::ReadGpr>, imm32: Simm32) -> Self
+        ensures m64 { result.m64 ≡ m64 }
+        ensures imm32 { result.imm32 ≡ imm32 }
+    {
+        lock_andq_mi_sxl { m64, imm32 }
+    }
+}
+
+impl<R: Registers> RowAndOperands for lock_andq_mi_sxl<R> {
+    type Family = R;
+
+    ghost row_of = { λ _. row.lock_andq_mi_sxl };
+
+    ghost operands_of = { operands_lock_andq_mi_sxl };
+
+    fn row(&self) -> Row {
+        Row::lock_andq_mi_sxl
+    }
+
+    #[tactic(auto, unfolding(cax64_machine_code::specs::Rows::line_of))]
+    fn operands(&self) -> Operands<R> {
+        Operands::Two(
+            Operand::ReadAmode(self.m64),
+            Operand::Imm(Immediate::Simm32(self.imm32.value(), Extension::SignExtendQuad)),
+        )
+    }
+
+    fn visit<V: RegisterVisitor<R>>(&mut self, visitor: &mut V) {
+        visitor.read_amode(&mut self.m64);
+    }
+}
+
+/// `m32` AND sign-extended `imm8`. Locked.
+#[derive(Drop)]
+pub struct lock_andl_mi_sxb<R: Registers> {
+    pub m32: Amode<R::ReadGpr>,
+    pub imm8: Simm8,
+}
+
+impl<R: Registers> lock_andl_mi_sxb<R> {
+    pub fn new(m32: Amode<R::ReadGpr>, imm8: Simm8) -> Self
+        ensures m32 { result.m32 ≡ m32 }
+        ensures imm8 { result.imm8 ≡ imm8 }
+    {
+        lock_andl_mi_sxb { m32, imm8 }
+    }
+}
+
+impl<R: Registers> RowAndOperands for lock_andl_mi_sxb<R> {
+    type Family = R;
+
+    ghost row_of = { λ _. row.lock_andl_mi_sxb };
+
+    ghost operands_of = { operands_lock_andl_mi_sxb };
+
+    fn row(&self) -> Row {
+        Row::lock_andl_mi_sxb
+    }
+
+    #[tactic(auto, unfolding(cax64_machine_code::specs::Rows::line_of))]
+    fn operands(&self) -> Operands<R> {
+        Operands::Two(
+            Operand::ReadAmode(self.m32),
+            Operand::Imm(Immediate::Simm8(self.imm8.value(), Extension::SignExtendLong)),
+        )
+    }
+
+    fn visit<V: RegisterVisitor<R>>(&mut self, visitor: &mut V) {
+        visitor.read_amode(&mut self.m32);
+    }
+}
+
+/// `m64` AND sign-extended `imm8`. Locked.
+#[derive(Drop)]
+pub struct lock_andq_mi_sxb<R: Registers> {
+    pub m64: Amode<R::ReadGpr>,
+    pub imm8: Simm8,
+}
+
+impl<R: Registers> lock_andq_mi_sxb<R> {
+    pub fn new(m64: Amode<R::ReadGpr>, imm8: Simm8) -> Self
+        ensures m64 { result.m64 ≡ m64 }
+        ensures imm8 { result.imm8 ≡ imm8 }
+    {
+        lock_andq_mi_sxb { m64, imm8 }
+    }
+}
+
+impl<R: Registers> RowAndOperands for lock_andq_mi_sxb<R> {
+    type Family = R;
+
+    ghost row_of = { λ _. row.lock_andq_mi_sxb };
+
+    ghost operands_of = { operands_lock_andq_mi_sxb };
+
+    fn row(&self) -> Row {
+        Row::lock_andq_mi_sxb
+    }
+
+    #[tactic(auto, unfolding(cax64_machine_code::specs::Rows::line_of))]
+    fn operands(&self) -> Operands<R> {
+        Operands::Two(
+            Operand::ReadAmode(self.m64),
+            Operand::Imm(Immediate::Simm8(self.imm8.value(), Extension::SignExtendQuad)),
+        )
+    }
+
+    fn visit<V: RegisterVisitor<R>>(&mut self, visitor: &mut V) {
+        visitor.read_amode(&mut self.m64);
+    }
+}
+
+/// `m8` AND `r8`. Locked.
+#[derive(Drop)]
+pub struct lock_andb_mr<R: Registers> {
+    pub m8: Amode<R::ReadGpr>,
+    pub r8: Gpr<R::ReadGpr>,
+}
+
+impl<R: Registers> lock_andb_mr<R> {
+    pub fn new(m8: Amode<R::ReadGpr>, r8: Gpr<R::ReadGpr>) -> Self
+        ensures m8 { result.m8 ≡ m8 }
+        ensures r8 { result.r8 ≡ r8 }
+    {
+        lock_andb_mr { m8, r8 }
+    }
+}
+
+impl<R: Registers> RowAndOperands for lock_andb_mr<R> {
+    type Family = R;
+
+    ghost row_of = { λ _. row.lock_andb_mr };
+
+    ghost operands_of = { operands_lock_andb_mr };
+
+    fn row(&self) -> Row {
+        Row::lock_andb_mr
+    }
+
+    #[tactic(auto, unfolding(cax64_machine_code::specs::Rows::line_of))]
+    fn operands(&self) -> Operands<R> {
+        Operands::Two(
+            Operand::ReadAmode(self.m8),
+            Operand::ReadGpr(*self.r8.as_ref(), Size::Byte),
+        )
+    }
+
+    fn visit<V: RegisterVisitor<R>>(&mut self, visitor: &mut V) {
+        visitor.read_amode(&mut self.m8);
+        visitor.read_gpr(self.r8.as_mut());
+    }
+}
+
+/// `m16` AND `r16`. Locked.
+#[derive(Drop)]
+pub struct lock_andw_mr<R: Registers> {
+    pub m16: Amode<R::ReadGpr>,
+    pub r16: Gpr<R::ReadGpr>,
+}
+
+impl<R: Registers> lock_andw_mr<R> {
+    pub fn new(m16: Amode<R::ReadGpr>, r16: Gpr<R::ReadGpr>) -> Self
+        ensures m16 { result.m16 ≡ m16 }
+        ensures r16 { result.r16 ≡ r16 }
+    {
+        lock_andw_mr { m16, r16 }
+    }
+}
+
+impl<R: Registers> RowAndOperands for lock_andw_mr<R> {
+    type Family = R;
+
+    ghost row_of = { λ _. row.lock_andw_mr };
+
+    ghost operands_of = { operands_lock_andw_mr };
+
+    fn row(&self) -> Row {
+        Row::lock_andw_mr
+    }
+
+    #[tactic(auto, unfolding(cax64_machine_code::specs::Rows::line_of))]
+    fn operands(&self) -> Operands<R> {
+        Operands::Two(
+            Operand::ReadAmode(self.m16),
+            Operand::ReadGpr(*self.r16.as_ref(), Size::Word),
+        )
+    }
+
+    fn visit<V: RegisterVisitor<R>>(&mut self, visitor: &mut V) {
+        visitor.read_amode(&mut self.m16);
+        visitor.read_gpr(self.r16.as_mut());
+    }
+}
+
+/// `m32` AND `r32`. Locked.
+#[derive(Drop)]
+pub struct lock_andl_mr<R: Registers> {
+    pub m32: Amode<R::ReadGpr>,
+    pub r32: Gpr<R::ReadGpr>,
+}
+
+impl<R: Registers> lock_andl_mr<R> {
+    pub fn new(m32: Amode<R::ReadGpr>, r32: Gpr<R::ReadGpr>) -> Self
+        ensures m32 { result.m32 ≡ m32 }
+        ensures r32 { result.r32 ≡ r32 }
+    {
+        lock_andl_mr { m32, r32 }
+    }
+}
+
+impl<R: Registers> RowAndOperands for lock_andl_mr<R> {
+    type Family = R;
+
+    ghost row_of = { λ _. row.lock_andl_mr };
+
+    ghost operands_of = { operands_lock_andl_mr };
+
+    fn row(&self) -> Row {
+        Row::lock_andl_mr
+    }
+
+    #[tactic(auto, unfolding(cax64_machine_code::specs::Rows::line_of))]
+    fn operands(&self) -> Operands<R> {
+        Operands::Two(
+            Operand::ReadAmode(self.m32),
+            Operand::ReadGpr(*self.r32.as_ref(), Size::Doubleword),
+        )
+    }
+
+    fn visit<V: RegisterVisitor<R>>(&mut self, visitor: &mut V) {
+        visitor.read_amode(&mut self.m32);
+        visitor.read_gpr(self.r32.as_mut());
+    }
+}
+
+/// `m64` AND `r64`. Locked.
+#[derive(Drop)]
+pub struct lock_andq_mr<R: Registers> {
+    pub m64: Amode<R::ReadGpr>,
+    pub r64: Gpr<R::ReadGpr>,
+}
+
+impl<R: Registers> lock_andq_mr<R> {
+    pub fn new(m64: Amode<R::ReadGpr>, r64: Gpr<R::ReadGpr>) -> Self
+        ensures m64 { result.m64 ≡ m64 }
+        ensures r64 { result.r64 ≡ r64 }
+    {
+        lock_andq_mr { m64, r64 }
+    }
+}
+
+impl<R: Registers> RowAndOperands for lock_andq_mr<R> {
+    type Family = R;
+
+    ghost row_of = { λ _. row.lock_andq_mr };
+
+    ghost operands_of = { operands_lock_andq_mr };
+
+    fn row(&self) -> Row {
+        Row::lock_andq_mr
+    }
+
+    #[tactic(auto, unfolding(cax64_machine_code::specs::Rows::line_of))]
+    fn operands(&self) -> Operands<R> {
+        Operands::Two(
+            Operand::ReadAmode(self.m64),
+            Operand::ReadGpr(*self.r64.as_ref(), Size::Quadword),
+        )
+    }
+
+    fn visit<V: RegisterVisitor<R>>(&mut self, visitor: &mut V) {
+        visitor.read_amode(&mut self.m64);
+        visitor.read_gpr(self.r64.as_mut());
+    }
+}
