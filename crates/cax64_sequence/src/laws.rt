@@ -7,26 +7,24 @@ ghost use Rattle.cax64_sink.specs.FixedSink.{fixed_sink_state};
 ghost use Rattle.cax64_machine_code.specs.Reading.{Parts};
 ghost use Rattle.cax64_machine_code.specs.Sequence.{ReadsAllAs};
 
-use crate::sequence::{Refused, encode_all};
+use crate::sequence::{Refused, encode_each};
 use cax64_encoder::instruction::Instruction;
-use cax64_inst::Inst;
-use cax64_register::Registers;
 use cax64_sink::{FixedSink, SinkError};
 
-/// Over a sink of fixed size [`encode_all`] succeeds exactly where the bytes of all instructions fit in what is left, and
+/// Over a sink of fixed size [`encode_each`] succeeds exactly where the bytes of all instructions fit in what is left, and
 /// of those that don't it puts as many as do.
-pub fn encode_all_to_fixed_sink<R: Registers, const N: usize>(
-    insts: &[Inst<R>],
+pub fn encode_each_to_fixed_sink<I: Instruction, const N: usize>(
+    insts: &[I],
     sink: &mut FixedSink<N>,
 ) -> Result<(), Refused>
-    requires { All (λ i. IsTrue (can_encode_in (fixed_sink_state sink.old) (⟦<Inst<R> as Instruction>⟧.meant i))) insts.now }
-    ensures fits { IsOk result ↔ (list_len (fixed_sink_state sink.old) ⟦<Inst<R> as Instruction>⟧.meant insts.now ≤ N - length (fixed_sink_state sink.old).bytes) }
-    ensures whole { let ms = meants ⟦<Inst<R> as Instruction>⟧.meant (fixed_sink_state sink.old) insts.now in IfErr result (λ e. (j : ℕ) → j ≤ length insts.now → (j ≤ e.whole) ↔ (total_len (take j ms) ≤ N - length (fixed_sink_state sink.old).bytes)) }
-    ensures adds { OnOk result (AddsList ⟦<Inst<R> as Instruction>⟧.meant insts.now (fixed_sink_state sink.old) (fixed_sink_state sink.new)) }
-    ensures leaves { IfErr result (λ e. LeavesList ⟦<Inst<R> as Instruction>⟧.meant insts.now e.whole (fixed_sink_state sink.old) (fixed_sink_state sink.new)) }
+    requires { All (λ i. IsTrue (can_encode_in (fixed_sink_state sink.old) (I.meant i))) insts.now }
+    ensures fits { IsOk result ↔ (list_len (fixed_sink_state sink.old) I.meant insts.now ≤ N - length (fixed_sink_state sink.old).bytes) }
+    ensures whole { let ms = meants I.meant (fixed_sink_state sink.old) insts.now in IfErr result (λ e. (j : ℕ) → j ≤ length insts.now → (j ≤ e.whole) ↔ (total_len (take j ms) ≤ N - length (fixed_sink_state sink.old).bytes)) }
+    ensures adds { OnOk result (AddsList I.meant insts.now (fixed_sink_state sink.old) (fixed_sink_state sink.new)) }
+    ensures leaves { IfErr result (λ e. LeavesList I.meant insts.now e.whole (fixed_sink_state sink.old) (fixed_sink_state sink.new)) }
     ensures error { IfErr result (λ e. e.error ≡ SinkError.Full) }
 {
-    encode_all(insts, sink)
+    encode_each(insts, sink)
 }
 
 /// Bytes that read as a list of instructions read as the first of them, whatever follows, and what it leaves reads as the

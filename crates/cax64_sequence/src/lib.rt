@@ -1,9 +1,9 @@
-//! Lists of instructions.
+//! Lists of instructions of one type, of whatever type.
 #![tactic(auto)]
 
 pub mod laws;
 mod sequence;
 mod whole;
 
-pub use sequence::{Refused, encode_all};
-pub use whole::encode_all_whole;
+pub use sequence::{Refused, encode_each};
+pub use whole::encode_each_whole;

@@ -8,8 +8,6 @@ ghost use Rattle.cax64_sink.specs.Keeps.{Keeps};
 ghost use Rattle.cax64_sink.specs.Room.{HasRoom, FallsBy};
 
 use cax64_encoder::instruction::Instruction;
-use cax64_inst::Inst;
-use cax64_register::Registers;
 use cax64_sink::{CodeSink, SinkError};
 
 /// A list of instructions that a sink didn't take to its end.
@@ -21,8 +19,10 @@ pub struct Refused {
     pub error: SinkError,
 }
 
-/// Puts instructions one behind the other.
-pub(crate) fn encode_each<I: Instruction, S: CodeSink>(
+/// Puts instructions of one type one behind the other, and tells the sink of their traps and targets.
+///
+/// A refusal says how many instructions are whole.
+pub fn encode_each<I: Instruction, S: CodeSink>(
     insts: &[I],
     sink: &mut S,
 ) -> Result<(), Refused>
@@ -43,22 +43,4 @@ pub(crate) fn encode_each<I: Instruction, S: CodeSink>(
         }
     }
     Ok(())
-}
-
-/// Puts instructions one behind the other, and tells the sink of their traps and targets.
-///
-/// A refusal says how many instructions are whole.
-pub fn encode_all<R: Registers, S: CodeSink>(insts: &[Inst<R>], sink: &mut S) -> Result<(), Refused>
-    requires { All (λ i. IsTrue (can_encode_in (S.state sink.old) (⟦<Inst<R> as Instruction>⟧.meant i))) insts.now }
-    ensures adds { OnOk result (AddsList ⟦<Inst<R> as Instruction>⟧.meant insts.now (S.state sink.old) (S.state sink.new)) }
-    ensures leaves { IfErr result (λ e. LeavesList ⟦<Inst<R> as Instruction>⟧.meant insts.now e.whole (S.state sink.old) (S.state sink.new)) }
-    ensures front { IsFront (S.state sink.old).bytes (S.state sink.new).bytes }
-    ensures error { IfErr result (λ e. (S.state sink.old).answers e.error ≡ true) }
-    ensures keeps { Keeps (S.state sink.old) (S.state sink.new) }
-    ensures enough { HasRoom (S.state sink.old).byte_room (13 * length insts.now) → HasRoom (S.state sink.old).notice_room (length insts.now) → IsOk result }
-    ensures room { let ms = meants ⟦<Inst<R> as Instruction>⟧.meant (S.state sink.old) insts.now in (j : ℕ) → j ≤ length insts.now → HasRoom (S.state sink.old).byte_room (total_len (take j ms)) → HasRoom (S.state sink.old).notice_room (total_notices (take j ms)) → IfErr result (λ e. j ≤ e.whole) }
-    ensures byte_room { FallsBy (S.state sink.old).byte_room (S.state sink.new).byte_room (list_len (S.state sink.old) ⟦<Inst<R> as Instruction>⟧.meant insts.now) }
-    ensures notice_room { FallsBy (S.state sink.old).notice_room (S.state sink.new).notice_room (list_notices (S.state sink.old) ⟦<Inst<R> as Instruction>⟧.meant insts.now) }
-{
-    encode_each(insts, sink)
 }

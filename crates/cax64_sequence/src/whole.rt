@@ -10,8 +10,6 @@ ghost use Rattle.cax64_sink.specs.Room.{HasRoom};
 
 use crate::sequence::encode_each;
 use cax64_encoder::instruction::Instruction;
-use cax64_inst::Inst;
-use cax64_register::Registers;
 use cax64_sink::{CodeSink, Recorder, SinkError};
 use std::alloc::Allocator;
 
@@ -31,8 +29,10 @@ fn measure<I: Instruction, S: CodeSink>(insts: &[I], sink: &S) -> (usize, usize)
     (bytes, notices)
 }
 
-/// Puts all instructions, or none.
-fn encode_each_whole<I: Instruction, A: Allocator>(
+/// Puts all instructions of a list of one type, or none.
+///
+/// Room for all of them is made at once, before the first is put.
+pub fn encode_each_whole<I: Instruction, A: Allocator>(
     insts: &[I],
     recorder: &mut Recorder<A>,
 ) -> Result<(), SinkError>
@@ -48,23 +48,4 @@ fn encode_each_whole<I: Instruction, A: Allocator>(
     let (bytes, notices) = measure(insts, &*recorder);
     recorder.reserve(bytes, notices)?;
     encode_each(insts, recorder).map_err(|refused| refused.error)
-}
-
-/// Puts all instructions one behind the other, and tells the recorder of their traps and targets, or does nothing.
-///
-/// Room for all of them is made at once, before the first is put.
-pub fn encode_all_whole<R: Registers, A: Allocator>(
-    insts: &[Inst<R>],
-    recorder: &mut Recorder<A>,
-) -> Result<(), SinkError>
-    requires encodable { All (λ i. IsTrue (can_encode_in (recorder_state recorder.old) (⟦<Inst<R> as Instruction>⟧.meant i))) insts.now }
-    requires few { length insts.now ≤ usize.MAX / 13 }
-    ensures adds { OnOk result (AddsList ⟦<Inst<R> as Instruction>⟧.meant insts.now (recorder_state recorder.old) (recorder_state recorder.new)) }
-    ensures unchanged { OnErr result (StaysAs (recorder_state recorder.old) (recorder_state recorder.new)) }
-    ensures front { IsFront (recorder_state recorder.old).bytes (recorder_state recorder.new).bytes }
-    ensures error { IfErr result (λ e. e ≡ SinkError.NoMemory) }
-    ensures keeps { Keeps (recorder_state recorder.old) (recorder_state recorder.new) }
-    ensures room { HasRoom (recorder_state recorder.old).byte_room (list_len (recorder_state recorder.old) ⟦<Inst<R> as Instruction>⟧.meant insts.now) → HasRoom (recorder_state recorder.old).notice_room (list_notices (recorder_state recorder.old) ⟦<Inst<R> as Instruction>⟧.meant insts.now) → IsOk result }
-{
-    encode_each_whole(insts, recorder)
 }

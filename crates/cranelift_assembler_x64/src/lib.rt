@@ -7,6 +7,7 @@ pub use cax64_address::amode::{Amode, Scale};
 pub use cax64_address::offset::{AmodeOffset, AmodeOffsetPlusKnownOffset};
 pub use cax64_address::operand::{GprMem, XmmMem};
 pub use cax64_address::tail::emit_modrm_sib_disp;
+pub use cax64_encode_all::{encode_all, encode_all_whole};
 pub use cax64_encoder::{Fault, Instruction};
 pub use cax64_immediate::{
     Extension, Imm8, Imm16, Imm32, Imm64, OutOfRange, Simm8, Simm16, Simm32,
@@ -17,7 +18,7 @@ pub use cax64_operand::{Immediate, Numbers, Operand, Operands, RegisterVisitor, 
 pub use cax64_prefix::rex::RexPrefix;
 pub use cax64_register::{AsReg, Fixed, Gpr, NonRspGpr, Registers, Size, Xmm, register_name};
 pub use cax64_renaming::rename;
-pub use cax64_sequence::{Refused, encode_all, encode_all_whole};
+pub use cax64_sequence::Refused;
 pub use cax64_sink::{
     CodeSink, Constant, DeferredTarget, FixedSink, KnownOffset, Label, Notice, Recorder, SinkError,
     TrapCode,
@@ -183,7 +184,8 @@ pub mod evex {
 pub mod laws {
     pub use cax64_address::laws::emit_to_fixed_sink;
     pub use cax64_encoder::laws::encode_to_fixed_sink;
-    pub use cax64_sequence::laws::{encode_all_to_fixed_sink, first_of_a_list};
+    pub use cax64_encode_all::encode_all_to_fixed_sink;
+    pub use cax64_sequence::laws::first_of_a_list;
 }
 
 /// The reading of machine code.

@@ -1,24 +1,20 @@
 //! The program `x64rows` as a function over words and two writers.
 #![tactic(auto)]
 
-mod command;
 mod line;
-mod operand;
 mod rows;
-mod tail;
-mod words;
 
 ghost use Rattle.std.specs.Prelude.{◌≡◌, ◌⊎◌, ◌≢◌, ◌↔◌, IsNone, IfErr, map};
 ghost use Rattle.x64rows_run.specs.declared.Fault.TheVariants.{NoMemory, Write};
-ghost use Rattle.x64rows_run.specs.Command.{IsCommand};
+ghost use Rattle.x64rows_command.specs.Command.{IsCommand};
 ghost use Rattle.x64rows_run.specs.Status.{IsStatus};
 
-use crate::command::{asked_tail, asks_for_rows};
 use crate::line::push_bytes;
 use crate::rows::ROW_LINES;
 use std::alloc::{AllocError, Allocator};
 use std::io;
 use std::io::Write;
+use x64rows_command::{asked_tail, asks_for_rows};
 
 /// Why a run ends before its last line is written.
 #[derive(Clone, Copy, Debug, PartialEq)]

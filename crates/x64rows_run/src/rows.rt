@@ -4,7 +4,6 @@ ghost use Rattle.std.specs.Prelude.{ℕ, ℤ, Option, IsTrue};
 ghost use Rattle.cranelift_assembler_x64.specs.Fault.{is_encodable};
 
 use crate::line::push_bytes;
-use crate::operand::{base_and_displacement, base_and_index};
 use cranelift_assembler_x64::inst::{
     andb_i, andps_a, cmpps_a, je_d32, jmp_d8, lock_addb_mr, lock_addl_mr, lock_addq_mi_sxl,
     lock_cmpxchg16b_m, mulxq_rvm, nop_9b, shlb_m1, vcmpps_b, vcvtpd2ps_a,
@@ -15,6 +14,7 @@ use cranelift_assembler_x64::{
     Numbers, Scale, Simm8, Simm32, Xmm, XmmMem,
 };
 use std::alloc::{AllocError, Allocator};
+use x64rows_command::{base_and_displacement, base_and_index};
 
 /// The most bytes of an instruction.
 const MOST: usize = 13;

@@ -2,7 +2,9 @@
 
 ghost use Rattle.std.specs.Prelude.{◌≡◌, None};
 
-use cranelift_assembler_x64::{Amode, AmodeOffset, AmodeOffsetPlusKnownOffset, NonRspGpr, Scale};
+use cax64_address::amode::{Amode, Scale};
+use cax64_address::offset::{AmodeOffset, AmodeOffsetPlusKnownOffset};
+use cax64_register::NonRspGpr;
 
 /// A base and a displacement, with no late offset and no trap.
 pub fn base_and_displacement(base: u8, displacement: i32) -> Amode<u8>

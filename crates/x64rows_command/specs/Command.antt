@@ -1,6 +1,6 @@
 -- Which words are a command.
 use Rattle.std.specs.Prelude.{◌≡◌, ◌⊎◌, List, [], ◌∷◌, ℕ, codes}
-use Rattle.x64rows_run.specs.Tail.{HasOperand}
+use Rattle.x64rows_command.specs.Tail.{HasOperand}
 
 -- no word, or `rows`
 abbrev pub AsksForRows : List (List ℕ) → Type 0

@@ -1,17 +1,19 @@
 //! The command `tail`.
 
 ghost use Rattle.std.specs.Prelude.{◌≡◌, ◌≤◌, ◌<◌, ◌≤ℤ◌, ℕ, ℤ, pos, IfSome, IfNone, OnSome, Option, FitsSigned};
-ghost use Rattle.cranelift_assembler_x64.specs.declared.Amode.{Amode};
-ghost use Rattle.x64rows_run.specs.Words.{Writes};
-ghost use Rattle.x64rows_run.specs.Address.{WritesAddress, WritesFactor, IsAddressable};
-ghost use Rattle.x64rows_run.specs.Tail.{IsTailOf, HasOperand};
-ghost use Rattle.cranelift_assembler_x64.specs.FixedSink.{fixed_sink_state};
+ghost use Rattle.cax64_address.specs.declared.amode.Amode.{Amode};
+ghost use Rattle.x64rows_command.specs.Words.{Writes};
+ghost use Rattle.x64rows_command.specs.Address.{WritesAddress, WritesFactor, IsAddressable};
+ghost use Rattle.x64rows_command.specs.Tail.{IsTailOf, HasOperand};
+ghost use Rattle.cax64_sink.specs.FixedSink.{fixed_sink_state};
 
 use crate::operand::base_and_displacement;
 use crate::words::{number, signed_number};
-use cranelift_assembler_x64::{
-    Amode, AmodeOffset, FixedSink, NonRspGpr, Scale, emit_modrm_sib_disp,
-};
+use cax64_address::amode::{Amode, Scale};
+use cax64_address::offset::AmodeOffset;
+use cax64_address::tail::emit_modrm_sib_disp;
+use cax64_register::NonRspGpr;
+use cax64_sink::FixedSink;
 
 /// The word that stands for no index, no scale or no factor.
 const ABSENT: &str = "-";

@@ -1,10 +1,10 @@
 -- What the words of an address mean.
 use Rattle.std.specs.Prelude.{◌≡◌, ◌≢◌, ◌<◌, ℕ, ℤ, pos, ◌≤ℤ◌, List, [], ◌∷◌, Option, None, Some, true, IsTrue, FitsSigned}
 use Rattle.std.specs.Int.{w32}
-use Rattle.cranelift_assembler_x64.specs.Address.{scale_number, is_addressable}
-use Rattle.cranelift_assembler_x64.specs.declared.Amode.{Amode}
-use Rattle.cranelift_assembler_x64.specs.declared.Amode.TheVariants.{ImmReg, ImmRegRegShift, RipRelative}
-use Rattle.x64rows_run.specs.Words.{Writes, WritesSigned}
+use Rattle.cax64_address.specs.Address.{scale_number, is_addressable}
+use Rattle.cax64_address.specs.declared.amode.Amode.{Amode}
+use Rattle.cax64_address.specs.declared.amode.Amode.TheVariants.{ImmReg, ImmRegRegShift, RipRelative}
+use Rattle.x64rows_command.specs.Words.{Writes, WritesSigned}
 
 -- the word that stands for nothing
 abbrev pub IsAbsent : List ℕ → Type 0

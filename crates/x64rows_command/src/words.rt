@@ -2,7 +2,7 @@
 
 ghost use Rattle.std.specs.Prelude.{◌≡◌, ◌==◌, slice_index, ◌≤◌, ◌<◌, ◌≤ℤ◌, ◌<ℤ◌, ◌^◌, ℕ, ℤ, pos, negsuc, IfSome, IfNone, FitsSigned};
 ghost use Rattle.std.specs.Int.{w32};
-ghost use Rattle.x64rows_run.specs.Words.{Writes, WritesSigned};
+ghost use Rattle.x64rows_command.specs.Words.{Writes, WritesSigned};
 
 /// Whether a plus stands first, which `parse` would take.
 fn has_plus(word: &str) -> bool

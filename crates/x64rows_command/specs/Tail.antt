@@ -1,9 +1,9 @@
 -- What the command `tail` prints.
 use Rattle.std.specs.Prelude.{◌<◌, ℕ, ℤ, List, Option, None}
-use Rattle.cranelift_assembler_x64.specs.OperandTail.{tail_meant, IsTailMeant, IsShortest}
-use Rattle.cranelift_assembler_x64.specs.declared.Amode.{Amode}
-use Rattle.x64rows_run.specs.Words.{Writes}
-use Rattle.x64rows_run.specs.Address.{WritesAddress, WritesFactor}
+use Rattle.cax64_address.specs.OperandTail.{tail_meant, IsTailMeant, IsShortest}
+use Rattle.cax64_address.specs.declared.amode.Amode.{Amode}
+use Rattle.x64rows_command.specs.Words.{Writes}
+use Rattle.x64rows_command.specs.Address.{WritesAddress, WritesFactor}
 
 -- the words of `tail` write a reg field, an operand and a factor
 pub record WritesOperand (reg base index scale disp factor : List ℕ) (n : ℕ) (operand : Amode ℕ) (scaling : Option ℤ) : Type 0 where

@@ -1,10 +1,10 @@
 //! What the words ask for.
 
 ghost use Rattle.std.specs.Prelude.{◌↔◌, map, IsTrue, OnSome, IfNone};
-ghost use Rattle.x64rows_run.specs.Command.{AsksForRows, AsksForTail};
+ghost use Rattle.x64rows_command.specs.Command.{AsksForRows, AsksForTail};
 
 use crate::tail::tail;
-use cranelift_assembler_x64::FixedSink;
+use cax64_sink::FixedSink;
 
 /// Whether the words are those of `rows`.
 pub fn asks_for_rows(words: &[&str]) -> bool

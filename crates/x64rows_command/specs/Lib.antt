@@ -1,0 +1,4 @@
+pub mod Words
+pub mod Address
+pub mod Tail
+pub mod Command
