@@ -133,6 +133,46 @@ pub mod inst {
     pub use lock_a::lock_orq_mr;
     pub use lock_a::lock_orw_mi;
     pub use lock_a::lock_orw_mr;
+    pub use lock_b::lock_andb_mi;
+    pub use lock_b::lock_andb_mr;
+    pub use lock_b::lock_andl_mi;
+    pub use lock_b::lock_andl_mi_sxb;
+    pub use lock_b::lock_andl_mr;
+    pub use lock_b::lock_andq_mi_sxb;
+    pub use lock_b::lock_andq_mi_sxl;
+    pub use lock_b::lock_andq_mr;
+    pub use lock_b::lock_andw_mi;
+    pub use lock_b::lock_andw_mr;
+    pub use lock_b::lock_sbbb_mi;
+    pub use lock_b::lock_sbbb_mr;
+    pub use lock_b::lock_sbbl_mi;
+    pub use lock_b::lock_sbbl_mi_sxb;
+    pub use lock_b::lock_sbbl_mr;
+    pub use lock_b::lock_sbbq_mi_sxb;
+    pub use lock_b::lock_sbbq_mi_sxl;
+    pub use lock_b::lock_sbbq_mr;
+    pub use lock_b::lock_sbbw_mi;
+    pub use lock_b::lock_sbbw_mr;
+    pub use lock_b::lock_subb_mi;
+    pub use lock_b::lock_subb_mr;
+    pub use lock_b::lock_subl_mi;
+    pub use lock_b::lock_subl_mi_sxb;
+    pub use lock_b::lock_subl_mr;
+    pub use lock_b::lock_subq_mi_sxb;
+    pub use lock_b::lock_subq_mi_sxl;
+    pub use lock_b::lock_subq_mr;
+    pub use lock_b::lock_subw_mi;
+    pub use lock_b::lock_subw_mr;
+    pub use lock_b::lock_xorb_mi;
+    pub use lock_b::lock_xorb_mr;
+    pub use lock_b::lock_xorl_mi;
+    pub use lock_b::lock_xorl_mi_sxb;
+    pub use lock_b::lock_xorl_mr;
+    pub use lock_b::lock_xorq_mi_sxb;
+    pub use lock_b::lock_xorq_mi_sxl;
+    pub use lock_b::lock_xorq_mr;
+    pub use lock_b::lock_xorw_mi;
+    pub use lock_b::lock_xorw_mr;
     pub use lock_x::lock_cmpxchg16b_m;
     pub use lock_x::lock_cmpxchgb_mr;
     pub use lock_x::lock_cmpxchgl_mr;
@@ -183,8 +223,8 @@ pub mod evex {
 /// Over a sink of fixed size calls succeed exactly where their bytes fit.
 pub mod laws {
     pub use cax64_address::laws::emit_to_fixed_sink;
-    pub use cax64_encoder::laws::encode_to_fixed_sink;
     pub use cax64_encode_all::encode_all_to_fixed_sink;
+    pub use cax64_encoder::laws::encode_to_fixed_sink;
     pub use cax64_sequence::laws::first_of_a_list;
 }
 

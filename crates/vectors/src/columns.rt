@@ -1,9 +1,9 @@
 //! Columns as they came.
 
-use named_instructions::fields::Fault;
 use cax64_test_support::CallRecorder;
 use cranelift_assembler_x64 as assembler;
 use cranelift_assembler_x64::{DeferredTarget, Notice};
+use named_instructions::fields::Fault;
 use std::alloc::Global;
 
 /// Hexadecimal pairs.

@@ -1,13 +1,13 @@
 //! Single instructions.
 
 use crate::columns::{write_bytes, write_calls, write_fault, write_notices};
-use named_instructions::fields::{Fault, Fields, parsed};
-use named_instructions::instructions_of;
 use crate::reading::note_front;
 use crate::visits::write_visits;
 use cax64_test_support::CallRecorder;
 use cranelift_assembler_x64::reader::read_inst;
 use cranelift_assembler_x64::{Inst, Instruction, Numbers, Recorder, Row};
+use named_instructions::fields::{Fault, Fields, parsed};
+use named_instructions::instructions_of;
 use std::alloc::Global;
 
 /// An empty recorder that knows the offsets of a column.

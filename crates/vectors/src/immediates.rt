@@ -1,10 +1,10 @@
 //! Immediates.
 
 use crate::columns::write_bytes;
-use named_instructions::fields::{Fault, Fields, parsed};
 use cranelift_assembler_x64::{
     FixedSink, Imm8, Imm16, Imm32, Imm64, OutOfRange, Simm8, Simm16, Simm32, SinkError,
 };
+use named_instructions::fields::{Fault, Fields, parsed};
 use std::str::FromStr;
 
 /// The immediate of a number, made and cloned through the traits.

@@ -2,12 +2,12 @@
 
 use crate::columns::{write_bytes, write_notices};
 use crate::encoding::recorder_of;
-use named_instructions::fields::{Fault, Fields, parsed};
-use named_instructions::instructions_of;
 use cax64_test_support::RefusingSink;
 use cranelift_assembler_x64::{
     CodeSink, FixedSink, Inst, Instruction, Numbers, Recorder, encode_all, encode_all_whole,
 };
+use named_instructions::fields::{Fault, Fields, parsed};
+use named_instructions::instructions_of;
 use std::alloc::Global;
 
 /// The size of the fixed sink.

@@ -17,8 +17,8 @@ mod report;
 mod tails;
 mod visits;
 
-use named_instructions::fields::{Fault, Fields};
 use crate::report::{Difference, Report, report_of};
+use named_instructions::fields::{Fault, Fields};
 use std::alloc::Global;
 use std::io::ErrorKind;
 use std::process::ExitCode;

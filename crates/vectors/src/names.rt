@@ -1,7 +1,7 @@
 //! Names of registers.
 
-use named_instructions::fields::{Fault, Fields};
 use cranelift_assembler_x64::{Size, gpr, xmm};
+use named_instructions::fields::{Fault, Fields};
 
 pub(crate) fn answer_name(fields: &mut Fields<'_>, came: &mut String) -> Result<(), Fault> {
     let kind = fields.text()?;

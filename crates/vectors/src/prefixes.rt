@@ -1,11 +1,11 @@
 //! REX, VEX and EVEX.
 
 use crate::columns::write_bytes;
-use named_instructions::fields::{Fault, Fields};
 use cranelift_assembler_x64::FixedSink;
 use cranelift_assembler_x64::evex::EvexPrefix;
 use cranelift_assembler_x64::rex::RexPrefix;
 use cranelift_assembler_x64::vex::VexPrefix;
+use named_instructions::fields::{Fault, Fields};
 
 pub(crate) fn answer_rex(fields: &mut Fields<'_>, came: &mut String) -> Result<(), Fault> {
     let call = fields.text()?;

@@ -2,8 +2,8 @@
 
 ghost use Rattle.std.specs.Prelude.{◌<◌, IfOk};
 
-use named_instructions::fields::{Fault, Fields};
 use cranelift_assembler_x64::reader::{Place, Reading, RegView, read_inst};
+use named_instructions::fields::{Fault, Fields};
 use std::alloc::Global;
 
 fn digit_of(byte: u8) -> Result<u8, Fault>

@@ -1,12 +1,12 @@
 //! ModR/M, SIB and displacement.
 
-use named_instructions::address::{Parts, amode_of, target_of};
 use crate::columns::{write_bytes, write_calls, write_notices};
 use crate::encoding::recorder_of;
-use named_instructions::fields::{Fault, Fields, parsed};
 use cax64_test_support::{CallRecorder, RefusingSink};
 use cranelift_assembler_x64::rex::Disp;
 use cranelift_assembler_x64::{Amode, FixedSink, Recorder, emit_modrm_sib_disp};
+use named_instructions::address::{Parts, amode_of, target_of};
+use named_instructions::fields::{Fault, Fields, parsed};
 use std::alloc::Global;
 
 pub(crate) fn answer_tail(fields: &mut Fields<'_>, came: &mut String) -> Result<(), Fault> {

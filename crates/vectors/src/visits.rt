@@ -2,8 +2,8 @@
 
 ghost use Rattle.std.specs.Prelude.{◌≡◌};
 
-use named_instructions::fields::Fault;
 use cranelift_assembler_x64::{Inst, Instruction, Numbers, RegisterVisitor};
+use named_instructions::fields::Fault;
 use std::alloc::Global;
 
 /// Writes each call that it gets, with spaces between them. The registers stay.

@@ -4,13 +4,31 @@ use crate::fields::Fault;
 use crate::names::Adds;
 use crate::names::simd::add_sse;
 use crate::values::Values;
-use cranelift_assembler_x64::inst::{andb_i, mulxl_rvm, mulxq_rvm, rolb_m1, roll_m1, rolq_m1, rolw_m1, rorb_m1, rorl_m1, rorq_m1, rorw_m1, sarb_m1, sarl_m1, sarq_m1, sarw_m1, shlb_m1, shll_m1, shlq_m1, shlw_m1, shrb_m1, shrl_m1, shrq_m1, shrw_m1, xchgb_rm, xchgl_rm, xchgq_rm, xchgw_rm};
+use cranelift_assembler_x64::inst::{
+    andb_i, mulxl_rvm, mulxq_rvm, rolb_m1, roll_m1, rolq_m1, rolw_m1, rorb_m1, rorl_m1, rorq_m1,
+    rorw_m1, sarb_m1, sarl_m1, sarq_m1, sarw_m1, shlb_m1, shll_m1, shlq_m1, shlw_m1, shrb_m1,
+    shrl_m1, shrq_m1, shrw_m1, xchgb_rm, xchgl_rm, xchgq_rm, xchgw_rm,
+};
 
-pub(crate) fn add_parts<L: Adds>(list: &mut L, name: &str, v: &mut Values<'_>) -> Result<(), Fault> {
+pub(crate) fn add_parts<L: Adds>(
+    list: &mut L,
+    name: &str,
+    v: &mut Values<'_>,
+) -> Result<(), Fault> {
     match name {
         "andb_i" => list.add(andb_i::new(v.fixed("al"), v.imm8("imm8"))),
-        "mulxl_rvm" => list.add(mulxl_rvm::new(v.gpr("r32a"), v.gpr("r32b"), v.gpr_mem("rm32"), v.fixed("edx"))),
-        "mulxq_rvm" => list.add(mulxq_rvm::new(v.gpr("r64a"), v.gpr("r64b"), v.gpr_mem("rm64"), v.fixed("rdx"))),
+        "mulxl_rvm" => list.add(mulxl_rvm::new(
+            v.gpr("r32a"),
+            v.gpr("r32b"),
+            v.gpr_mem("rm32"),
+            v.fixed("edx"),
+        )),
+        "mulxq_rvm" => list.add(mulxq_rvm::new(
+            v.gpr("r64a"),
+            v.gpr("r64b"),
+            v.gpr_mem("rm64"),
+            v.fixed("rdx"),
+        )),
         "xchgb_rm" => list.add(xchgb_rm::new(v.gpr("r8"), v.amode("m8"))),
         "xchgw_rm" => list.add(xchgw_rm::new(v.gpr("r16"), v.amode("m16"))),
         "xchgl_rm" => list.add(xchgl_rm::new(v.gpr("r32"), v.amode("m32"))),

@@ -4,7 +4,22 @@ use crate::fields::Fault;
 use crate::names::Adds;
 use crate::names::arith::add_parts;
 use crate::values::Values;
-use cranelift_assembler_x64::inst::{lock_adcb_mi, lock_adcb_mr, lock_adcl_mi, lock_adcl_mi_sxb, lock_adcl_mr, lock_adcq_mi_sxb, lock_adcq_mi_sxl, lock_adcq_mr, lock_adcw_mi, lock_adcw_mr, lock_addb_mi, lock_addb_mr, lock_addl_mi, lock_addl_mi_sxb, lock_addl_mr, lock_addq_mi_sxb, lock_addq_mi_sxl, lock_addq_mr, lock_addw_mi, lock_addw_mr, lock_andb_mi, lock_andb_mr, lock_andl_mi, lock_andl_mi_sxb, lock_andl_mr, lock_andq_mi_sxb, lock_andq_mi_sxl, lock_andq_mr, lock_andw_mi, lock_andw_mr, lock_cmpxchg16b_m, lock_cmpxchgb_mr, lock_cmpxchgl_mr, lock_cmpxchgq_mr, lock_cmpxchgw_mr, lock_orb_mi, lock_orb_mr, lock_orl_mi, lock_orl_mi_sxb, lock_orl_mr, lock_orq_mi_sxb, lock_orq_mi_sxl, lock_orq_mr, lock_orw_mi, lock_orw_mr, lock_sbbb_mi, lock_sbbb_mr, lock_sbbl_mi, lock_sbbl_mi_sxb, lock_sbbl_mr, lock_sbbq_mi_sxb, lock_sbbq_mi_sxl, lock_sbbq_mr, lock_sbbw_mi, lock_sbbw_mr, lock_subb_mi, lock_subb_mr, lock_subl_mi, lock_subl_mi_sxb, lock_subl_mr, lock_subq_mi_sxb, lock_subq_mi_sxl, lock_subq_mr, lock_subw_mi, lock_subw_mr, lock_xaddb_mr, lock_xaddl_mr, lock_xaddq_mr, lock_xaddw_mr, lock_xorb_mi, lock_xorb_mr, lock_xorl_mi, lock_xorl_mi_sxb, lock_xorl_mr, lock_xorq_mi_sxb, lock_xorq_mi_sxl, lock_xorq_mr, lock_xorw_mi, lock_xorw_mr};
+use cranelift_assembler_x64::inst::{
+    lock_adcb_mi, lock_adcb_mr, lock_adcl_mi, lock_adcl_mi_sxb, lock_adcl_mr, lock_adcq_mi_sxb,
+    lock_adcq_mi_sxl, lock_adcq_mr, lock_adcw_mi, lock_adcw_mr, lock_addb_mi, lock_addb_mr,
+    lock_addl_mi, lock_addl_mi_sxb, lock_addl_mr, lock_addq_mi_sxb, lock_addq_mi_sxl, lock_addq_mr,
+    lock_addw_mi, lock_addw_mr, lock_andb_mi, lock_andb_mr, lock_andl_mi, lock_andl_mi_sxb,
+    lock_andl_mr, lock_andq_mi_sxb, lock_andq_mi_sxl, lock_andq_mr, lock_andw_mi, lock_andw_mr,
+    lock_cmpxchg16b_m, lock_cmpxchgb_mr, lock_cmpxchgl_mr, lock_cmpxchgq_mr, lock_cmpxchgw_mr,
+    lock_orb_mi, lock_orb_mr, lock_orl_mi, lock_orl_mi_sxb, lock_orl_mr, lock_orq_mi_sxb,
+    lock_orq_mi_sxl, lock_orq_mr, lock_orw_mi, lock_orw_mr, lock_sbbb_mi, lock_sbbb_mr,
+    lock_sbbl_mi, lock_sbbl_mi_sxb, lock_sbbl_mr, lock_sbbq_mi_sxb, lock_sbbq_mi_sxl, lock_sbbq_mr,
+    lock_sbbw_mi, lock_sbbw_mr, lock_subb_mi, lock_subb_mr, lock_subl_mi, lock_subl_mi_sxb,
+    lock_subl_mr, lock_subq_mi_sxb, lock_subq_mi_sxl, lock_subq_mr, lock_subw_mi, lock_subw_mr,
+    lock_xaddb_mr, lock_xaddl_mr, lock_xaddq_mr, lock_xaddw_mr, lock_xorb_mi, lock_xorb_mr,
+    lock_xorl_mi, lock_xorl_mi_sxb, lock_xorl_mr, lock_xorq_mi_sxb, lock_xorq_mi_sxl, lock_xorq_mr,
+    lock_xorw_mi, lock_xorw_mr,
+};
 
 pub(crate) fn add_add<L: Adds>(list: &mut L, name: &str, v: &mut Values<'_>) -> Result<(), Fault> {
     match name {
@@ -120,11 +135,33 @@ fn add_xor<L: Adds>(list: &mut L, name: &str, v: &mut Values<'_>) -> Result<(), 
 
 fn add_exchange<L: Adds>(list: &mut L, name: &str, v: &mut Values<'_>) -> Result<(), Fault> {
     match name {
-        "lock_cmpxchgb_mr" => list.add(lock_cmpxchgb_mr::new(v.amode("m8"), v.gpr("r8"), v.fixed("al"))),
-        "lock_cmpxchgw_mr" => list.add(lock_cmpxchgw_mr::new(v.amode("m16"), v.gpr("r16"), v.fixed("ax"))),
-        "lock_cmpxchgl_mr" => list.add(lock_cmpxchgl_mr::new(v.amode("m32"), v.gpr("r32"), v.fixed("eax"))),
-        "lock_cmpxchgq_mr" => list.add(lock_cmpxchgq_mr::new(v.amode("m64"), v.gpr("r64"), v.fixed("rax"))),
-        "lock_cmpxchg16b_m" => list.add(lock_cmpxchg16b_m::new(v.amode("m128"), v.fixed("rax"), v.fixed("rdx"), v.fixed("rcx"), v.fixed("rbx"))),
+        "lock_cmpxchgb_mr" => list.add(lock_cmpxchgb_mr::new(
+            v.amode("m8"),
+            v.gpr("r8"),
+            v.fixed("al"),
+        )),
+        "lock_cmpxchgw_mr" => list.add(lock_cmpxchgw_mr::new(
+            v.amode("m16"),
+            v.gpr("r16"),
+            v.fixed("ax"),
+        )),
+        "lock_cmpxchgl_mr" => list.add(lock_cmpxchgl_mr::new(
+            v.amode("m32"),
+            v.gpr("r32"),
+            v.fixed("eax"),
+        )),
+        "lock_cmpxchgq_mr" => list.add(lock_cmpxchgq_mr::new(
+            v.amode("m64"),
+            v.gpr("r64"),
+            v.fixed("rax"),
+        )),
+        "lock_cmpxchg16b_m" => list.add(lock_cmpxchg16b_m::new(
+            v.amode("m128"),
+            v.fixed("rax"),
+            v.fixed("rdx"),
+            v.fixed("rcx"),
+            v.fixed("rbx"),
+        )),
         "lock_xaddb_mr" => list.add(lock_xaddb_mr::new(v.amode("m8"), v.gpr("r8"))),
         "lock_xaddw_mr" => list.add(lock_xaddw_mr::new(v.amode("m16"), v.gpr("r16"))),
         "lock_xaddl_mr" => list.add(lock_xaddl_mr::new(v.amode("m32"), v.gpr("r32"))),

@@ -2,7 +2,9 @@
 
 use crate::fields::{Fault, parsed};
 use crate::names::Adds;
-use cranelift_assembler_x64::inst::{nop_1b, nop_2b, nop_3b, nop_4b, nop_5b, nop_6b, nop_7b, nop_8b, nop_9b};
+use cranelift_assembler_x64::inst::{
+    nop_1b, nop_2b, nop_3b, nop_4b, nop_5b, nop_6b, nop_7b, nop_8b, nop_9b,
+};
 
 /// The number of bytes of the nop of this name.
 fn nop_length(name: &str) -> Result<u8, Fault> {
