@@ -1,13 +1,18 @@
 //! `and`. (Intel SDM, volume 2, `AND`.)
 
-ghost use Rattle.std.specs.Prelude.{◌≡◌};
+ghost use Rattle.std.specs.Prelude.{◌≡◌, Some};
 ghost use Rattle.cax64_machine_code.specs.declared.row.Row.TheVariants as row;
-ghost use Rattle.arith.specs.Operands.{operands_andb_i};
+ghost use Rattle.cax64_operand.specs.declared.immediate.Immediate.TheVariants as immediate;
+ghost use Rattle.cax64_operand.specs.declared.operand.Operand.TheVariants.{FixedReadWriteGpr, Imm};
+ghost use Rattle.cax64_operand.specs.declared.operand.Operands.{Operands};
+ghost use Rattle.cax64_operand.specs.declared.operand.Operands.TheVariants.{Two};
+ghost use Rattle.cax64_register.specs.declared.gpr.Size.TheVariants.{Byte};
 
 use cax64_immediate::Imm8;
 use cax64_machine_code::row::Row;
 use cax64_operand::{Immediate, Operand, Operands, RegisterVisitor, RowAndOperands};
 use cax64_register::{Fixed, Registers, Size};
+use std::marker::Model;
 
 /// `al` AND `imm8`.
 #[derive(Drop)]
@@ -16,10 +21,15 @@ pub struct andb_i<R: Registers> {
     pub imm8: Imm8,
 }
 
+impl<R: Registers> Model for andb_i<R> {
+    ghost Value = { Operands R R.ReadGpr R.ReadWriteGpr R.WriteGpr R.ReadXmm R.ReadWriteXmm R.WriteXmm };
+
+    ghost view = { λ i. Two (FixedReadWriteGpr i.al.0 0 (Some Byte)) (Imm (immediate.Imm8 i.imm8)) };
+}
+
 impl<R: Registers> andb_i<R> {
     pub fn new(al: Fixed<R::ReadWriteGpr, 0>, imm8: Imm8) -> Self
-        ensures al { result.al ≡ al }
-        ensures imm8 { result.imm8 ≡ imm8 }
+        ensures { result ≡ Two (FixedReadWriteGpr al.0 0 (Some Byte)) (Imm (immediate.Imm8 imm8)) }
     {
         andb_i { al, imm8 }
     }
@@ -30,7 +40,7 @@ impl<R: Registers> RowAndOperands for andb_i<R> {
 
     ghost row_of = { λ _. row.andb_i };
 
-    ghost operands_of = { operands_andb_i };
+    ghost operands_of = { λ i. i };
 
     fn row(&self) -> Row {
         Row::andb_i

@@ -1,13 +1,17 @@
 //! `mulx`. (Intel SDM, volume 2, `MULX`.)
 
-ghost use Rattle.std.specs.Prelude.{◌≡◌};
+ghost use Rattle.std.specs.Prelude.{◌≡◌, None};
 ghost use Rattle.cax64_machine_code.specs.declared.row.Row.TheVariants as row;
-ghost use Rattle.arith.specs.Operands.{operands_mulxl_rvm, operands_mulxq_rvm};
+ghost use Rattle.cax64_operand.specs.declared.operand.Operand.TheVariants.{FixedReadGpr, ReadGprMem, WriteTwoGprs};
+ghost use Rattle.cax64_operand.specs.declared.operand.Operands.{Operands};
+ghost use Rattle.cax64_operand.specs.declared.operand.Operands.TheVariants.{Three};
+ghost use Rattle.cax64_register.specs.declared.gpr.Size.TheVariants.{Doubleword, Quadword};
 
 use cax64_address::operand::GprMem;
 use cax64_machine_code::row::Row;
 use cax64_operand::{Operand, Operands, RegisterVisitor, RowAndOperands, visit_two_gprs};
 use cax64_register::{Fixed, Gpr, Registers, Size};
+use std::marker::Model;
 
 /// Unsigned multiply of `rm32` with `edx`: the high half goes to `r32a`, the low half to `r32b`. No flags are changed.
 #[derive(Drop)]
@@ -18,6 +22,12 @@ pub struct mulxl_rvm<R: Registers> {
     pub edx: Fixed<R::ReadGpr, 2>,
 }
 
+impl<R: Registers> Model for mulxl_rvm<R> {
+    ghost Value = { Operands R R.ReadGpr R.ReadWriteGpr R.WriteGpr R.ReadXmm R.ReadWriteXmm R.WriteXmm };
+
+    ghost view = { λ i. Three (WriteTwoGprs i.r32a i.r32b Doubleword) (ReadGprMem i.rm32 Doubleword) (FixedReadGpr i.edx.0 2 None) };
+}
+
 impl<R: Registers> mulxl_rvm<R> {
     pub fn new(
         r32a: Gpr<R::WriteGpr>,
@@ -25,10 +35,7 @@ impl<R: Registers> mulxl_rvm<R> {
         rm32: GprMem<R::ReadGpr, R::ReadGpr>,
         edx: Fixed<R::ReadGpr, 2>,
     ) -> Self
-        ensures r32a { result.r32a ≡ r32a }
-        ensures r32b { result.r32b ≡ r32b }
-        ensures rm32 { result.rm32 ≡ rm32 }
-        ensures edx { result.edx ≡ edx }
+        ensures { result ≡ Three (WriteTwoGprs r32a r32b Doubleword) (ReadGprMem rm32 Doubleword) (FixedReadGpr edx.0 2 None) }
     {
         mulxl_rvm {
             r32a,
@@ -44,7 +51,7 @@ impl<R: Registers> RowAndOperands for mulxl_rvm<R> {
 
     ghost row_of = { λ _. row.mulxl_rvm };
 
-    ghost operands_of = { operands_mulxl_rvm };
+    ghost operands_of = { λ i. i };
 
     fn row(&self) -> Row {
         Row::mulxl_rvm
@@ -75,6 +82,12 @@ pub struct mulxq_rvm<R: Registers> {
     pub rdx: Fixed<R::ReadGpr, 2>,
 }
 
+impl<R: Registers> Model for mulxq_rvm<R> {
+    ghost Value = { Operands R R.ReadGpr R.ReadWriteGpr R.WriteGpr R.ReadXmm R.ReadWriteXmm R.WriteXmm };
+
+    ghost view = { λ i. Three (WriteTwoGprs i.r64a i.r64b Quadword) (ReadGprMem i.rm64 Quadword) (FixedReadGpr i.rdx.0 2 None) };
+}
+
 impl<R: Registers> mulxq_rvm<R> {
     pub fn new(
         r64a: Gpr<R::WriteGpr>,
@@ -82,10 +95,7 @@ impl<R: Registers> mulxq_rvm<R> {
         rm64: GprMem<R::ReadGpr, R::ReadGpr>,
         rdx: Fixed<R::ReadGpr, 2>,
     ) -> Self
-        ensures r64a { result.r64a ≡ r64a }
-        ensures r64b { result.r64b ≡ r64b }
-        ensures rm64 { result.rm64 ≡ rm64 }
-        ensures rdx { result.rdx ≡ rdx }
+        ensures { result ≡ Three (WriteTwoGprs r64a r64b Quadword) (ReadGprMem rm64 Quadword) (FixedReadGpr rdx.0 2 None) }
     {
         mulxq_rvm {
             r64a,
@@ -101,7 +111,7 @@ impl<R: Registers> RowAndOperands for mulxq_rvm<R> {
 
     ghost row_of = { λ _. row.mulxq_rvm };
 
-    ghost operands_of = { operands_mulxq_rvm };
+    ghost operands_of = { λ i. i };
 
     fn row(&self) -> Row {
         Row::mulxq_rvm

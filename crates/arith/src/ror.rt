@@ -2,12 +2,16 @@
 
 ghost use Rattle.std.specs.Prelude.{◌≡◌};
 ghost use Rattle.cax64_machine_code.specs.declared.row.Row.TheVariants as row;
-ghost use Rattle.arith.specs.Operands.{operands_rorb_m1, operands_rorw_m1, operands_rorl_m1, operands_rorq_m1};
+ghost use Rattle.cax64_operand.specs.declared.operand.Operand.TheVariants.{ReadWriteGprMem};
+ghost use Rattle.cax64_operand.specs.declared.operand.Operands.{Operands};
+ghost use Rattle.cax64_operand.specs.declared.operand.Operands.TheVariants.{One};
+ghost use Rattle.cax64_register.specs.declared.gpr.Size.TheVariants.{Byte, Doubleword, Quadword, Word};
 
 use cax64_address::operand::GprMem;
 use cax64_machine_code::row::Row;
 use cax64_operand::{Operand, Operands, RegisterVisitor, RowAndOperands};
 use cax64_register::{Registers, Size};
+use std::marker::Model;
 
 /// Rotate 8 bits `rm8` right once.
 #[derive(Drop)]
@@ -15,9 +19,15 @@ pub struct rorb_m1<R: Registers> {
     pub rm8: GprMem<R::ReadWriteGpr, R::ReadGpr>,
 }
 
+impl<R: Registers> Model for rorb_m1<R> {
+    ghost Value = { Operands R R.ReadGpr R.ReadWriteGpr R.WriteGpr R.ReadXmm R.ReadWriteXmm R.WriteXmm };
+
+    ghost view = { λ i. One (ReadWriteGprMem i.rm8 Byte) };
+}
+
 impl<R: Registers> rorb_m1<R> {
     pub fn new(rm8: GprMem<R::ReadWriteGpr, R::ReadGpr>) -> Self
-        ensures rm8 { result.rm8 ≡ rm8 }
+        ensures { result ≡ One (ReadWriteGprMem rm8 Byte) }
     {
         rorb_m1 { rm8 }
     }
@@ -28,7 +38,7 @@ impl<R: Registers> RowAndOperands for rorb_m1<R> {
 
     ghost row_of = { λ _. row.rorb_m1 };
 
-    ghost operands_of = { operands_rorb_m1 };
+    ghost operands_of = { λ i. i };
 
     fn row(&self) -> Row {
         Row::rorb_m1
@@ -50,9 +60,15 @@ pub struct rorw_m1<R: Registers> {
     pub rm16: GprMem<R::ReadWriteGpr, R::ReadGpr>,
 }
 
+impl<R: Registers> Model for rorw_m1<R> {
+    ghost Value = { Operands R R.ReadGpr R.ReadWriteGpr R.WriteGpr R.ReadXmm R.ReadWriteXmm R.WriteXmm };
+
+    ghost view = { λ i. One (ReadWriteGprMem i.rm16 Word) };
+}
+
 impl<R: Registers> rorw_m1<R> {
     pub fn new(rm16: GprMem<R::ReadWriteGpr, R::ReadGpr>) -> Self
-        ensures rm16 { result.rm16 ≡ rm16 }
+        ensures { result ≡ One (ReadWriteGprMem rm16 Word) }
     {
         rorw_m1 { rm16 }
     }
@@ -63,7 +79,7 @@ impl<R: Registers> RowAndOperands for rorw_m1<R> {
 
     ghost row_of = { λ _. row.rorw_m1 };
 
-    ghost operands_of = { operands_rorw_m1 };
+    ghost operands_of = { λ i. i };
 
     fn row(&self) -> Row {
         Row::rorw_m1
@@ -85,9 +101,15 @@ pub struct rorl_m1<R: Registers> {
     pub rm32: GprMem<R::ReadWriteGpr, R::ReadGpr>,
 }
 
+impl<R: Registers> Model for rorl_m1<R> {
+    ghost Value = { Operands R R.ReadGpr R.ReadWriteGpr R.WriteGpr R.ReadXmm R.ReadWriteXmm R.WriteXmm };
+
+    ghost view = { λ i. One (ReadWriteGprMem i.rm32 Doubleword) };
+}
+
 impl<R: Registers> rorl_m1<R> {
     pub fn new(rm32: GprMem<R::ReadWriteGpr, R::ReadGpr>) -> Self
-        ensures rm32 { result.rm32 ≡ rm32 }
+        ensures { result ≡ One (ReadWriteGprMem rm32 Doubleword) }
     {
         rorl_m1 { rm32 }
     }
@@ -98,7 +120,7 @@ impl<R: Registers> RowAndOperands for rorl_m1<R> {
 
     ghost row_of = { λ _. row.rorl_m1 };
 
-    ghost operands_of = { operands_rorl_m1 };
+    ghost operands_of = { λ i. i };
 
     fn row(&self) -> Row {
         Row::rorl_m1
@@ -120,9 +142,15 @@ pub struct rorq_m1<R: Registers> {
     pub rm64: GprMem<R::ReadWriteGpr, R::ReadGpr>,
 }
 
+impl<R: Registers> Model for rorq_m1<R> {
+    ghost Value = { Operands R R.ReadGpr R.ReadWriteGpr R.WriteGpr R.ReadXmm R.ReadWriteXmm R.WriteXmm };
+
+    ghost view = { λ i. One (ReadWriteGprMem i.rm64 Quadword) };
+}
+
 impl<R: Registers> rorq_m1<R> {
     pub fn new(rm64: GprMem<R::ReadWriteGpr, R::ReadGpr>) -> Self
-        ensures rm64 { result.rm64 ≡ rm64 }
+        ensures { result ≡ One (ReadWriteGprMem rm64 Quadword) }
     {
         rorq_m1 { rm64 }
     }
@@ -133,7 +161,7 @@ impl<R: Registers> RowAndOperands for rorq_m1<R> {
 
     ghost row_of = { λ _. row.rorq_m1 };
 
-    ghost operands_of = { operands_rorq_m1 };
+    ghost operands_of = { λ i. i };
 
     fn row(&self) -> Row {
         Row::rorq_m1

@@ -2,12 +2,16 @@
 
 ghost use Rattle.std.specs.Prelude.{◌≡◌};
 ghost use Rattle.cax64_machine_code.specs.declared.row.Row.TheVariants as row;
-ghost use Rattle.arith.specs.Operands.{operands_xchgb_rm, operands_xchgw_rm, operands_xchgl_rm, operands_xchgq_rm};
+ghost use Rattle.cax64_operand.specs.declared.operand.Operand.TheVariants.{ReadAmode, ReadWriteGpr};
+ghost use Rattle.cax64_operand.specs.declared.operand.Operands.{Operands};
+ghost use Rattle.cax64_operand.specs.declared.operand.Operands.TheVariants.{Two};
+ghost use Rattle.cax64_register.specs.declared.gpr.Size.TheVariants.{Byte, Doubleword, Quadword, Word};
 
 use cax64_address::amode::Amode;
 use cax64_machine_code::row::Row;
 use cax64_operand::{Operand, Operands, RegisterVisitor, RowAndOperands};
 use cax64_register::{Gpr, Registers, Size};
+use std::marker::Model;
 
 /// Exchange byte from `m8` with `r8`.
 #[derive(Drop)]
@@ -16,10 +20,15 @@ pub struct xchgb_rm<R: Registers> {
     pub m8: Amode<R::ReadGpr>,
 }
 
+impl<R: Registers> Model for xchgb_rm<R> {
+    ghost Value = { Operands R R.ReadGpr R.ReadWriteGpr R.WriteGpr R.ReadXmm R.ReadWriteXmm R.WriteXmm };
+
+    ghost view = { λ i. Two (ReadWriteGpr i.r8 Byte) (ReadAmode i.m8) };
+}
+
 impl<R: Registers> xchgb_rm<R> {
     pub fn new(r8: Gpr<R::ReadWriteGpr>, m8: Amode<R::ReadGpr>) -> Self
-        ensures r8 { result.r8 ≡ r8 }
-        ensures m8 { result.m8 ≡ m8 }
+        ensures { result ≡ Two (ReadWriteGpr r8 Byte) (ReadAmode m8) }
     {
         xchgb_rm { r8, m8 }
     }
@@ -30,7 +39,7 @@ impl<R: Registers> RowAndOperands for xchgb_rm<R> {
 
     ghost row_of = { λ _. row.xchgb_rm };
 
-    ghost operands_of = { operands_xchgb_rm };
+    ghost operands_of = { λ i. i };
 
     fn row(&self) -> Row {
         Row::xchgb_rm
@@ -57,10 +66,15 @@ pub struct xchgw_rm<R: Registers> {
     pub m16: Amode<R::ReadGpr>,
 }
 
+impl<R: Registers> Model for xchgw_rm<R> {
+    ghost Value = { Operands R R.ReadGpr R.ReadWriteGpr R.WriteGpr R.ReadXmm R.ReadWriteXmm R.WriteXmm };
+
+    ghost view = { λ i. Two (ReadWriteGpr i.r16 Word) (ReadAmode i.m16) };
+}
+
 impl<R: Registers> xchgw_rm<R> {
     pub fn new(r16: Gpr<R::ReadWriteGpr>, m16: Amode<R::ReadGpr>) -> Self
-        ensures r16 { result.r16 ≡ r16 }
-        ensures m16 { result.m16 ≡ m16 }
+        ensures { result ≡ Two (ReadWriteGpr r16 Word) (ReadAmode m16) }
     {
         xchgw_rm { r16, m16 }
     }
@@ -71,7 +85,7 @@ impl<R: Registers> RowAndOperands for xchgw_rm<R> {
 
     ghost row_of = { λ _. row.xchgw_rm };
 
-    ghost operands_of = { operands_xchgw_rm };
+    ghost operands_of = { λ i. i };
 
     fn row(&self) -> Row {
         Row::xchgw_rm
@@ -98,10 +112,15 @@ pub struct xchgl_rm<R: Registers> {
     pub m32: Amode<R::ReadGpr>,
 }
 
+impl<R: Registers> Model for xchgl_rm<R> {
+    ghost Value = { Operands R R.ReadGpr R.ReadWriteGpr R.WriteGpr R.ReadXmm R.ReadWriteXmm R.WriteXmm };
+
+    ghost view = { λ i. Two (ReadWriteGpr i.r32 Doubleword) (ReadAmode i.m32) };
+}
+
 impl<R: Registers> xchgl_rm<R> {
     pub fn new(r32: Gpr<R::ReadWriteGpr>, m32: Amode<R::ReadGpr>) -> Self
-        ensures r32 { result.r32 ≡ r32 }
-        ensures m32 { result.m32 ≡ m32 }
+        ensures { result ≡ Two (ReadWriteGpr r32 Doubleword) (ReadAmode m32) }
     {
         xchgl_rm { r32, m32 }
     }
@@ -112,7 +131,7 @@ impl<R: Registers> RowAndOperands for xchgl_rm<R> {
 
     ghost row_of = { λ _. row.xchgl_rm };
 
-    ghost operands_of = { operands_xchgl_rm };
+    ghost operands_of = { λ i. i };
 
     fn row(&self) -> Row {
         Row::xchgl_rm
@@ -139,10 +158,15 @@ pub struct xchgq_rm<R: Registers> {
     pub m64: Amode<R::ReadGpr>,
 }
 
+impl<R: Registers> Model for xchgq_rm<R> {
+    ghost Value = { Operands R R.ReadGpr R.ReadWriteGpr R.WriteGpr R.ReadXmm R.ReadWriteXmm R.WriteXmm };
+
+    ghost view = { λ i. Two (ReadWriteGpr i.r64 Quadword) (ReadAmode i.m64) };
+}
+
 impl<R: Registers> xchgq_rm<R> {
     pub fn new(r64: Gpr<R::ReadWriteGpr>, m64: Amode<R::ReadGpr>) -> Self
-        ensures r64 { result.r64 ≡ r64 }
-        ensures m64 { result.m64 ≡ m64 }
+        ensures { result ≡ Two (ReadWriteGpr r64 Quadword) (ReadAmode m64) }
     {
         xchgq_rm { r64, m64 }
     }
@@ -153,7 +177,7 @@ impl<R: Registers> RowAndOperands for xchgq_rm<R> {
 
     ghost row_of = { λ _. row.xchgq_rm };
 
-    ghost operands_of = { operands_xchgq_rm };
+    ghost operands_of = { λ i. i };
 
     fn row(&self) -> Row {
         Row::xchgq_rm

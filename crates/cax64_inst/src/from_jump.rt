@@ -12,6 +12,22 @@ use jump::{
     jp_d8, jp_d32, js_d8, js_d32,
 };
 
+impl<R: Registers> From<callq_m<R>> for Inst<R> {
+    ghost from_gives = { λ i result. result ≡ inst.callq_m i };
+
+    fn from(i: callq_m<R>) -> Inst<R> {
+        Inst::callq_m(i)
+    }
+}
+
+impl<R: Registers> From<jmpq_m<R>> for Inst<R> {
+    ghost from_gives = { λ i result. result ≡ inst.jmpq_m i };
+
+    fn from(i: jmpq_m<R>) -> Inst<R> {
+        Inst::jmpq_m(i)
+    }
+}
+
 impl<R: Registers> From<jmp_d8> for Inst<R> {
     ghost from_gives = { λ i result. result ≡ inst.jmp_d8 i };
 
@@ -289,21 +305,5 @@ impl<R: Registers> From<jg_d32> for Inst<R> {
 
     fn from(i: jg_d32) -> Inst<R> {
         Inst::jg_d32(i)
-    }
-}
-
-impl<R: Registers> From<callq_m<R>> for Inst<R> {
-    ghost from_gives = { λ i result. result ≡ inst.callq_m i };
-
-    fn from(i: callq_m<R>) -> Inst<R> {
-        Inst::callq_m(i)
-    }
-}
-
-impl<R: Registers> From<jmpq_m<R>> for Inst<R> {
-    ghost from_gives = { λ i result. result ≡ inst.jmpq_m i };
-
-    fn from(i: jmpq_m<R>) -> Inst<R> {
-        Inst::jmpq_m(i)
     }
 }

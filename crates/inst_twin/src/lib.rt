@@ -39,8 +39,8 @@ impl<R: Registers> RowAndOperands for Twin<R> {
     #[tactic(auto, unfolding(crate::specs::Twin::row_of))]
     fn row(&self) -> Row {
         match self {
-            Twin::nop_1b(i) => i.row(),
-            Twin::lock_xaddb_mr(i) => i.row(),
+            Twin::nop_1b(_) => Row::nop_1b,
+            Twin::lock_xaddb_mr(_) => Row::lock_xaddb_mr,
         }
     }
 

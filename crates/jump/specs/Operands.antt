@@ -1,8 +1,7 @@
 use Rattle.cax64_operand.specs.declared.immediate.Immediate.TheVariants.{Distance8, Distance32}
-use Rattle.cax64_operand.specs.declared.operand.Operand.TheVariants.{ReadGprMem, Imm}
+use Rattle.cax64_operand.specs.declared.operand.Operand.TheVariants.{Imm}
 use Rattle.cax64_operand.specs.declared.operand.Operands.{Operands}
 use Rattle.cax64_operand.specs.declared.operand.Operands.TheVariants.{One}
-use Rattle.cax64_register.specs.declared.gpr.Size.TheVariants.{Quadword}
 use Rattle.jump.specs.declared.d8.jmp_d8.{jmp_d8}
 use Rattle.jump.specs.declared.d8.jo_d8.{jo_d8}
 use Rattle.jump.specs.declared.d8.jno_d8.{jno_d8}
@@ -38,8 +37,6 @@ use Rattle.jump.specs.declared.d32.jl_d32.{jl_d32}
 use Rattle.jump.specs.declared.d32.jge_d32.{jge_d32}
 use Rattle.jump.specs.declared.d32.jle_d32.{jle_d32}
 use Rattle.jump.specs.declared.d32.jg_d32.{jg_d32}
-use Rattle.jump.specs.declared.rm.callq_m.{callq_m}
-use Rattle.jump.specs.declared.rm.jmpq_m.{jmpq_m}
 
 -- The operands of each instruction, in the order of visits.
 
@@ -147,9 +144,3 @@ operands_jle_d32 i = One (Imm (Distance32 i.imm32))
 
 abbrev pub operands_jg_d32 : {R A B C D E F : Type 0} → jg_d32 → Operands R A B C D E F
 operands_jg_d32 i = One (Imm (Distance32 i.imm32))
-
-abbrev pub operands_callq_m : {R A B C D E F : Type 0} → callq_m R A B C D E F → Operands R A B C D E F
-operands_callq_m i = One (ReadGprMem i.rm64 Quadword)
-
-abbrev pub operands_jmpq_m : {R A B C D E F : Type 0} → jmpq_m R A B C D E F → Operands R A B C D E F
-operands_jmpq_m i = One (ReadGprMem i.rm64 Quadword)

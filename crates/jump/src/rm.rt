@@ -2,12 +2,16 @@
 
 ghost use Rattle.std.specs.Prelude.{◌≡◌};
 ghost use Rattle.cax64_machine_code.specs.declared.row.Row.TheVariants as row;
-ghost use Rattle.jump.specs.Operands.{operands_callq_m, operands_jmpq_m};
+ghost use Rattle.cax64_operand.specs.declared.operand.Operand.TheVariants.{ReadGprMem};
+ghost use Rattle.cax64_operand.specs.declared.operand.Operands.{Operands};
+ghost use Rattle.cax64_operand.specs.declared.operand.Operands.TheVariants.{One};
+ghost use Rattle.cax64_register.specs.declared.gpr.Size.TheVariants.{Quadword};
 
 use cax64_address::operand::GprMem;
 use cax64_machine_code::row::Row;
 use cax64_operand::{Operand, Operands, RegisterVisitor, RowAndOperands};
 use cax64_register::{Registers, Size};
+use std::marker::Model;
 
 /// Call near, absolute indirect, address given in `rm64`.
 #[derive(Drop)]
@@ -15,9 +19,15 @@ pub struct callq_m<R: Registers> {
     pub rm64: GprMem<R::ReadGpr, R::ReadGpr>,
 }
 
+impl<R: Registers> Model for callq_m<R> {
+    ghost Value = { Operands R R.ReadGpr R.ReadWriteGpr R.WriteGpr R.ReadXmm R.ReadWriteXmm R.WriteXmm };
+
+    ghost view = { λ i. One (ReadGprMem i.rm64 Quadword) };
+}
+
 impl<R: Registers> callq_m<R> {
     pub fn new(rm64: GprMem<R::ReadGpr, R::ReadGpr>) -> Self
-        ensures rm64 { result.rm64 ≡ rm64 }
+        ensures { result ≡ One (ReadGprMem rm64 Quadword) }
     {
         callq_m { rm64 }
     }
@@ -28,7 +38,7 @@ impl<R: Registers> RowAndOperands for callq_m<R> {
 
     ghost row_of = { λ _. row.callq_m };
 
-    ghost operands_of = { operands_callq_m };
+    ghost operands_of = { λ i. i };
 
     fn row(&self) -> Row {
         Row::callq_m
@@ -50,9 +60,15 @@ pub struct jmpq_m<R: Registers> {
     pub rm64: GprMem<R::ReadGpr, R::ReadGpr>,
 }
 
+impl<R: Registers> Model for jmpq_m<R> {
+    ghost Value = { Operands R R.ReadGpr R.ReadWriteGpr R.WriteGpr R.ReadXmm R.ReadWriteXmm R.WriteXmm };
+
+    ghost view = { λ i. One (ReadGprMem i.rm64 Quadword) };
+}
+
 impl<R: Registers> jmpq_m<R> {
     pub fn new(rm64: GprMem<R::ReadGpr, R::ReadGpr>) -> Self
-        ensures rm64 { result.rm64 ≡ rm64 }
+        ensures { result ≡ One (ReadGprMem rm64 Quadword) }
     {
         jmpq_m { rm64 }
     }
@@ -63,7 +79,7 @@ impl<R: Registers> RowAndOperands for jmpq_m<R> {
 
     ghost row_of = { λ _. row.jmpq_m };
 
-    ghost operands_of = { operands_jmpq_m };
+    ghost operands_of = { λ i. i };
 
     fn row(&self) -> Row {
         Row::jmpq_m

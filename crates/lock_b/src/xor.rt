@@ -2,13 +2,19 @@
 
 ghost use Rattle.std.specs.Prelude.{◌≡◌};
 ghost use Rattle.cax64_machine_code.specs.declared.row.Row.TheVariants as row;
-ghost use Rattle.lock_b.specs.Operands.{operands_lock_xorb_mi, operands_lock_xorw_mi, operands_lock_xorl_mi, operands_lock_xorq_mi_sxl, operands_lock_xorl_mi_sxb, operands_lock_xorq_mi_sxb, operands_lock_xorb_mr, operands_lock_xorw_mr, operands_lock_xorl_mr, operands_lock_xorq_mr};
+ghost use Rattle.cax64_immediate.specs.declared.extension.Extension.TheVariants.{SignExtendLong, SignExtendQuad};
+ghost use Rattle.cax64_operand.specs.declared.immediate.Immediate.TheVariants as immediate;
+ghost use Rattle.cax64_operand.specs.declared.operand.Operand.TheVariants.{Imm, ReadAmode, ReadGpr};
+ghost use Rattle.cax64_operand.specs.declared.operand.Operands.{Operands};
+ghost use Rattle.cax64_operand.specs.declared.operand.Operands.TheVariants.{Two};
+ghost use Rattle.cax64_register.specs.declared.gpr.Size.TheVariants.{Byte, Doubleword, Quadword, Word};
 
 use cax64_address::amode::Amode;
 use cax64_immediate::{Extension, Imm8, Imm16, Imm32, Simm8, Simm32};
 use cax64_machine_code::row::Row;
 use cax64_operand::{Immediate, Operand, Operands, RegisterVisitor, RowAndOperands};
 use cax64_register::{Gpr, Registers, Size};
+use std::marker::Model;
 
 /// `m8` XOR `imm8`. Locked.
 #[derive(Drop)]
@@ -17,10 +23,15 @@ pub struct lock_xorb_mi<R: Registers> {
     pub imm8: Imm8,
 }
 
+impl<R: Registers> Model for lock_xorb_mi<R> {
+    ghost Value = { Operands R R.ReadGpr R.ReadWriteGpr R.WriteGpr R.ReadXmm R.ReadWriteXmm R.WriteXmm };
+
+    ghost view = { λ i. Two (ReadAmode i.m8) (Imm (immediate.Imm8 i.imm8)) };
+}
+
 impl<R: Registers> lock_xorb_mi<R> {
     pub fn new(m8: Amode<R::ReadGpr>, imm8: Imm8) -> Self
-        ensures m8 { result.m8 ≡ m8 }
-        ensures imm8 { result.imm8 ≡ imm8 }
+        ensures { result ≡ Two (ReadAmode m8) (Imm (immediate.Imm8 imm8)) }
     {
         lock_xorb_mi { m8, imm8 }
     }
@@ -31,7 +42,7 @@ impl<R: Registers> RowAndOperands for lock_xorb_mi<R> {
 
     ghost row_of = { λ _. row.lock_xorb_mi };
 
-    ghost operands_of = { operands_lock_xorb_mi };
+    ghost operands_of = { λ i. i };
 
     fn row(&self) -> Row {
         Row::lock_xorb_mi
@@ -57,10 +68,15 @@ pub struct lock_xorw_mi<R: Registers> {
     pub imm16: Imm16,
 }
 
+impl<R: Registers> Model for lock_xorw_mi<R> {
+    ghost Value = { Operands R R.ReadGpr R.ReadWriteGpr R.WriteGpr R.ReadXmm R.ReadWriteXmm R.WriteXmm };
+
+    ghost view = { λ i. Two (ReadAmode i.m16) (Imm (immediate.Imm16 i.imm16)) };
+}
+
 impl<R: Registers> lock_xorw_mi<R> {
     pub fn new(m16: Amode<R::ReadGpr>, imm16: Imm16) -> Self
-        ensures m16 { result.m16 ≡ m16 }
-        ensures imm16 { result.imm16 ≡ imm16 }
+        ensures { result ≡ Two (ReadAmode m16) (Imm (immediate.Imm16 imm16)) }
     {
         lock_xorw_mi { m16, imm16 }
     }
@@ -71,7 +87,7 @@ impl<R: Registers> RowAndOperands for lock_xorw_mi<R> {
 
     ghost row_of = { λ _. row.lock_xorw_mi };
 
-    ghost operands_of = { operands_lock_xorw_mi };
+    ghost operands_of = { λ i. i };
 
     fn row(&self) -> Row {
         Row::lock_xorw_mi
@@ -97,10 +113,15 @@ pub struct lock_xorl_mi<R: Registers> {
     pub imm32: Imm32,
 }
 
+impl<R: Registers> Model for lock_xorl_mi<R> {
+    ghost Value = { Operands R R.ReadGpr R.ReadWriteGpr R.WriteGpr R.ReadXmm R.ReadWriteXmm R.WriteXmm };
+
+    ghost view = { λ i. Two (ReadAmode i.m32) (Imm (immediate.Imm32 i.imm32)) };
+}
+
 impl<R: Registers> lock_xorl_mi<R> {
     pub fn new(m32: Amode<R::ReadGpr>, imm32: Imm32) -> Self
-        ensures m32 { result.m32 ≡ m32 }
-        ensures imm32 { result.imm32 ≡ imm32 }
+        ensures { result ≡ Two (ReadAmode m32) (Imm (immediate.Imm32 imm32)) }
     {
         lock_xorl_mi { m32, imm32 }
     }
@@ -111,7 +132,7 @@ impl<R: Registers> RowAndOperands for lock_xorl_mi<R> {
 
     ghost row_of = { λ _. row.lock_xorl_mi };
 
-    ghost operands_of = { operands_lock_xorl_mi };
+    ghost operands_of = { λ i. i };
 
     fn row(&self) -> Row {
         Row::lock_xorl_mi
@@ -137,10 +158,15 @@ pub struct lock_xorq_mi_sxl<R: Registers> {
     pub imm32: Simm32,
 }
 
+impl<R: Registers> Model for lock_xorq_mi_sxl<R> {
+    ghost Value = { Operands R R.ReadGpr R.ReadWriteGpr R.WriteGpr R.ReadXmm R.ReadWriteXmm R.WriteXmm };
+
+    ghost view = { λ i. Two (ReadAmode i.m64) (Imm (immediate.Simm32 i.imm32 SignExtendQuad)) };
+}
+
 impl<R: Registers> lock_xorq_mi_sxl<R> {
     pub fn new(m64: Amode<R::ReadGpr>, imm32: Simm32) -> Self
-        ensures m64 { result.m64 ≡ m64 }
-        ensures imm32 { result.imm32 ≡ imm32 }
+        ensures { result ≡ Two (ReadAmode m64) (Imm (immediate.Simm32 imm32 SignExtendQuad)) }
     {
         lock_xorq_mi_sxl { m64, imm32 }
     }
@@ -151,7 +177,7 @@ impl<R: Registers> RowAndOperands for lock_xorq_mi_sxl<R> {
 
     ghost row_of = { λ _. row.lock_xorq_mi_sxl };
 
-    ghost operands_of = { operands_lock_xorq_mi_sxl };
+    ghost operands_of = { λ i. i };
 
     fn row(&self) -> Row {
         Row::lock_xorq_mi_sxl
@@ -177,10 +203,15 @@ pub struct lock_xorl_mi_sxb<R: Registers> {
     pub imm8: Simm8,
 }
 
+impl<R: Registers> Model for lock_xorl_mi_sxb<R> {
+    ghost Value = { Operands R R.ReadGpr R.ReadWriteGpr R.WriteGpr R.ReadXmm R.ReadWriteXmm R.WriteXmm };
+
+    ghost view = { λ i. Two (ReadAmode i.m32) (Imm (immediate.Simm8 i.imm8 SignExtendLong)) };
+}
+
 impl<R: Registers> lock_xorl_mi_sxb<R> {
     pub fn new(m32: Amode<R::ReadGpr>, imm8: Simm8) -> Self
-        ensures m32 { result.m32 ≡ m32 }
-        ensures imm8 { result.imm8 ≡ imm8 }
+        ensures { result ≡ Two (ReadAmode m32) (Imm (immediate.Simm8 imm8 SignExtendLong)) }
     {
         lock_xorl_mi_sxb { m32, imm8 }
     }
@@ -191,7 +222,7 @@ impl<R: Registers> RowAndOperands for lock_xorl_mi_sxb<R> {
 
     ghost row_of = { λ _. row.lock_xorl_mi_sxb };
 
-    ghost operands_of = { operands_lock_xorl_mi_sxb };
+    ghost operands_of = { λ i. i };
 
     fn row(&self) -> Row {
         Row::lock_xorl_mi_sxb
@@ -217,10 +248,15 @@ pub struct lock_xorq_mi_sxb<R: Registers> {
     pub imm8: Simm8,
 }
 
+impl<R: Registers> Model for lock_xorq_mi_sxb<R> {
+    ghost Value = { Operands R R.ReadGpr R.ReadWriteGpr R.WriteGpr R.ReadXmm R.ReadWriteXmm R.WriteXmm };
+
+    ghost view = { λ i. Two (ReadAmode i.m64) (Imm (immediate.Simm8 i.imm8 SignExtendQuad)) };
+}
+
 impl<R: Registers> lock_xorq_mi_sxb<R> {
     pub fn new(m64: Amode<R::ReadGpr>, imm8: Simm8) -> Self
-        ensures m64 { result.m64 ≡ m64 }
-        ensures imm8 { result.imm8 ≡ imm8 }
+        ensures { result ≡ Two (ReadAmode m64) (Imm (immediate.Simm8 imm8 SignExtendQuad)) }
     {
         lock_xorq_mi_sxb { m64, imm8 }
     }
@@ -231,7 +267,7 @@ impl<R: Registers> RowAndOperands for lock_xorq_mi_sxb<R> {
 
     ghost row_of = { λ _. row.lock_xorq_mi_sxb };
 
-    ghost operands_of = { operands_lock_xorq_mi_sxb };
+    ghost operands_of = { λ i. i };
 
     fn row(&self) -> Row {
         Row::lock_xorq_mi_sxb
@@ -257,10 +293,15 @@ pub struct lock_xorb_mr<R: Registers> {
     pub r8: Gpr<R::ReadGpr>,
 }
 
+impl<R: Registers> Model for lock_xorb_mr<R> {
+    ghost Value = { Operands R R.ReadGpr R.ReadWriteGpr R.WriteGpr R.ReadXmm R.ReadWriteXmm R.WriteXmm };
+
+    ghost view = { λ i. Two (ReadAmode i.m8) (ReadGpr i.r8 Byte) };
+}
+
 impl<R: Registers> lock_xorb_mr<R> {
     pub fn new(m8: Amode<R::ReadGpr>, r8: Gpr<R::ReadGpr>) -> Self
-        ensures m8 { result.m8 ≡ m8 }
-        ensures r8 { result.r8 ≡ r8 }
+        ensures { result ≡ Two (ReadAmode m8) (ReadGpr r8 Byte) }
     {
         lock_xorb_mr { m8, r8 }
     }
@@ -271,7 +312,7 @@ impl<R: Registers> RowAndOperands for lock_xorb_mr<R> {
 
     ghost row_of = { λ _. row.lock_xorb_mr };
 
-    ghost operands_of = { operands_lock_xorb_mr };
+    ghost operands_of = { λ i. i };
 
     fn row(&self) -> Row {
         Row::lock_xorb_mr
@@ -298,10 +339,15 @@ pub struct lock_xorw_mr<R: Registers> {
     pub r16: Gpr<R::ReadGpr>,
 }
 
+impl<R: Registers> Model for lock_xorw_mr<R> {
+    ghost Value = { Operands R R.ReadGpr R.ReadWriteGpr R.WriteGpr R.ReadXmm R.ReadWriteXmm R.WriteXmm };
+
+    ghost view = { λ i. Two (ReadAmode i.m16) (ReadGpr i.r16 Word) };
+}
+
 impl<R: Registers> lock_xorw_mr<R> {
     pub fn new(m16: Amode<R::ReadGpr>, r16: Gpr<R::ReadGpr>) -> Self
-        ensures m16 { result.m16 ≡ m16 }
-        ensures r16 { result.r16 ≡ r16 }
+        ensures { result ≡ Two (ReadAmode m16) (ReadGpr r16 Word) }
     {
         lock_xorw_mr { m16, r16 }
     }
@@ -312,7 +358,7 @@ impl<R: Registers> RowAndOperands for lock_xorw_mr<R> {
 
     ghost row_of = { λ _. row.lock_xorw_mr };
 
-    ghost operands_of = { operands_lock_xorw_mr };
+    ghost operands_of = { λ i. i };
 
     fn row(&self) -> Row {
         Row::lock_xorw_mr
@@ -339,10 +385,15 @@ pub struct lock_xorl_mr<R: Registers> {
     pub r32: Gpr<R::ReadGpr>,
 }
 
+impl<R: Registers> Model for lock_xorl_mr<R> {
+    ghost Value = { Operands R R.ReadGpr R.ReadWriteGpr R.WriteGpr R.ReadXmm R.ReadWriteXmm R.WriteXmm };
+
+    ghost view = { λ i. Two (ReadAmode i.m32) (ReadGpr i.r32 Doubleword) };
+}
+
 impl<R: Registers> lock_xorl_mr<R> {
     pub fn new(m32: Amode<R::ReadGpr>, r32: Gpr<R::ReadGpr>) -> Self
-        ensures m32 { result.m32 ≡ m32 }
-        ensures r32 { result.r32 ≡ r32 }
+        ensures { result ≡ Two (ReadAmode m32) (ReadGpr r32 Doubleword) }
     {
         lock_xorl_mr { m32, r32 }
     }
@@ -353,7 +404,7 @@ impl<R: Registers> RowAndOperands for lock_xorl_mr<R> {
 
     ghost row_of = { λ _. row.lock_xorl_mr };
 
-    ghost operands_of = { operands_lock_xorl_mr };
+    ghost operands_of = { λ i. i };
 
     fn row(&self) -> Row {
         Row::lock_xorl_mr
@@ -380,10 +431,15 @@ pub struct lock_xorq_mr<R: Registers> {
     pub r64: Gpr<R::ReadGpr>,
 }
 
+impl<R: Registers> Model for lock_xorq_mr<R> {
+    ghost Value = { Operands R R.ReadGpr R.ReadWriteGpr R.WriteGpr R.ReadXmm R.ReadWriteXmm R.WriteXmm };
+
+    ghost view = { λ i. Two (ReadAmode i.m64) (ReadGpr i.r64 Quadword) };
+}
+
 impl<R: Registers> lock_xorq_mr<R> {
     pub fn new(m64: Amode<R::ReadGpr>, r64: Gpr<R::ReadGpr>) -> Self
-        ensures m64 { result.m64 ≡ m64 }
-        ensures r64 { result.r64 ≡ r64 }
+        ensures { result ≡ Two (ReadAmode m64) (ReadGpr r64 Quadword) }
     {
         lock_xorq_mr { m64, r64 }
     }
@@ -394,7 +450,7 @@ impl<R: Registers> RowAndOperands for lock_xorq_mr<R> {
 
     ghost row_of = { λ _. row.lock_xorq_mr };
 
-    ghost operands_of = { operands_lock_xorq_mr };
+    ghost operands_of = { λ i. i };
 
     fn row(&self) -> Row {
         Row::lock_xorq_mr

@@ -1,13 +1,17 @@
 //! `lock cmpxchg`. (Intel SDM, volume 2, `CMPXCHG` and `CMPXCHG8B/CMPXCHG16B`.)
 
-ghost use Rattle.std.specs.Prelude.{◌≡◌};
+ghost use Rattle.std.specs.Prelude.{◌≡◌, None};
 ghost use Rattle.cax64_machine_code.specs.declared.row.Row.TheVariants as row;
-ghost use Rattle.lock_x.specs.Operands.{operands_lock_cmpxchgb_mr, operands_lock_cmpxchgw_mr, operands_lock_cmpxchgl_mr, operands_lock_cmpxchgq_mr, operands_lock_cmpxchg16b_m};
+ghost use Rattle.cax64_operand.specs.declared.operand.Operand.TheVariants.{FixedReadGpr, FixedReadWriteGpr, ReadAmode, ReadGpr};
+ghost use Rattle.cax64_operand.specs.declared.operand.Operands.{Operands};
+ghost use Rattle.cax64_operand.specs.declared.operand.Operands.TheVariants.{Five, Three};
+ghost use Rattle.cax64_register.specs.declared.gpr.Size.TheVariants.{Byte, Doubleword, Quadword, Word};
 
 use cax64_address::amode::Amode;
 use cax64_machine_code::row::Row;
 use cax64_operand::{Operand, Operands, RegisterVisitor, RowAndOperands};
 use cax64_register::{Fixed, Gpr, Registers, Size};
+use std::marker::Model;
 
 /// Compare `al` with `m8`. If equal, ZF is set and `r8` is loaded into `m8`. Else, clear ZF and load `m8` into `al`.
 /// Locked.
@@ -18,11 +22,15 @@ pub struct lock_cmpxchgb_mr<R: Registers> {
     pub al: Fixed<R::ReadWriteGpr, 0>,
 }
 
+impl<R: Registers> Model for lock_cmpxchgb_mr<R> {
+    ghost Value = { Operands R R.ReadGpr R.ReadWriteGpr R.WriteGpr R.ReadXmm R.ReadWriteXmm R.WriteXmm };
+
+    ghost view = { λ i. Three (ReadAmode i.m8) (ReadGpr i.r8 Byte) (FixedReadWriteGpr i.al.0 0 None) };
+}
+
 impl<R: Registers> lock_cmpxchgb_mr<R> {
     pub fn new(m8: Amode<R::ReadGpr>, r8: Gpr<R::ReadGpr>, al: Fixed<R::ReadWriteGpr, 0>) -> Self
-        ensures m8 { result.m8 ≡ m8 }
-        ensures r8 { result.r8 ≡ r8 }
-        ensures al { result.al ≡ al }
+        ensures { result ≡ Three (ReadAmode m8) (ReadGpr r8 Byte) (FixedReadWriteGpr al.0 0 None) }
     {
         lock_cmpxchgb_mr { m8, r8, al }
     }
@@ -33,7 +41,7 @@ impl<R: Registers> RowAndOperands for lock_cmpxchgb_mr<R> {
 
     ghost row_of = { λ _. row.lock_cmpxchgb_mr };
 
-    ghost operands_of = { operands_lock_cmpxchgb_mr };
+    ghost operands_of = { λ i. i };
 
     fn row(&self) -> Row {
         Row::lock_cmpxchgb_mr
@@ -64,11 +72,15 @@ pub struct lock_cmpxchgw_mr<R: Registers> {
     pub ax: Fixed<R::ReadWriteGpr, 0>,
 }
 
+impl<R: Registers> Model for lock_cmpxchgw_mr<R> {
+    ghost Value = { Operands R R.ReadGpr R.ReadWriteGpr R.WriteGpr R.ReadXmm R.ReadWriteXmm R.WriteXmm };
+
+    ghost view = { λ i. Three (ReadAmode i.m16) (ReadGpr i.r16 Word) (FixedReadWriteGpr i.ax.0 0 None) };
+}
+
 impl<R: Registers> lock_cmpxchgw_mr<R> {
     pub fn new(m16: Amode<R::ReadGpr>, r16: Gpr<R::ReadGpr>, ax: Fixed<R::ReadWriteGpr, 0>) -> Self
-        ensures m16 { result.m16 ≡ m16 }
-        ensures r16 { result.r16 ≡ r16 }
-        ensures ax { result.ax ≡ ax }
+        ensures { result ≡ Three (ReadAmode m16) (ReadGpr r16 Word) (FixedReadWriteGpr ax.0 0 None) }
     {
         lock_cmpxchgw_mr { m16, r16, ax }
     }
@@ -79,7 +91,7 @@ impl<R: Registers> RowAndOperands for lock_cmpxchgw_mr<R> {
 
     ghost row_of = { λ _. row.lock_cmpxchgw_mr };
 
-    ghost operands_of = { operands_lock_cmpxchgw_mr };
+    ghost operands_of = { λ i. i };
 
     fn row(&self) -> Row {
         Row::lock_cmpxchgw_mr
@@ -110,11 +122,15 @@ pub struct lock_cmpxchgl_mr<R: Registers> {
     pub eax: Fixed<R::ReadWriteGpr, 0>,
 }
 
+impl<R: Registers> Model for lock_cmpxchgl_mr<R> {
+    ghost Value = { Operands R R.ReadGpr R.ReadWriteGpr R.WriteGpr R.ReadXmm R.ReadWriteXmm R.WriteXmm };
+
+    ghost view = { λ i. Three (ReadAmode i.m32) (ReadGpr i.r32 Doubleword) (FixedReadWriteGpr i.eax.0 0 None) };
+}
+
 impl<R: Registers> lock_cmpxchgl_mr<R> {
     pub fn new(m32: Amode<R::ReadGpr>, r32: Gpr<R::ReadGpr>, eax: Fixed<R::ReadWriteGpr, 0>) -> Self
-        ensures m32 { result.m32 ≡ m32 }
-        ensures r32 { result.r32 ≡ r32 }
-        ensures eax { result.eax ≡ eax }
+        ensures { result ≡ Three (ReadAmode m32) (ReadGpr r32 Doubleword) (FixedReadWriteGpr eax.0 0 None) }
     {
         lock_cmpxchgl_mr { m32, r32, eax }
     }
@@ -125,7 +141,7 @@ impl<R: Registers> RowAndOperands for lock_cmpxchgl_mr<R> {
 
     ghost row_of = { λ _. row.lock_cmpxchgl_mr };
 
-    ghost operands_of = { operands_lock_cmpxchgl_mr };
+    ghost operands_of = { λ i. i };
 
     fn row(&self) -> Row {
         Row::lock_cmpxchgl_mr
@@ -156,11 +172,15 @@ pub struct lock_cmpxchgq_mr<R: Registers> {
     pub rax: Fixed<R::ReadWriteGpr, 0>,
 }
 
+impl<R: Registers> Model for lock_cmpxchgq_mr<R> {
+    ghost Value = { Operands R R.ReadGpr R.ReadWriteGpr R.WriteGpr R.ReadXmm R.ReadWriteXmm R.WriteXmm };
+
+    ghost view = { λ i. Three (ReadAmode i.m64) (ReadGpr i.r64 Quadword) (FixedReadWriteGpr i.rax.0 0 None) };
+}
+
 impl<R: Registers> lock_cmpxchgq_mr<R> {
     pub fn new(m64: Amode<R::ReadGpr>, r64: Gpr<R::ReadGpr>, rax: Fixed<R::ReadWriteGpr, 0>) -> Self
-        ensures m64 { result.m64 ≡ m64 }
-        ensures r64 { result.r64 ≡ r64 }
-        ensures rax { result.rax ≡ rax }
+        ensures { result ≡ Three (ReadAmode m64) (ReadGpr r64 Quadword) (FixedReadWriteGpr rax.0 0 None) }
     {
         lock_cmpxchgq_mr { m64, r64, rax }
     }
@@ -171,7 +191,7 @@ impl<R: Registers> RowAndOperands for lock_cmpxchgq_mr<R> {
 
     ghost row_of = { λ _. row.lock_cmpxchgq_mr };
 
-    ghost operands_of = { operands_lock_cmpxchgq_mr };
+    ghost operands_of = { λ i. i };
 
     fn row(&self) -> Row {
         Row::lock_cmpxchgq_mr
@@ -204,6 +224,12 @@ pub struct lock_cmpxchg16b_m<R: Registers> {
     pub rbx: Fixed<R::ReadGpr, 3>,
 }
 
+impl<R: Registers> Model for lock_cmpxchg16b_m<R> {
+    ghost Value = { Operands R R.ReadGpr R.ReadWriteGpr R.WriteGpr R.ReadXmm R.ReadWriteXmm R.WriteXmm };
+
+    ghost view = { λ i. Five (ReadAmode i.m128) (FixedReadWriteGpr i.rax.0 0 None) (FixedReadWriteGpr i.rdx.0 2 None) (FixedReadGpr i.rcx.0 1 None) (FixedReadGpr i.rbx.0 3 None) };
+}
+
 impl<R: Registers> lock_cmpxchg16b_m<R> {
     pub fn new(
         m128: Amode<R::ReadGpr>,
@@ -212,11 +238,7 @@ impl<R: Registers> lock_cmpxchg16b_m<R> {
         rcx: Fixed<R::ReadGpr, 1>,
         rbx: Fixed<R::ReadGpr, 3>,
     ) -> Self
-        ensures m128 { result.m128 ≡ m128 }
-        ensures rax { result.rax ≡ rax }
-        ensures rdx { result.rdx ≡ rdx }
-        ensures rcx { result.rcx ≡ rcx }
-        ensures rbx { result.rbx ≡ rbx }
+        ensures { result ≡ Five (ReadAmode m128) (FixedReadWriteGpr rax.0 0 None) (FixedReadWriteGpr rdx.0 2 None) (FixedReadGpr rcx.0 1 None) (FixedReadGpr rbx.0 3 None) }
     {
         lock_cmpxchg16b_m {
             m128,
@@ -233,7 +255,7 @@ impl<R: Registers> RowAndOperands for lock_cmpxchg16b_m<R> {
 
     ghost row_of = { λ _. row.lock_cmpxchg16b_m };
 
-    ghost operands_of = { operands_lock_cmpxchg16b_m };
+    ghost operands_of = { λ i. i };
 
     fn row(&self) -> Row {
         Row::lock_cmpxchg16b_m

@@ -2,12 +2,16 @@
 
 ghost use Rattle.std.specs.Prelude.{◌≡◌};
 ghost use Rattle.cax64_machine_code.specs.declared.row.Row.TheVariants as row;
-ghost use Rattle.lock_x.specs.Operands.{operands_lock_xaddb_mr, operands_lock_xaddw_mr, operands_lock_xaddl_mr, operands_lock_xaddq_mr};
+ghost use Rattle.cax64_operand.specs.declared.operand.Operand.TheVariants.{ReadAmode, ReadWriteGpr};
+ghost use Rattle.cax64_operand.specs.declared.operand.Operands.{Operands};
+ghost use Rattle.cax64_operand.specs.declared.operand.Operands.TheVariants.{Two};
+ghost use Rattle.cax64_register.specs.declared.gpr.Size.TheVariants.{Byte, Doubleword, Quadword, Word};
 
 use cax64_address::amode::Amode;
 use cax64_machine_code::row::Row;
 use cax64_operand::{Operand, Operands, RegisterVisitor, RowAndOperands};
 use cax64_register::{Gpr, Registers, Size};
+use std::marker::Model;
 
 /// Exchange `r8` and `m8`; load sum into `m8`. Locked.
 #[derive(Drop)]
@@ -16,10 +20,15 @@ pub struct lock_xaddb_mr<R: Registers> {
     pub r8: Gpr<R::ReadWriteGpr>,
 }
 
+impl<R: Registers> Model for lock_xaddb_mr<R> {
+    ghost Value = { Operands R R.ReadGpr R.ReadWriteGpr R.WriteGpr R.ReadXmm R.ReadWriteXmm R.WriteXmm };
+
+    ghost view = { λ i. Two (ReadWriteGpr i.r8 Byte) (ReadAmode i.m8) };
+}
+
 impl<R: Registers> lock_xaddb_mr<R> {
     pub fn new(m8: Amode<R::ReadGpr>, r8: Gpr<R::ReadWriteGpr>) -> Self
-        ensures m8 { result.m8 ≡ m8 }
-        ensures r8 { result.r8 ≡ r8 }
+        ensures { result ≡ Two (ReadWriteGpr r8 Byte) (ReadAmode m8) }
     {
         lock_xaddb_mr { m8, r8 }
     }
@@ -30,7 +39,7 @@ impl<R: Registers> RowAndOperands for lock_xaddb_mr<R> {
 
     ghost row_of = { λ _. row.lock_xaddb_mr };
 
-    ghost operands_of = { operands_lock_xaddb_mr };
+    ghost operands_of = { λ i. i };
 
     fn row(&self) -> Row {
         Row::lock_xaddb_mr
@@ -57,10 +66,15 @@ pub struct lock_xaddw_mr<R: Registers> {
     pub r16: Gpr<R::ReadWriteGpr>,
 }
 
+impl<R: Registers> Model for lock_xaddw_mr<R> {
+    ghost Value = { Operands R R.ReadGpr R.ReadWriteGpr R.WriteGpr R.ReadXmm R.ReadWriteXmm R.WriteXmm };
+
+    ghost view = { λ i. Two (ReadWriteGpr i.r16 Word) (ReadAmode i.m16) };
+}
+
 impl<R: Registers> lock_xaddw_mr<R> {
     pub fn new(m16: Amode<R::ReadGpr>, r16: Gpr<R::ReadWriteGpr>) -> Self
-        ensures m16 { result.m16 ≡ m16 }
-        ensures r16 { result.r16 ≡ r16 }
+        ensures { result ≡ Two (ReadWriteGpr r16 Word) (ReadAmode m16) }
     {
         lock_xaddw_mr { m16, r16 }
     }
@@ -71,7 +85,7 @@ impl<R: Registers> RowAndOperands for lock_xaddw_mr<R> {
 
     ghost row_of = { λ _. row.lock_xaddw_mr };
 
-    ghost operands_of = { operands_lock_xaddw_mr };
+    ghost operands_of = { λ i. i };
 
     fn row(&self) -> Row {
         Row::lock_xaddw_mr
@@ -98,10 +112,15 @@ pub struct lock_xaddl_mr<R: Registers> {
     pub r32: Gpr<R::ReadWriteGpr>,
 }
 
+impl<R: Registers> Model for lock_xaddl_mr<R> {
+    ghost Value = { Operands R R.ReadGpr R.ReadWriteGpr R.WriteGpr R.ReadXmm R.ReadWriteXmm R.WriteXmm };
+
+    ghost view = { λ i. Two (ReadWriteGpr i.r32 Doubleword) (ReadAmode i.m32) };
+}
+
 impl<R: Registers> lock_xaddl_mr<R> {
     pub fn new(m32: Amode<R::ReadGpr>, r32: Gpr<R::ReadWriteGpr>) -> Self
-        ensures m32 { result.m32 ≡ m32 }
-        ensures r32 { result.r32 ≡ r32 }
+        ensures { result ≡ Two (ReadWriteGpr r32 Doubleword) (ReadAmode m32) }
     {
         lock_xaddl_mr { m32, r32 }
     }
@@ -112,7 +131,7 @@ impl<R: Registers> RowAndOperands for lock_xaddl_mr<R> {
 
     ghost row_of = { λ _. row.lock_xaddl_mr };
 
-    ghost operands_of = { operands_lock_xaddl_mr };
+    ghost operands_of = { λ i. i };
 
     fn row(&self) -> Row {
         Row::lock_xaddl_mr
@@ -139,10 +158,15 @@ pub struct lock_xaddq_mr<R: Registers> {
     pub r64: Gpr<R::ReadWriteGpr>,
 }
 
+impl<R: Registers> Model for lock_xaddq_mr<R> {
+    ghost Value = { Operands R R.ReadGpr R.ReadWriteGpr R.WriteGpr R.ReadXmm R.ReadWriteXmm R.WriteXmm };
+
+    ghost view = { λ i. Two (ReadWriteGpr i.r64 Quadword) (ReadAmode i.m64) };
+}
+
 impl<R: Registers> lock_xaddq_mr<R> {
     pub fn new(m64: Amode<R::ReadGpr>, r64: Gpr<R::ReadWriteGpr>) -> Self
-        ensures m64 { result.m64 ≡ m64 }
-        ensures r64 { result.r64 ≡ r64 }
+        ensures { result ≡ Two (ReadWriteGpr r64 Quadword) (ReadAmode m64) }
     {
         lock_xaddq_mr { m64, r64 }
     }
@@ -153,7 +177,7 @@ impl<R: Registers> RowAndOperands for lock_xaddq_mr<R> {
 
     ghost row_of = { λ _. row.lock_xaddq_mr };
 
-    ghost operands_of = { operands_lock_xaddq_mr };
+    ghost operands_of = { λ i. i };
 
     fn row(&self) -> Row {
         Row::lock_xaddq_mr

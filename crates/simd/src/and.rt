@@ -2,12 +2,15 @@
 
 ghost use Rattle.std.specs.Prelude.{◌≡◌};
 ghost use Rattle.cax64_machine_code.specs.declared.row.Row.TheVariants as row;
-ghost use Rattle.simd.specs.Operands.{operands_andps_a};
+ghost use Rattle.cax64_operand.specs.declared.operand.Operand.TheVariants.{ReadWriteXmm, ReadXmmMem};
+ghost use Rattle.cax64_operand.specs.declared.operand.Operands.{Operands};
+ghost use Rattle.cax64_operand.specs.declared.operand.Operands.TheVariants.{Two};
 
 use cax64_address::operand::XmmMem;
 use cax64_machine_code::row::Row;
 use cax64_operand::{Operand, Operands, RegisterVisitor, RowAndOperands};
 use cax64_register::{Registers, Xmm};
+use std::marker::Model;
 
 /// Bitwise logical AND of packed single precision floating-point values in `xmm1` and `xmm_m128`.
 #[derive(Drop)]
@@ -16,10 +19,15 @@ pub struct andps_a<R: Registers> {
     pub xmm_m128: XmmMem<R::ReadXmm, R::ReadGpr>,
 }
 
+impl<R: Registers> Model for andps_a<R> {
+    ghost Value = { Operands R R.ReadGpr R.ReadWriteGpr R.WriteGpr R.ReadXmm R.ReadWriteXmm R.WriteXmm };
+
+    ghost view = { λ i. Two (ReadWriteXmm i.xmm1) (ReadXmmMem i.xmm_m128) };
+}
+
 impl<R: Registers> andps_a<R> {
     pub fn new(xmm1: Xmm<R::ReadWriteXmm>, xmm_m128: XmmMem<R::ReadXmm, R::ReadGpr>) -> Self
-        ensures xmm1 { result.xmm1 ≡ xmm1 }
-        ensures xmm_m128 { result.xmm_m128 ≡ xmm_m128 }
+        ensures { result ≡ Two (ReadWriteXmm xmm1) (ReadXmmMem xmm_m128) }
     {
         andps_a { xmm1, xmm_m128 }
     }
@@ -30,7 +38,7 @@ impl<R: Registers> RowAndOperands for andps_a<R> {
 
     ghost row_of = { λ _. row.andps_a };
 
-    ghost operands_of = { operands_andps_a };
+    ghost operands_of = { λ i. i };
 
     fn row(&self) -> Row {
         Row::andps_a

@@ -2,13 +2,17 @@
 
 ghost use Rattle.std.specs.Prelude.{◌≡◌};
 ghost use Rattle.cax64_machine_code.specs.declared.row.Row.TheVariants as row;
-ghost use Rattle.simd.specs.Operands.{operands_cmpps_a, operands_cmppd_a, operands_cmpss_a, operands_cmpsd_a};
+ghost use Rattle.cax64_operand.specs.declared.immediate.Immediate.TheVariants as immediate;
+ghost use Rattle.cax64_operand.specs.declared.operand.Operand.TheVariants.{Imm, ReadWriteXmm, ReadXmmMem};
+ghost use Rattle.cax64_operand.specs.declared.operand.Operands.{Operands};
+ghost use Rattle.cax64_operand.specs.declared.operand.Operands.TheVariants.{Three};
 
 use cax64_address::operand::XmmMem;
 use cax64_immediate::Imm8;
 use cax64_machine_code::row::Row;
 use cax64_operand::{Immediate, Operand, Operands, RegisterVisitor, RowAndOperands};
 use cax64_register::{Registers, Xmm};
+use std::marker::Model;
 
 /// Compare packed single precision floating-point values in `xmm_m128` and `xmm1` using bits 2:0 of `imm8` as a
 /// comparison predicate.
@@ -19,15 +23,19 @@ pub struct cmpps_a<R: Registers> {
     pub imm8: Imm8,
 }
 
+impl<R: Registers> Model for cmpps_a<R> {
+    ghost Value = { Operands R R.ReadGpr R.ReadWriteGpr R.WriteGpr R.ReadXmm R.ReadWriteXmm R.WriteXmm };
+
+    ghost view = { λ i. Three (ReadWriteXmm i.xmm1) (ReadXmmMem i.xmm_m128) (Imm (immediate.Predicate i.imm8)) };
+}
+
 impl<R: Registers> cmpps_a<R> {
     pub fn new(
         xmm1: Xmm<R::ReadWriteXmm>,
         xmm_m128: XmmMem<R::ReadXmm, R::ReadGpr>,
         imm8: Imm8,
     ) -> Self
-        ensures xmm1 { result.xmm1 ≡ xmm1 }
-        ensures xmm_m128 { result.xmm_m128 ≡ xmm_m128 }
-        ensures imm8 { result.imm8 ≡ imm8 }
+        ensures { result ≡ Three (ReadWriteXmm xmm1) (ReadXmmMem xmm_m128) (Imm (immediate.Predicate imm8)) }
     {
         cmpps_a {
             xmm1,
@@ -42,7 +50,7 @@ impl<R: Registers> RowAndOperands for cmpps_a<R> {
 
     ghost row_of = { λ _. row.cmpps_a };
 
-    ghost operands_of = { operands_cmpps_a };
+    ghost operands_of = { λ i. i };
 
     fn row(&self) -> Row {
         Row::cmpps_a
@@ -72,15 +80,19 @@ pub struct cmppd_a<R: Registers> {
     pub imm8: Imm8,
 }
 
+impl<R: Registers> Model for cmppd_a<R> {
+    ghost Value = { Operands R R.ReadGpr R.ReadWriteGpr R.WriteGpr R.ReadXmm R.ReadWriteXmm R.WriteXmm };
+
+    ghost view = { λ i. Three (ReadWriteXmm i.xmm1) (ReadXmmMem i.xmm_m128) (Imm (immediate.Predicate i.imm8)) };
+}
+
 impl<R: Registers> cmppd_a<R> {
     pub fn new(
         xmm1: Xmm<R::ReadWriteXmm>,
         xmm_m128: XmmMem<R::ReadXmm, R::ReadGpr>,
         imm8: Imm8,
     ) -> Self
-        ensures xmm1 { result.xmm1 ≡ xmm1 }
-        ensures xmm_m128 { result.xmm_m128 ≡ xmm_m128 }
-        ensures imm8 { result.imm8 ≡ imm8 }
+        ensures { result ≡ Three (ReadWriteXmm xmm1) (ReadXmmMem xmm_m128) (Imm (immediate.Predicate imm8)) }
     {
         cmppd_a {
             xmm1,
@@ -95,7 +107,7 @@ impl<R: Registers> RowAndOperands for cmppd_a<R> {
 
     ghost row_of = { λ _. row.cmppd_a };
 
-    ghost operands_of = { operands_cmppd_a };
+    ghost operands_of = { λ i. i };
 
     fn row(&self) -> Row {
         Row::cmppd_a
@@ -125,15 +137,19 @@ pub struct cmpss_a<R: Registers> {
     pub imm8: Imm8,
 }
 
+impl<R: Registers> Model for cmpss_a<R> {
+    ghost Value = { Operands R R.ReadGpr R.ReadWriteGpr R.WriteGpr R.ReadXmm R.ReadWriteXmm R.WriteXmm };
+
+    ghost view = { λ i. Three (ReadWriteXmm i.xmm1) (ReadXmmMem i.xmm_m32) (Imm (immediate.Predicate i.imm8)) };
+}
+
 impl<R: Registers> cmpss_a<R> {
     pub fn new(
         xmm1: Xmm<R::ReadWriteXmm>,
         xmm_m32: XmmMem<R::ReadXmm, R::ReadGpr>,
         imm8: Imm8,
     ) -> Self
-        ensures xmm1 { result.xmm1 ≡ xmm1 }
-        ensures xmm_m32 { result.xmm_m32 ≡ xmm_m32 }
-        ensures imm8 { result.imm8 ≡ imm8 }
+        ensures { result ≡ Three (ReadWriteXmm xmm1) (ReadXmmMem xmm_m32) (Imm (immediate.Predicate imm8)) }
     {
         cmpss_a {
             xmm1,
@@ -148,7 +164,7 @@ impl<R: Registers> RowAndOperands for cmpss_a<R> {
 
     ghost row_of = { λ _. row.cmpss_a };
 
-    ghost operands_of = { operands_cmpss_a };
+    ghost operands_of = { λ i. i };
 
     fn row(&self) -> Row {
         Row::cmpss_a
@@ -178,15 +194,19 @@ pub struct cmpsd_a<R: Registers> {
     pub imm8: Imm8,
 }
 
+impl<R: Registers> Model for cmpsd_a<R> {
+    ghost Value = { Operands R R.ReadGpr R.ReadWriteGpr R.WriteGpr R.ReadXmm R.ReadWriteXmm R.WriteXmm };
+
+    ghost view = { λ i. Three (ReadWriteXmm i.xmm1) (ReadXmmMem i.xmm_m64) (Imm (immediate.Predicate i.imm8)) };
+}
+
 impl<R: Registers> cmpsd_a<R> {
     pub fn new(
         xmm1: Xmm<R::ReadWriteXmm>,
         xmm_m64: XmmMem<R::ReadXmm, R::ReadGpr>,
         imm8: Imm8,
     ) -> Self
-        ensures xmm1 { result.xmm1 ≡ xmm1 }
-        ensures xmm_m64 { result.xmm_m64 ≡ xmm_m64 }
-        ensures imm8 { result.imm8 ≡ imm8 }
+        ensures { result ≡ Three (ReadWriteXmm xmm1) (ReadXmmMem xmm_m64) (Imm (immediate.Predicate imm8)) }
     {
         cmpsd_a {
             xmm1,
@@ -201,7 +221,7 @@ impl<R: Registers> RowAndOperands for cmpsd_a<R> {
 
     ghost row_of = { λ _. row.cmpsd_a };
 
-    ghost operands_of = { operands_cmpsd_a };
+    ghost operands_of = { λ i. i };
 
     fn row(&self) -> Row {
         Row::cmpsd_a

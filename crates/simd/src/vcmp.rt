@@ -2,13 +2,17 @@
 
 ghost use Rattle.std.specs.Prelude.{◌≡◌};
 ghost use Rattle.cax64_machine_code.specs.declared.row.Row.TheVariants as row;
-ghost use Rattle.simd.specs.Operands.{operands_vcmpps_b, operands_vcmppd_b, operands_vcmpss_b, operands_vcmpsd_b};
+ghost use Rattle.cax64_operand.specs.declared.immediate.Immediate.TheVariants as immediate;
+ghost use Rattle.cax64_operand.specs.declared.operand.Operand.TheVariants.{Imm, ReadXmm, ReadXmmMem, WriteXmm};
+ghost use Rattle.cax64_operand.specs.declared.operand.Operands.{Operands};
+ghost use Rattle.cax64_operand.specs.declared.operand.Operands.TheVariants.{Four};
 
 use cax64_address::operand::XmmMem;
 use cax64_immediate::Imm8;
 use cax64_machine_code::row::Row;
 use cax64_operand::{Immediate, Operand, Operands, RegisterVisitor, RowAndOperands};
 use cax64_register::{Registers, Xmm};
+use std::marker::Model;
 
 /// Compare packed single precision floating-point values in `xmm_m128` and `xmm2` using bits 4:0 of `imm8` as a
 /// comparison predicate.
@@ -20,6 +24,12 @@ pub struct vcmpps_b<R: Registers> {
     pub imm8: Imm8,
 }
 
+impl<R: Registers> Model for vcmpps_b<R> {
+    ghost Value = { Operands R R.ReadGpr R.ReadWriteGpr R.WriteGpr R.ReadXmm R.ReadWriteXmm R.WriteXmm };
+
+    ghost view = { λ i. Four (WriteXmm i.xmm1) (ReadXmm i.xmm2) (ReadXmmMem i.xmm_m128) (Imm (immediate.VexPredicate i.imm8)) };
+}
+
 impl<R: Registers> vcmpps_b<R> {
     pub fn new(
         xmm1: Xmm<R::WriteXmm>,
@@ -27,10 +37,7 @@ impl<R: Registers> vcmpps_b<R> {
         xmm_m128: XmmMem<R::ReadXmm, R::ReadGpr>,
         imm8: Imm8,
     ) -> Self
-        ensures xmm1 { result.xmm1 ≡ xmm1 }
-        ensures xmm2 { result.xmm2 ≡ xmm2 }
-        ensures xmm_m128 { result.xmm_m128 ≡ xmm_m128 }
-        ensures imm8 { result.imm8 ≡ imm8 }
+        ensures { result ≡ Four (WriteXmm xmm1) (ReadXmm xmm2) (ReadXmmMem xmm_m128) (Imm (immediate.VexPredicate imm8)) }
     {
         vcmpps_b {
             xmm1,
@@ -46,7 +53,7 @@ impl<R: Registers> RowAndOperands for vcmpps_b<R> {
 
     ghost row_of = { λ _. row.vcmpps_b };
 
-    ghost operands_of = { operands_vcmpps_b };
+    ghost operands_of = { λ i. i };
 
     fn row(&self) -> Row {
         Row::vcmpps_b
@@ -79,6 +86,12 @@ pub struct vcmppd_b<R: Registers> {
     pub imm8: Imm8,
 }
 
+impl<R: Registers> Model for vcmppd_b<R> {
+    ghost Value = { Operands R R.ReadGpr R.ReadWriteGpr R.WriteGpr R.ReadXmm R.ReadWriteXmm R.WriteXmm };
+
+    ghost view = { λ i. Four (WriteXmm i.xmm1) (ReadXmm i.xmm2) (ReadXmmMem i.xmm_m128) (Imm (immediate.VexPredicate i.imm8)) };
+}
+
 impl<R: Registers> vcmppd_b<R> {
     pub fn new(
         xmm1: Xmm<R::WriteXmm>,
@@ -86,10 +99,7 @@ impl<R: Registers> vcmppd_b<R> {
         xmm_m128: XmmMem<R::ReadXmm, R::ReadGpr>,
         imm8: Imm8,
     ) -> Self
-        ensures xmm1 { result.xmm1 ≡ xmm1 }
-        ensures xmm2 { result.xmm2 ≡ xmm2 }
-        ensures xmm_m128 { result.xmm_m128 ≡ xmm_m128 }
-        ensures imm8 { result.imm8 ≡ imm8 }
+        ensures { result ≡ Four (WriteXmm xmm1) (ReadXmm xmm2) (ReadXmmMem xmm_m128) (Imm (immediate.VexPredicate imm8)) }
     {
         vcmppd_b {
             xmm1,
@@ -105,7 +115,7 @@ impl<R: Registers> RowAndOperands for vcmppd_b<R> {
 
     ghost row_of = { λ _. row.vcmppd_b };
 
-    ghost operands_of = { operands_vcmppd_b };
+    ghost operands_of = { λ i. i };
 
     fn row(&self) -> Row {
         Row::vcmppd_b
@@ -138,6 +148,12 @@ pub struct vcmpss_b<R: Registers> {
     pub imm8: Imm8,
 }
 
+impl<R: Registers> Model for vcmpss_b<R> {
+    ghost Value = { Operands R R.ReadGpr R.ReadWriteGpr R.WriteGpr R.ReadXmm R.ReadWriteXmm R.WriteXmm };
+
+    ghost view = { λ i. Four (WriteXmm i.xmm1) (ReadXmm i.xmm2) (ReadXmmMem i.xmm_m32) (Imm (immediate.VexPredicate i.imm8)) };
+}
+
 impl<R: Registers> vcmpss_b<R> {
     pub fn new(
         xmm1: Xmm<R::WriteXmm>,
@@ -145,10 +161,7 @@ impl<R: Registers> vcmpss_b<R> {
         xmm_m32: XmmMem<R::ReadXmm, R::ReadGpr>,
         imm8: Imm8,
     ) -> Self
-        ensures xmm1 { result.xmm1 ≡ xmm1 }
-        ensures xmm2 { result.xmm2 ≡ xmm2 }
-        ensures xmm_m32 { result.xmm_m32 ≡ xmm_m32 }
-        ensures imm8 { result.imm8 ≡ imm8 }
+        ensures { result ≡ Four (WriteXmm xmm1) (ReadXmm xmm2) (ReadXmmMem xmm_m32) (Imm (immediate.VexPredicate imm8)) }
     {
         vcmpss_b {
             xmm1,
@@ -164,7 +177,7 @@ impl<R: Registers> RowAndOperands for vcmpss_b<R> {
 
     ghost row_of = { λ _. row.vcmpss_b };
 
-    ghost operands_of = { operands_vcmpss_b };
+    ghost operands_of = { λ i. i };
 
     fn row(&self) -> Row {
         Row::vcmpss_b
@@ -197,6 +210,12 @@ pub struct vcmpsd_b<R: Registers> {
     pub imm8: Imm8,
 }
 
+impl<R: Registers> Model for vcmpsd_b<R> {
+    ghost Value = { Operands R R.ReadGpr R.ReadWriteGpr R.WriteGpr R.ReadXmm R.ReadWriteXmm R.WriteXmm };
+
+    ghost view = { λ i. Four (WriteXmm i.xmm1) (ReadXmm i.xmm2) (ReadXmmMem i.xmm_m64) (Imm (immediate.VexPredicate i.imm8)) };
+}
+
 impl<R: Registers> vcmpsd_b<R> {
     pub fn new(
         xmm1: Xmm<R::WriteXmm>,
@@ -204,10 +223,7 @@ impl<R: Registers> vcmpsd_b<R> {
         xmm_m64: XmmMem<R::ReadXmm, R::ReadGpr>,
         imm8: Imm8,
     ) -> Self
-        ensures xmm1 { result.xmm1 ≡ xmm1 }
-        ensures xmm2 { result.xmm2 ≡ xmm2 }
-        ensures xmm_m64 { result.xmm_m64 ≡ xmm_m64 }
-        ensures imm8 { result.imm8 ≡ imm8 }
+        ensures { result ≡ Four (WriteXmm xmm1) (ReadXmm xmm2) (ReadXmmMem xmm_m64) (Imm (immediate.VexPredicate imm8)) }
     {
         vcmpsd_b {
             xmm1,
@@ -223,7 +239,7 @@ impl<R: Registers> RowAndOperands for vcmpsd_b<R> {
 
     ghost row_of = { λ _. row.vcmpsd_b };
 
-    ghost operands_of = { operands_vcmpsd_b };
+    ghost operands_of = { λ i. i };
 
     fn row(&self) -> Row {
         Row::vcmpsd_b

@@ -2,12 +2,15 @@
 
 ghost use Rattle.std.specs.Prelude.{◌≡◌};
 ghost use Rattle.cax64_machine_code.specs.declared.row.Row.TheVariants as row;
-ghost use Rattle.simd.specs.Operands.{operands_vcvtpd2ps_a, operands_vcvttpd2dq_a};
+ghost use Rattle.cax64_operand.specs.declared.operand.Operand.TheVariants.{ReadXmmMem, WriteXmm};
+ghost use Rattle.cax64_operand.specs.declared.operand.Operands.{Operands};
+ghost use Rattle.cax64_operand.specs.declared.operand.Operands.TheVariants.{Two};
 
 use cax64_address::operand::XmmMem;
 use cax64_machine_code::row::Row;
 use cax64_operand::{Operand, Operands, RegisterVisitor, RowAndOperands};
 use cax64_register::{Registers, Xmm};
+use std::marker::Model;
 
 /// Convert two packed double precision floating-point values in `xmm_m128` to two single precision floating-point
 /// values in `xmm1`.
@@ -17,10 +20,15 @@ pub struct vcvtpd2ps_a<R: Registers> {
     pub xmm_m128: XmmMem<R::ReadXmm, R::ReadGpr>,
 }
 
+impl<R: Registers> Model for vcvtpd2ps_a<R> {
+    ghost Value = { Operands R R.ReadGpr R.ReadWriteGpr R.WriteGpr R.ReadXmm R.ReadWriteXmm R.WriteXmm };
+
+    ghost view = { λ i. Two (WriteXmm i.xmm1) (ReadXmmMem i.xmm_m128) };
+}
+
 impl<R: Registers> vcvtpd2ps_a<R> {
     pub fn new(xmm1: Xmm<R::WriteXmm>, xmm_m128: XmmMem<R::ReadXmm, R::ReadGpr>) -> Self
-        ensures xmm1 { result.xmm1 ≡ xmm1 }
-        ensures xmm_m128 { result.xmm_m128 ≡ xmm_m128 }
+        ensures { result ≡ Two (WriteXmm xmm1) (ReadXmmMem xmm_m128) }
     {
         vcvtpd2ps_a { xmm1, xmm_m128 }
     }
@@ -31,7 +39,7 @@ impl<R: Registers> RowAndOperands for vcvtpd2ps_a<R> {
 
     ghost row_of = { λ _. row.vcvtpd2ps_a };
 
-    ghost operands_of = { operands_vcvtpd2ps_a };
+    ghost operands_of = { λ i. i };
 
     fn row(&self) -> Row {
         Row::vcvtpd2ps_a
@@ -59,10 +67,15 @@ pub struct vcvttpd2dq_a<R: Registers> {
     pub xmm_m128: XmmMem<R::ReadXmm, R::ReadGpr>,
 }
 
+impl<R: Registers> Model for vcvttpd2dq_a<R> {
+    ghost Value = { Operands R R.ReadGpr R.ReadWriteGpr R.WriteGpr R.ReadXmm R.ReadWriteXmm R.WriteXmm };
+
+    ghost view = { λ i. Two (WriteXmm i.xmm1) (ReadXmmMem i.xmm_m128) };
+}
+
 impl<R: Registers> vcvttpd2dq_a<R> {
     pub fn new(xmm1: Xmm<R::WriteXmm>, xmm_m128: XmmMem<R::ReadXmm, R::ReadGpr>) -> Self
-        ensures xmm1 { result.xmm1 ≡ xmm1 }
-        ensures xmm_m128 { result.xmm_m128 ≡ xmm_m128 }
+        ensures { result ≡ Two (WriteXmm xmm1) (ReadXmmMem xmm_m128) }
     {
         vcvttpd2dq_a { xmm1, xmm_m128 }
     }
@@ -73,7 +86,7 @@ impl<R: Registers> RowAndOperands for vcvttpd2dq_a<R> {
 
     ghost row_of = { λ _. row.vcvttpd2dq_a };
 
-    ghost operands_of = { operands_vcvttpd2dq_a };
+    ghost operands_of = { λ i. i };
 
     fn row(&self) -> Row {
         Row::vcvttpd2dq_a

@@ -1,2 +1,0 @@
--- What the clauses of public functions say.
-pub mod Operands
