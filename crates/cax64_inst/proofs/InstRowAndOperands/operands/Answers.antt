@@ -3,476 +3,476 @@ use Rattle.cax64_inst.proofs.InstRowAndOperands.operands.Goals as goal
 
 pub returns-in-lock_addb_mi-clause-shape : goal.returns-in-lock_addb_mi-clause-shape
 unfolding row_of operands_of
-returns-in-lock_addb_mi-clause-shape g c = c.operands-in-lock_addb_mi.ensures.shape
+returns-in-lock_addb_mi-clause-shape g c = rw c.in-lock_addb_mi.is c.operands-in-lock_addb_mi.ensures.shape
 
 pub returns-in-lock_addw_mi-clause-shape : goal.returns-in-lock_addw_mi-clause-shape
 unfolding row_of operands_of
-returns-in-lock_addw_mi-clause-shape g c = c.operands-in-lock_addw_mi.ensures.shape
+returns-in-lock_addw_mi-clause-shape g c = rw c.in-lock_addw_mi.is c.operands-in-lock_addw_mi.ensures.shape
 
 pub returns-in-lock_addl_mi-clause-shape : goal.returns-in-lock_addl_mi-clause-shape
 unfolding row_of operands_of
-returns-in-lock_addl_mi-clause-shape g c = c.operands-in-lock_addl_mi.ensures.shape
+returns-in-lock_addl_mi-clause-shape g c = rw c.in-lock_addl_mi.is c.operands-in-lock_addl_mi.ensures.shape
 
 pub returns-in-lock_addq_mi_sxl-clause-shape : goal.returns-in-lock_addq_mi_sxl-clause-shape
 unfolding row_of operands_of
-returns-in-lock_addq_mi_sxl-clause-shape g c = c.operands-in-lock_addq_mi_sxl.ensures.shape
+returns-in-lock_addq_mi_sxl-clause-shape g c = rw c.in-lock_addq_mi_sxl.is c.operands-in-lock_addq_mi_sxl.ensures.shape
 
 pub returns-in-lock_addl_mi_sxb-clause-shape : goal.returns-in-lock_addl_mi_sxb-clause-shape
 unfolding row_of operands_of
-returns-in-lock_addl_mi_sxb-clause-shape g c = c.operands-in-lock_addl_mi_sxb.ensures.shape
+returns-in-lock_addl_mi_sxb-clause-shape g c = rw c.in-lock_addl_mi_sxb.is c.operands-in-lock_addl_mi_sxb.ensures.shape
 
 pub returns-in-lock_addq_mi_sxb-clause-shape : goal.returns-in-lock_addq_mi_sxb-clause-shape
 unfolding row_of operands_of
-returns-in-lock_addq_mi_sxb-clause-shape g c = c.operands-in-lock_addq_mi_sxb.ensures.shape
+returns-in-lock_addq_mi_sxb-clause-shape g c = rw c.in-lock_addq_mi_sxb.is c.operands-in-lock_addq_mi_sxb.ensures.shape
 
 pub returns-in-lock_addb_mr-clause-shape : goal.returns-in-lock_addb_mr-clause-shape
 unfolding row_of operands_of
-returns-in-lock_addb_mr-clause-shape g c = c.operands-in-lock_addb_mr.ensures.shape
+returns-in-lock_addb_mr-clause-shape g c = rw c.in-lock_addb_mr.is c.operands-in-lock_addb_mr.ensures.shape
 
 pub returns-in-lock_addw_mr-clause-shape : goal.returns-in-lock_addw_mr-clause-shape
 unfolding row_of operands_of
-returns-in-lock_addw_mr-clause-shape g c = c.operands-in-lock_addw_mr.ensures.shape
+returns-in-lock_addw_mr-clause-shape g c = rw c.in-lock_addw_mr.is c.operands-in-lock_addw_mr.ensures.shape
 
 pub returns-in-lock_addl_mr-clause-shape : goal.returns-in-lock_addl_mr-clause-shape
 unfolding row_of operands_of
-returns-in-lock_addl_mr-clause-shape g c = c.operands-in-lock_addl_mr.ensures.shape
+returns-in-lock_addl_mr-clause-shape g c = rw c.in-lock_addl_mr.is c.operands-in-lock_addl_mr.ensures.shape
 
 pub returns-in-lock_addq_mr-clause-shape : goal.returns-in-lock_addq_mr-clause-shape
 unfolding row_of operands_of
-returns-in-lock_addq_mr-clause-shape g c = c.operands-in-lock_addq_mr.ensures.shape
+returns-in-lock_addq_mr-clause-shape g c = rw c.in-lock_addq_mr.is c.operands-in-lock_addq_mr.ensures.shape
 
 pub returns-in-lock_orb_mi-clause-shape : goal.returns-in-lock_orb_mi-clause-shape
 unfolding row_of operands_of
-returns-in-lock_orb_mi-clause-shape g c = c.operands-in-lock_orb_mi.ensures.shape
+returns-in-lock_orb_mi-clause-shape g c = rw c.in-lock_orb_mi.is c.operands-in-lock_orb_mi.ensures.shape
 
 pub returns-in-lock_orw_mi-clause-shape : goal.returns-in-lock_orw_mi-clause-shape
 unfolding row_of operands_of
-returns-in-lock_orw_mi-clause-shape g c = c.operands-in-lock_orw_mi.ensures.shape
+returns-in-lock_orw_mi-clause-shape g c = rw c.in-lock_orw_mi.is c.operands-in-lock_orw_mi.ensures.shape
 
 pub returns-in-lock_orl_mi-clause-shape : goal.returns-in-lock_orl_mi-clause-shape
 unfolding row_of operands_of
-returns-in-lock_orl_mi-clause-shape g c = c.operands-in-lock_orl_mi.ensures.shape
+returns-in-lock_orl_mi-clause-shape g c = rw c.in-lock_orl_mi.is c.operands-in-lock_orl_mi.ensures.shape
 
 pub returns-in-lock_orq_mi_sxl-clause-shape : goal.returns-in-lock_orq_mi_sxl-clause-shape
 unfolding row_of operands_of
-returns-in-lock_orq_mi_sxl-clause-shape g c = c.operands-in-lock_orq_mi_sxl.ensures.shape
+returns-in-lock_orq_mi_sxl-clause-shape g c = rw c.in-lock_orq_mi_sxl.is c.operands-in-lock_orq_mi_sxl.ensures.shape
 
 pub returns-in-lock_orl_mi_sxb-clause-shape : goal.returns-in-lock_orl_mi_sxb-clause-shape
 unfolding row_of operands_of
-returns-in-lock_orl_mi_sxb-clause-shape g c = c.operands-in-lock_orl_mi_sxb.ensures.shape
+returns-in-lock_orl_mi_sxb-clause-shape g c = rw c.in-lock_orl_mi_sxb.is c.operands-in-lock_orl_mi_sxb.ensures.shape
 
 pub returns-in-lock_orq_mi_sxb-clause-shape : goal.returns-in-lock_orq_mi_sxb-clause-shape
 unfolding row_of operands_of
-returns-in-lock_orq_mi_sxb-clause-shape g c = c.operands-in-lock_orq_mi_sxb.ensures.shape
+returns-in-lock_orq_mi_sxb-clause-shape g c = rw c.in-lock_orq_mi_sxb.is c.operands-in-lock_orq_mi_sxb.ensures.shape
 
 pub returns-in-lock_orb_mr-clause-shape : goal.returns-in-lock_orb_mr-clause-shape
 unfolding row_of operands_of
-returns-in-lock_orb_mr-clause-shape g c = c.operands-in-lock_orb_mr.ensures.shape
+returns-in-lock_orb_mr-clause-shape g c = rw c.in-lock_orb_mr.is c.operands-in-lock_orb_mr.ensures.shape
 
 pub returns-in-lock_orw_mr-clause-shape : goal.returns-in-lock_orw_mr-clause-shape
 unfolding row_of operands_of
-returns-in-lock_orw_mr-clause-shape g c = c.operands-in-lock_orw_mr.ensures.shape
+returns-in-lock_orw_mr-clause-shape g c = rw c.in-lock_orw_mr.is c.operands-in-lock_orw_mr.ensures.shape
 
 pub returns-in-lock_orl_mr-clause-shape : goal.returns-in-lock_orl_mr-clause-shape
 unfolding row_of operands_of
-returns-in-lock_orl_mr-clause-shape g c = c.operands-in-lock_orl_mr.ensures.shape
+returns-in-lock_orl_mr-clause-shape g c = rw c.in-lock_orl_mr.is c.operands-in-lock_orl_mr.ensures.shape
 
 pub returns-in-lock_orq_mr-clause-shape : goal.returns-in-lock_orq_mr-clause-shape
 unfolding row_of operands_of
-returns-in-lock_orq_mr-clause-shape g c = c.operands-in-lock_orq_mr.ensures.shape
+returns-in-lock_orq_mr-clause-shape g c = rw c.in-lock_orq_mr.is c.operands-in-lock_orq_mr.ensures.shape
 
 pub returns-in-lock_adcb_mi-clause-shape : goal.returns-in-lock_adcb_mi-clause-shape
 unfolding row_of operands_of
-returns-in-lock_adcb_mi-clause-shape g c = c.operands-in-lock_adcb_mi.ensures.shape
+returns-in-lock_adcb_mi-clause-shape g c = rw c.in-lock_adcb_mi.is c.operands-in-lock_adcb_mi.ensures.shape
 
 pub returns-in-lock_adcw_mi-clause-shape : goal.returns-in-lock_adcw_mi-clause-shape
 unfolding row_of operands_of
-returns-in-lock_adcw_mi-clause-shape g c = c.operands-in-lock_adcw_mi.ensures.shape
+returns-in-lock_adcw_mi-clause-shape g c = rw c.in-lock_adcw_mi.is c.operands-in-lock_adcw_mi.ensures.shape
 
 pub returns-in-lock_adcl_mi-clause-shape : goal.returns-in-lock_adcl_mi-clause-shape
 unfolding row_of operands_of
-returns-in-lock_adcl_mi-clause-shape g c = c.operands-in-lock_adcl_mi.ensures.shape
+returns-in-lock_adcl_mi-clause-shape g c = rw c.in-lock_adcl_mi.is c.operands-in-lock_adcl_mi.ensures.shape
 
 pub returns-in-lock_adcq_mi_sxl-clause-shape : goal.returns-in-lock_adcq_mi_sxl-clause-shape
 unfolding row_of operands_of
-returns-in-lock_adcq_mi_sxl-clause-shape g c = c.operands-in-lock_adcq_mi_sxl.ensures.shape
+returns-in-lock_adcq_mi_sxl-clause-shape g c = rw c.in-lock_adcq_mi_sxl.is c.operands-in-lock_adcq_mi_sxl.ensures.shape
 
 pub returns-in-lock_adcl_mi_sxb-clause-shape : goal.returns-in-lock_adcl_mi_sxb-clause-shape
 unfolding row_of operands_of
-returns-in-lock_adcl_mi_sxb-clause-shape g c = c.operands-in-lock_adcl_mi_sxb.ensures.shape
+returns-in-lock_adcl_mi_sxb-clause-shape g c = rw c.in-lock_adcl_mi_sxb.is c.operands-in-lock_adcl_mi_sxb.ensures.shape
 
 pub returns-in-lock_adcq_mi_sxb-clause-shape : goal.returns-in-lock_adcq_mi_sxb-clause-shape
 unfolding row_of operands_of
-returns-in-lock_adcq_mi_sxb-clause-shape g c = c.operands-in-lock_adcq_mi_sxb.ensures.shape
+returns-in-lock_adcq_mi_sxb-clause-shape g c = rw c.in-lock_adcq_mi_sxb.is c.operands-in-lock_adcq_mi_sxb.ensures.shape
 
 pub returns-in-lock_adcb_mr-clause-shape : goal.returns-in-lock_adcb_mr-clause-shape
 unfolding row_of operands_of
-returns-in-lock_adcb_mr-clause-shape g c = c.operands-in-lock_adcb_mr.ensures.shape
+returns-in-lock_adcb_mr-clause-shape g c = rw c.in-lock_adcb_mr.is c.operands-in-lock_adcb_mr.ensures.shape
 
 pub returns-in-lock_adcw_mr-clause-shape : goal.returns-in-lock_adcw_mr-clause-shape
 unfolding row_of operands_of
-returns-in-lock_adcw_mr-clause-shape g c = c.operands-in-lock_adcw_mr.ensures.shape
+returns-in-lock_adcw_mr-clause-shape g c = rw c.in-lock_adcw_mr.is c.operands-in-lock_adcw_mr.ensures.shape
 
 pub returns-in-lock_adcl_mr-clause-shape : goal.returns-in-lock_adcl_mr-clause-shape
 unfolding row_of operands_of
-returns-in-lock_adcl_mr-clause-shape g c = c.operands-in-lock_adcl_mr.ensures.shape
+returns-in-lock_adcl_mr-clause-shape g c = rw c.in-lock_adcl_mr.is c.operands-in-lock_adcl_mr.ensures.shape
 
 pub returns-in-lock_adcq_mr-clause-shape : goal.returns-in-lock_adcq_mr-clause-shape
 unfolding row_of operands_of
-returns-in-lock_adcq_mr-clause-shape g c = c.operands-in-lock_adcq_mr.ensures.shape
+returns-in-lock_adcq_mr-clause-shape g c = rw c.in-lock_adcq_mr.is c.operands-in-lock_adcq_mr.ensures.shape
 
 pub returns-in-lock_cmpxchgb_mr-clause-shape : goal.returns-in-lock_cmpxchgb_mr-clause-shape
 unfolding row_of operands_of
-returns-in-lock_cmpxchgb_mr-clause-shape g c = c.operands-in-lock_cmpxchgb_mr.ensures.shape
+returns-in-lock_cmpxchgb_mr-clause-shape g c = rw c.in-lock_cmpxchgb_mr.is c.operands-in-lock_cmpxchgb_mr.ensures.shape
 
 pub returns-in-lock_cmpxchgw_mr-clause-shape : goal.returns-in-lock_cmpxchgw_mr-clause-shape
 unfolding row_of operands_of
-returns-in-lock_cmpxchgw_mr-clause-shape g c = c.operands-in-lock_cmpxchgw_mr.ensures.shape
+returns-in-lock_cmpxchgw_mr-clause-shape g c = rw c.in-lock_cmpxchgw_mr.is c.operands-in-lock_cmpxchgw_mr.ensures.shape
 
 pub returns-in-lock_cmpxchgl_mr-clause-shape : goal.returns-in-lock_cmpxchgl_mr-clause-shape
 unfolding row_of operands_of
-returns-in-lock_cmpxchgl_mr-clause-shape g c = c.operands-in-lock_cmpxchgl_mr.ensures.shape
+returns-in-lock_cmpxchgl_mr-clause-shape g c = rw c.in-lock_cmpxchgl_mr.is c.operands-in-lock_cmpxchgl_mr.ensures.shape
 
 pub returns-in-lock_cmpxchgq_mr-clause-shape : goal.returns-in-lock_cmpxchgq_mr-clause-shape
 unfolding row_of operands_of
-returns-in-lock_cmpxchgq_mr-clause-shape g c = c.operands-in-lock_cmpxchgq_mr.ensures.shape
+returns-in-lock_cmpxchgq_mr-clause-shape g c = rw c.in-lock_cmpxchgq_mr.is c.operands-in-lock_cmpxchgq_mr.ensures.shape
 
 pub returns-in-lock_cmpxchg16b_m-clause-shape : goal.returns-in-lock_cmpxchg16b_m-clause-shape
 unfolding row_of operands_of
-returns-in-lock_cmpxchg16b_m-clause-shape g c = c.operands-in-lock_cmpxchg16b_m.ensures.shape
+returns-in-lock_cmpxchg16b_m-clause-shape g c = rw c.in-lock_cmpxchg16b_m.is c.operands-in-lock_cmpxchg16b_m.ensures.shape
 
 pub returns-in-lock_xaddb_mr-clause-shape : goal.returns-in-lock_xaddb_mr-clause-shape
 unfolding row_of operands_of
-returns-in-lock_xaddb_mr-clause-shape g c = c.operands-in-lock_xaddb_mr.ensures.shape
+returns-in-lock_xaddb_mr-clause-shape g c = rw c.in-lock_xaddb_mr.is c.operands-in-lock_xaddb_mr.ensures.shape
 
 pub returns-in-lock_xaddw_mr-clause-shape : goal.returns-in-lock_xaddw_mr-clause-shape
 unfolding row_of operands_of
-returns-in-lock_xaddw_mr-clause-shape g c = c.operands-in-lock_xaddw_mr.ensures.shape
+returns-in-lock_xaddw_mr-clause-shape g c = rw c.in-lock_xaddw_mr.is c.operands-in-lock_xaddw_mr.ensures.shape
 
 pub returns-in-lock_xaddl_mr-clause-shape : goal.returns-in-lock_xaddl_mr-clause-shape
 unfolding row_of operands_of
-returns-in-lock_xaddl_mr-clause-shape g c = c.operands-in-lock_xaddl_mr.ensures.shape
+returns-in-lock_xaddl_mr-clause-shape g c = rw c.in-lock_xaddl_mr.is c.operands-in-lock_xaddl_mr.ensures.shape
 
 pub returns-in-lock_xaddq_mr-clause-shape : goal.returns-in-lock_xaddq_mr-clause-shape
 unfolding row_of operands_of
-returns-in-lock_xaddq_mr-clause-shape g c = c.operands-in-lock_xaddq_mr.ensures.shape
+returns-in-lock_xaddq_mr-clause-shape g c = rw c.in-lock_xaddq_mr.is c.operands-in-lock_xaddq_mr.ensures.shape
 
 pub returns-in-andb_i-clause-shape : goal.returns-in-andb_i-clause-shape
 unfolding row_of operands_of
-returns-in-andb_i-clause-shape g c = c.operands-in-andb_i.ensures.shape
+returns-in-andb_i-clause-shape g c = rw c.in-andb_i.is c.operands-in-andb_i.ensures.shape
 
 pub returns-in-mulxl_rvm-clause-shape : goal.returns-in-mulxl_rvm-clause-shape
 unfolding row_of operands_of
-returns-in-mulxl_rvm-clause-shape g c = c.operands-in-mulxl_rvm.ensures.shape
+returns-in-mulxl_rvm-clause-shape g c = rw c.in-mulxl_rvm.is c.operands-in-mulxl_rvm.ensures.shape
 
 pub returns-in-mulxq_rvm-clause-shape : goal.returns-in-mulxq_rvm-clause-shape
 unfolding row_of operands_of
-returns-in-mulxq_rvm-clause-shape g c = c.operands-in-mulxq_rvm.ensures.shape
+returns-in-mulxq_rvm-clause-shape g c = rw c.in-mulxq_rvm.is c.operands-in-mulxq_rvm.ensures.shape
 
 pub returns-in-rolb_m1-clause-shape : goal.returns-in-rolb_m1-clause-shape
 unfolding row_of operands_of
-returns-in-rolb_m1-clause-shape g c = c.operands-in-rolb_m1.ensures.shape
+returns-in-rolb_m1-clause-shape g c = rw c.in-rolb_m1.is c.operands-in-rolb_m1.ensures.shape
 
 pub returns-in-rolw_m1-clause-shape : goal.returns-in-rolw_m1-clause-shape
 unfolding row_of operands_of
-returns-in-rolw_m1-clause-shape g c = c.operands-in-rolw_m1.ensures.shape
+returns-in-rolw_m1-clause-shape g c = rw c.in-rolw_m1.is c.operands-in-rolw_m1.ensures.shape
 
 pub returns-in-roll_m1-clause-shape : goal.returns-in-roll_m1-clause-shape
 unfolding row_of operands_of
-returns-in-roll_m1-clause-shape g c = c.operands-in-roll_m1.ensures.shape
+returns-in-roll_m1-clause-shape g c = rw c.in-roll_m1.is c.operands-in-roll_m1.ensures.shape
 
 pub returns-in-rolq_m1-clause-shape : goal.returns-in-rolq_m1-clause-shape
 unfolding row_of operands_of
-returns-in-rolq_m1-clause-shape g c = c.operands-in-rolq_m1.ensures.shape
+returns-in-rolq_m1-clause-shape g c = rw c.in-rolq_m1.is c.operands-in-rolq_m1.ensures.shape
 
 pub returns-in-rorb_m1-clause-shape : goal.returns-in-rorb_m1-clause-shape
 unfolding row_of operands_of
-returns-in-rorb_m1-clause-shape g c = c.operands-in-rorb_m1.ensures.shape
+returns-in-rorb_m1-clause-shape g c = rw c.in-rorb_m1.is c.operands-in-rorb_m1.ensures.shape
 
 pub returns-in-rorw_m1-clause-shape : goal.returns-in-rorw_m1-clause-shape
 unfolding row_of operands_of
-returns-in-rorw_m1-clause-shape g c = c.operands-in-rorw_m1.ensures.shape
+returns-in-rorw_m1-clause-shape g c = rw c.in-rorw_m1.is c.operands-in-rorw_m1.ensures.shape
 
 pub returns-in-rorl_m1-clause-shape : goal.returns-in-rorl_m1-clause-shape
 unfolding row_of operands_of
-returns-in-rorl_m1-clause-shape g c = c.operands-in-rorl_m1.ensures.shape
+returns-in-rorl_m1-clause-shape g c = rw c.in-rorl_m1.is c.operands-in-rorl_m1.ensures.shape
 
 pub returns-in-rorq_m1-clause-shape : goal.returns-in-rorq_m1-clause-shape
 unfolding row_of operands_of
-returns-in-rorq_m1-clause-shape g c = c.operands-in-rorq_m1.ensures.shape
+returns-in-rorq_m1-clause-shape g c = rw c.in-rorq_m1.is c.operands-in-rorq_m1.ensures.shape
 
 pub returns-in-sarb_m1-clause-shape : goal.returns-in-sarb_m1-clause-shape
 unfolding row_of operands_of
-returns-in-sarb_m1-clause-shape g c = c.operands-in-sarb_m1.ensures.shape
+returns-in-sarb_m1-clause-shape g c = rw c.in-sarb_m1.is c.operands-in-sarb_m1.ensures.shape
 
 pub returns-in-sarw_m1-clause-shape : goal.returns-in-sarw_m1-clause-shape
 unfolding row_of operands_of
-returns-in-sarw_m1-clause-shape g c = c.operands-in-sarw_m1.ensures.shape
+returns-in-sarw_m1-clause-shape g c = rw c.in-sarw_m1.is c.operands-in-sarw_m1.ensures.shape
 
 pub returns-in-sarl_m1-clause-shape : goal.returns-in-sarl_m1-clause-shape
 unfolding row_of operands_of
-returns-in-sarl_m1-clause-shape g c = c.operands-in-sarl_m1.ensures.shape
+returns-in-sarl_m1-clause-shape g c = rw c.in-sarl_m1.is c.operands-in-sarl_m1.ensures.shape
 
 pub returns-in-sarq_m1-clause-shape : goal.returns-in-sarq_m1-clause-shape
 unfolding row_of operands_of
-returns-in-sarq_m1-clause-shape g c = c.operands-in-sarq_m1.ensures.shape
+returns-in-sarq_m1-clause-shape g c = rw c.in-sarq_m1.is c.operands-in-sarq_m1.ensures.shape
 
 pub returns-in-shlb_m1-clause-shape : goal.returns-in-shlb_m1-clause-shape
 unfolding row_of operands_of
-returns-in-shlb_m1-clause-shape g c = c.operands-in-shlb_m1.ensures.shape
+returns-in-shlb_m1-clause-shape g c = rw c.in-shlb_m1.is c.operands-in-shlb_m1.ensures.shape
 
 pub returns-in-shlw_m1-clause-shape : goal.returns-in-shlw_m1-clause-shape
 unfolding row_of operands_of
-returns-in-shlw_m1-clause-shape g c = c.operands-in-shlw_m1.ensures.shape
+returns-in-shlw_m1-clause-shape g c = rw c.in-shlw_m1.is c.operands-in-shlw_m1.ensures.shape
 
 pub returns-in-shll_m1-clause-shape : goal.returns-in-shll_m1-clause-shape
 unfolding row_of operands_of
-returns-in-shll_m1-clause-shape g c = c.operands-in-shll_m1.ensures.shape
+returns-in-shll_m1-clause-shape g c = rw c.in-shll_m1.is c.operands-in-shll_m1.ensures.shape
 
 pub returns-in-shlq_m1-clause-shape : goal.returns-in-shlq_m1-clause-shape
 unfolding row_of operands_of
-returns-in-shlq_m1-clause-shape g c = c.operands-in-shlq_m1.ensures.shape
+returns-in-shlq_m1-clause-shape g c = rw c.in-shlq_m1.is c.operands-in-shlq_m1.ensures.shape
 
 pub returns-in-shrb_m1-clause-shape : goal.returns-in-shrb_m1-clause-shape
 unfolding row_of operands_of
-returns-in-shrb_m1-clause-shape g c = c.operands-in-shrb_m1.ensures.shape
+returns-in-shrb_m1-clause-shape g c = rw c.in-shrb_m1.is c.operands-in-shrb_m1.ensures.shape
 
 pub returns-in-shrw_m1-clause-shape : goal.returns-in-shrw_m1-clause-shape
 unfolding row_of operands_of
-returns-in-shrw_m1-clause-shape g c = c.operands-in-shrw_m1.ensures.shape
+returns-in-shrw_m1-clause-shape g c = rw c.in-shrw_m1.is c.operands-in-shrw_m1.ensures.shape
 
 pub returns-in-shrl_m1-clause-shape : goal.returns-in-shrl_m1-clause-shape
 unfolding row_of operands_of
-returns-in-shrl_m1-clause-shape g c = c.operands-in-shrl_m1.ensures.shape
+returns-in-shrl_m1-clause-shape g c = rw c.in-shrl_m1.is c.operands-in-shrl_m1.ensures.shape
 
 pub returns-in-shrq_m1-clause-shape : goal.returns-in-shrq_m1-clause-shape
 unfolding row_of operands_of
-returns-in-shrq_m1-clause-shape g c = c.operands-in-shrq_m1.ensures.shape
+returns-in-shrq_m1-clause-shape g c = rw c.in-shrq_m1.is c.operands-in-shrq_m1.ensures.shape
 
 pub returns-in-xchgb_rm-clause-shape : goal.returns-in-xchgb_rm-clause-shape
 unfolding row_of operands_of
-returns-in-xchgb_rm-clause-shape g c = c.operands-in-xchgb_rm.ensures.shape
+returns-in-xchgb_rm-clause-shape g c = rw c.in-xchgb_rm.is c.operands-in-xchgb_rm.ensures.shape
 
 pub returns-in-xchgw_rm-clause-shape : goal.returns-in-xchgw_rm-clause-shape
 unfolding row_of operands_of
-returns-in-xchgw_rm-clause-shape g c = c.operands-in-xchgw_rm.ensures.shape
+returns-in-xchgw_rm-clause-shape g c = rw c.in-xchgw_rm.is c.operands-in-xchgw_rm.ensures.shape
 
 pub returns-in-xchgl_rm-clause-shape : goal.returns-in-xchgl_rm-clause-shape
 unfolding row_of operands_of
-returns-in-xchgl_rm-clause-shape g c = c.operands-in-xchgl_rm.ensures.shape
+returns-in-xchgl_rm-clause-shape g c = rw c.in-xchgl_rm.is c.operands-in-xchgl_rm.ensures.shape
 
 pub returns-in-xchgq_rm-clause-shape : goal.returns-in-xchgq_rm-clause-shape
 unfolding row_of operands_of
-returns-in-xchgq_rm-clause-shape g c = c.operands-in-xchgq_rm.ensures.shape
+returns-in-xchgq_rm-clause-shape g c = rw c.in-xchgq_rm.is c.operands-in-xchgq_rm.ensures.shape
 
 pub returns-in-andps_a-clause-shape : goal.returns-in-andps_a-clause-shape
 unfolding row_of operands_of
-returns-in-andps_a-clause-shape g c = c.operands-in-andps_a.ensures.shape
+returns-in-andps_a-clause-shape g c = rw c.in-andps_a.is c.operands-in-andps_a.ensures.shape
 
 pub returns-in-cmpps_a-clause-shape : goal.returns-in-cmpps_a-clause-shape
 unfolding row_of operands_of
-returns-in-cmpps_a-clause-shape g c = c.operands-in-cmpps_a.ensures.shape
+returns-in-cmpps_a-clause-shape g c = rw c.in-cmpps_a.is c.operands-in-cmpps_a.ensures.shape
 
 pub returns-in-cmppd_a-clause-shape : goal.returns-in-cmppd_a-clause-shape
 unfolding row_of operands_of
-returns-in-cmppd_a-clause-shape g c = c.operands-in-cmppd_a.ensures.shape
+returns-in-cmppd_a-clause-shape g c = rw c.in-cmppd_a.is c.operands-in-cmppd_a.ensures.shape
 
 pub returns-in-cmpss_a-clause-shape : goal.returns-in-cmpss_a-clause-shape
 unfolding row_of operands_of
-returns-in-cmpss_a-clause-shape g c = c.operands-in-cmpss_a.ensures.shape
+returns-in-cmpss_a-clause-shape g c = rw c.in-cmpss_a.is c.operands-in-cmpss_a.ensures.shape
 
 pub returns-in-cmpsd_a-clause-shape : goal.returns-in-cmpsd_a-clause-shape
 unfolding row_of operands_of
-returns-in-cmpsd_a-clause-shape g c = c.operands-in-cmpsd_a.ensures.shape
+returns-in-cmpsd_a-clause-shape g c = rw c.in-cmpsd_a.is c.operands-in-cmpsd_a.ensures.shape
 
 pub returns-in-vcmpps_b-clause-shape : goal.returns-in-vcmpps_b-clause-shape
 unfolding row_of operands_of
-returns-in-vcmpps_b-clause-shape g c = c.operands-in-vcmpps_b.ensures.shape
+returns-in-vcmpps_b-clause-shape g c = rw c.in-vcmpps_b.is c.operands-in-vcmpps_b.ensures.shape
 
 pub returns-in-vcmppd_b-clause-shape : goal.returns-in-vcmppd_b-clause-shape
 unfolding row_of operands_of
-returns-in-vcmppd_b-clause-shape g c = c.operands-in-vcmppd_b.ensures.shape
+returns-in-vcmppd_b-clause-shape g c = rw c.in-vcmppd_b.is c.operands-in-vcmppd_b.ensures.shape
 
 pub returns-in-vcmpss_b-clause-shape : goal.returns-in-vcmpss_b-clause-shape
 unfolding row_of operands_of
-returns-in-vcmpss_b-clause-shape g c = c.operands-in-vcmpss_b.ensures.shape
+returns-in-vcmpss_b-clause-shape g c = rw c.in-vcmpss_b.is c.operands-in-vcmpss_b.ensures.shape
 
 pub returns-in-vcmpsd_b-clause-shape : goal.returns-in-vcmpsd_b-clause-shape
 unfolding row_of operands_of
-returns-in-vcmpsd_b-clause-shape g c = c.operands-in-vcmpsd_b.ensures.shape
+returns-in-vcmpsd_b-clause-shape g c = rw c.in-vcmpsd_b.is c.operands-in-vcmpsd_b.ensures.shape
 
 pub returns-in-vcvtpd2ps_a-clause-shape : goal.returns-in-vcvtpd2ps_a-clause-shape
 unfolding row_of operands_of
-returns-in-vcvtpd2ps_a-clause-shape g c = c.operands-in-vcvtpd2ps_a.ensures.shape
+returns-in-vcvtpd2ps_a-clause-shape g c = rw c.in-vcvtpd2ps_a.is c.operands-in-vcvtpd2ps_a.ensures.shape
 
 pub returns-in-vcvttpd2dq_a-clause-shape : goal.returns-in-vcvttpd2dq_a-clause-shape
 unfolding row_of operands_of
-returns-in-vcvttpd2dq_a-clause-shape g c = c.operands-in-vcvttpd2dq_a.ensures.shape
+returns-in-vcvttpd2dq_a-clause-shape g c = rw c.in-vcvttpd2dq_a.is c.operands-in-vcvttpd2dq_a.ensures.shape
 
 pub returns-in-callq_m-clause-shape : goal.returns-in-callq_m-clause-shape
 unfolding row_of operands_of
-returns-in-callq_m-clause-shape g c = c.operands-in-callq_m.ensures.shape
+returns-in-callq_m-clause-shape g c = rw c.in-callq_m.is c.operands-in-callq_m.ensures.shape
 
 pub returns-in-jmpq_m-clause-shape : goal.returns-in-jmpq_m-clause-shape
 unfolding row_of operands_of
-returns-in-jmpq_m-clause-shape g c = c.operands-in-jmpq_m.ensures.shape
+returns-in-jmpq_m-clause-shape g c = rw c.in-jmpq_m.is c.operands-in-jmpq_m.ensures.shape
 
 pub returns-in-lock_sbbb_mi-clause-shape : goal.returns-in-lock_sbbb_mi-clause-shape
 unfolding row_of operands_of
-returns-in-lock_sbbb_mi-clause-shape g c = c.operands-in-lock_sbbb_mi.ensures.shape
+returns-in-lock_sbbb_mi-clause-shape g c = rw c.in-lock_sbbb_mi.is c.operands-in-lock_sbbb_mi.ensures.shape
 
 pub returns-in-lock_sbbw_mi-clause-shape : goal.returns-in-lock_sbbw_mi-clause-shape
 unfolding row_of operands_of
-returns-in-lock_sbbw_mi-clause-shape g c = c.operands-in-lock_sbbw_mi.ensures.shape
+returns-in-lock_sbbw_mi-clause-shape g c = rw c.in-lock_sbbw_mi.is c.operands-in-lock_sbbw_mi.ensures.shape
 
 pub returns-in-lock_sbbl_mi-clause-shape : goal.returns-in-lock_sbbl_mi-clause-shape
 unfolding row_of operands_of
-returns-in-lock_sbbl_mi-clause-shape g c = c.operands-in-lock_sbbl_mi.ensures.shape
+returns-in-lock_sbbl_mi-clause-shape g c = rw c.in-lock_sbbl_mi.is c.operands-in-lock_sbbl_mi.ensures.shape
 
 pub returns-in-lock_sbbq_mi_sxl-clause-shape : goal.returns-in-lock_sbbq_mi_sxl-clause-shape
 unfolding row_of operands_of
-returns-in-lock_sbbq_mi_sxl-clause-shape g c = c.operands-in-lock_sbbq_mi_sxl.ensures.shape
+returns-in-lock_sbbq_mi_sxl-clause-shape g c = rw c.in-lock_sbbq_mi_sxl.is c.operands-in-lock_sbbq_mi_sxl.ensures.shape
 
 pub returns-in-lock_sbbl_mi_sxb-clause-shape : goal.returns-in-lock_sbbl_mi_sxb-clause-shape
 unfolding row_of operands_of
-returns-in-lock_sbbl_mi_sxb-clause-shape g c = c.operands-in-lock_sbbl_mi_sxb.ensures.shape
+returns-in-lock_sbbl_mi_sxb-clause-shape g c = rw c.in-lock_sbbl_mi_sxb.is c.operands-in-lock_sbbl_mi_sxb.ensures.shape
 
 pub returns-in-lock_sbbq_mi_sxb-clause-shape : goal.returns-in-lock_sbbq_mi_sxb-clause-shape
 unfolding row_of operands_of
-returns-in-lock_sbbq_mi_sxb-clause-shape g c = c.operands-in-lock_sbbq_mi_sxb.ensures.shape
+returns-in-lock_sbbq_mi_sxb-clause-shape g c = rw c.in-lock_sbbq_mi_sxb.is c.operands-in-lock_sbbq_mi_sxb.ensures.shape
 
 pub returns-in-lock_sbbb_mr-clause-shape : goal.returns-in-lock_sbbb_mr-clause-shape
 unfolding row_of operands_of
-returns-in-lock_sbbb_mr-clause-shape g c = c.operands-in-lock_sbbb_mr.ensures.shape
+returns-in-lock_sbbb_mr-clause-shape g c = rw c.in-lock_sbbb_mr.is c.operands-in-lock_sbbb_mr.ensures.shape
 
 pub returns-in-lock_sbbw_mr-clause-shape : goal.returns-in-lock_sbbw_mr-clause-shape
 unfolding row_of operands_of
-returns-in-lock_sbbw_mr-clause-shape g c = c.operands-in-lock_sbbw_mr.ensures.shape
+returns-in-lock_sbbw_mr-clause-shape g c = rw c.in-lock_sbbw_mr.is c.operands-in-lock_sbbw_mr.ensures.shape
 
 pub returns-in-lock_sbbl_mr-clause-shape : goal.returns-in-lock_sbbl_mr-clause-shape
 unfolding row_of operands_of
-returns-in-lock_sbbl_mr-clause-shape g c = c.operands-in-lock_sbbl_mr.ensures.shape
+returns-in-lock_sbbl_mr-clause-shape g c = rw c.in-lock_sbbl_mr.is c.operands-in-lock_sbbl_mr.ensures.shape
 
 pub returns-in-lock_sbbq_mr-clause-shape : goal.returns-in-lock_sbbq_mr-clause-shape
 unfolding row_of operands_of
-returns-in-lock_sbbq_mr-clause-shape g c = c.operands-in-lock_sbbq_mr.ensures.shape
+returns-in-lock_sbbq_mr-clause-shape g c = rw c.in-lock_sbbq_mr.is c.operands-in-lock_sbbq_mr.ensures.shape
 
 pub returns-in-lock_andb_mi-clause-shape : goal.returns-in-lock_andb_mi-clause-shape
 unfolding row_of operands_of
-returns-in-lock_andb_mi-clause-shape g c = c.operands-in-lock_andb_mi.ensures.shape
+returns-in-lock_andb_mi-clause-shape g c = rw c.in-lock_andb_mi.is c.operands-in-lock_andb_mi.ensures.shape
 
 pub returns-in-lock_andw_mi-clause-shape : goal.returns-in-lock_andw_mi-clause-shape
 unfolding row_of operands_of
-returns-in-lock_andw_mi-clause-shape g c = c.operands-in-lock_andw_mi.ensures.shape
+returns-in-lock_andw_mi-clause-shape g c = rw c.in-lock_andw_mi.is c.operands-in-lock_andw_mi.ensures.shape
 
 pub returns-in-lock_andl_mi-clause-shape : goal.returns-in-lock_andl_mi-clause-shape
 unfolding row_of operands_of
-returns-in-lock_andl_mi-clause-shape g c = c.operands-in-lock_andl_mi.ensures.shape
+returns-in-lock_andl_mi-clause-shape g c = rw c.in-lock_andl_mi.is c.operands-in-lock_andl_mi.ensures.shape
 
 pub returns-in-lock_andq_mi_sxl-clause-shape : goal.returns-in-lock_andq_mi_sxl-clause-shape
 unfolding row_of operands_of
-returns-in-lock_andq_mi_sxl-clause-shape g c = c.operands-in-lock_andq_mi_sxl.ensures.shape
+returns-in-lock_andq_mi_sxl-clause-shape g c = rw c.in-lock_andq_mi_sxl.is c.operands-in-lock_andq_mi_sxl.ensures.shape
 
 pub returns-in-lock_andl_mi_sxb-clause-shape : goal.returns-in-lock_andl_mi_sxb-clause-shape
 unfolding row_of operands_of
-returns-in-lock_andl_mi_sxb-clause-shape g c = c.operands-in-lock_andl_mi_sxb.ensures.shape
+returns-in-lock_andl_mi_sxb-clause-shape g c = rw c.in-lock_andl_mi_sxb.is c.operands-in-lock_andl_mi_sxb.ensures.shape
 
 pub returns-in-lock_andq_mi_sxb-clause-shape : goal.returns-in-lock_andq_mi_sxb-clause-shape
 unfolding row_of operands_of
-returns-in-lock_andq_mi_sxb-clause-shape g c = c.operands-in-lock_andq_mi_sxb.ensures.shape
+returns-in-lock_andq_mi_sxb-clause-shape g c = rw c.in-lock_andq_mi_sxb.is c.operands-in-lock_andq_mi_sxb.ensures.shape
 
 pub returns-in-lock_andb_mr-clause-shape : goal.returns-in-lock_andb_mr-clause-shape
 unfolding row_of operands_of
-returns-in-lock_andb_mr-clause-shape g c = c.operands-in-lock_andb_mr.ensures.shape
+returns-in-lock_andb_mr-clause-shape g c = rw c.in-lock_andb_mr.is c.operands-in-lock_andb_mr.ensures.shape
 
 pub returns-in-lock_andw_mr-clause-shape : goal.returns-in-lock_andw_mr-clause-shape
 unfolding row_of operands_of
-returns-in-lock_andw_mr-clause-shape g c = c.operands-in-lock_andw_mr.ensures.shape
+returns-in-lock_andw_mr-clause-shape g c = rw c.in-lock_andw_mr.is c.operands-in-lock_andw_mr.ensures.shape
 
 pub returns-in-lock_andl_mr-clause-shape : goal.returns-in-lock_andl_mr-clause-shape
 unfolding row_of operands_of
-returns-in-lock_andl_mr-clause-shape g c = c.operands-in-lock_andl_mr.ensures.shape
+returns-in-lock_andl_mr-clause-shape g c = rw c.in-lock_andl_mr.is c.operands-in-lock_andl_mr.ensures.shape
 
 pub returns-in-lock_andq_mr-clause-shape : goal.returns-in-lock_andq_mr-clause-shape
 unfolding row_of operands_of
-returns-in-lock_andq_mr-clause-shape g c = c.operands-in-lock_andq_mr.ensures.shape
+returns-in-lock_andq_mr-clause-shape g c = rw c.in-lock_andq_mr.is c.operands-in-lock_andq_mr.ensures.shape
 
 pub returns-in-lock_subb_mi-clause-shape : goal.returns-in-lock_subb_mi-clause-shape
 unfolding row_of operands_of
-returns-in-lock_subb_mi-clause-shape g c = c.operands-in-lock_subb_mi.ensures.shape
+returns-in-lock_subb_mi-clause-shape g c = rw c.in-lock_subb_mi.is c.operands-in-lock_subb_mi.ensures.shape
 
 pub returns-in-lock_subw_mi-clause-shape : goal.returns-in-lock_subw_mi-clause-shape
 unfolding row_of operands_of
-returns-in-lock_subw_mi-clause-shape g c = c.operands-in-lock_subw_mi.ensures.shape
+returns-in-lock_subw_mi-clause-shape g c = rw c.in-lock_subw_mi.is c.operands-in-lock_subw_mi.ensures.shape
 
 pub returns-in-lock_subl_mi-clause-shape : goal.returns-in-lock_subl_mi-clause-shape
 unfolding row_of operands_of
-returns-in-lock_subl_mi-clause-shape g c = c.operands-in-lock_subl_mi.ensures.shape
+returns-in-lock_subl_mi-clause-shape g c = rw c.in-lock_subl_mi.is c.operands-in-lock_subl_mi.ensures.shape
 
 pub returns-in-lock_subq_mi_sxl-clause-shape : goal.returns-in-lock_subq_mi_sxl-clause-shape
 unfolding row_of operands_of
-returns-in-lock_subq_mi_sxl-clause-shape g c = c.operands-in-lock_subq_mi_sxl.ensures.shape
+returns-in-lock_subq_mi_sxl-clause-shape g c = rw c.in-lock_subq_mi_sxl.is c.operands-in-lock_subq_mi_sxl.ensures.shape
 
 pub returns-in-lock_subl_mi_sxb-clause-shape : goal.returns-in-lock_subl_mi_sxb-clause-shape
 unfolding row_of operands_of
-returns-in-lock_subl_mi_sxb-clause-shape g c = c.operands-in-lock_subl_mi_sxb.ensures.shape
+returns-in-lock_subl_mi_sxb-clause-shape g c = rw c.in-lock_subl_mi_sxb.is c.operands-in-lock_subl_mi_sxb.ensures.shape
 
 pub returns-in-lock_subq_mi_sxb-clause-shape : goal.returns-in-lock_subq_mi_sxb-clause-shape
 unfolding row_of operands_of
-returns-in-lock_subq_mi_sxb-clause-shape g c = c.operands-in-lock_subq_mi_sxb.ensures.shape
+returns-in-lock_subq_mi_sxb-clause-shape g c = rw c.in-lock_subq_mi_sxb.is c.operands-in-lock_subq_mi_sxb.ensures.shape
 
 pub returns-in-lock_subb_mr-clause-shape : goal.returns-in-lock_subb_mr-clause-shape
 unfolding row_of operands_of
-returns-in-lock_subb_mr-clause-shape g c = c.operands-in-lock_subb_mr.ensures.shape
+returns-in-lock_subb_mr-clause-shape g c = rw c.in-lock_subb_mr.is c.operands-in-lock_subb_mr.ensures.shape
 
 pub returns-in-lock_subw_mr-clause-shape : goal.returns-in-lock_subw_mr-clause-shape
 unfolding row_of operands_of
-returns-in-lock_subw_mr-clause-shape g c = c.operands-in-lock_subw_mr.ensures.shape
+returns-in-lock_subw_mr-clause-shape g c = rw c.in-lock_subw_mr.is c.operands-in-lock_subw_mr.ensures.shape
 
 pub returns-in-lock_subl_mr-clause-shape : goal.returns-in-lock_subl_mr-clause-shape
 unfolding row_of operands_of
-returns-in-lock_subl_mr-clause-shape g c = c.operands-in-lock_subl_mr.ensures.shape
+returns-in-lock_subl_mr-clause-shape g c = rw c.in-lock_subl_mr.is c.operands-in-lock_subl_mr.ensures.shape
 
 pub returns-in-lock_subq_mr-clause-shape : goal.returns-in-lock_subq_mr-clause-shape
 unfolding row_of operands_of
-returns-in-lock_subq_mr-clause-shape g c = c.operands-in-lock_subq_mr.ensures.shape
+returns-in-lock_subq_mr-clause-shape g c = rw c.in-lock_subq_mr.is c.operands-in-lock_subq_mr.ensures.shape
 
 pub returns-in-lock_xorb_mi-clause-shape : goal.returns-in-lock_xorb_mi-clause-shape
 unfolding row_of operands_of
-returns-in-lock_xorb_mi-clause-shape g c = c.operands-in-lock_xorb_mi.ensures.shape
+returns-in-lock_xorb_mi-clause-shape g c = rw c.in-lock_xorb_mi.is c.operands-in-lock_xorb_mi.ensures.shape
 
 pub returns-in-lock_xorw_mi-clause-shape : goal.returns-in-lock_xorw_mi-clause-shape
 unfolding row_of operands_of
-returns-in-lock_xorw_mi-clause-shape g c = c.operands-in-lock_xorw_mi.ensures.shape
+returns-in-lock_xorw_mi-clause-shape g c = rw c.in-lock_xorw_mi.is c.operands-in-lock_xorw_mi.ensures.shape
 
 pub returns-in-lock_xorl_mi-clause-shape : goal.returns-in-lock_xorl_mi-clause-shape
 unfolding row_of operands_of
-returns-in-lock_xorl_mi-clause-shape g c = c.operands-in-lock_xorl_mi.ensures.shape
+returns-in-lock_xorl_mi-clause-shape g c = rw c.in-lock_xorl_mi.is c.operands-in-lock_xorl_mi.ensures.shape
 
 pub returns-in-lock_xorq_mi_sxl-clause-shape : goal.returns-in-lock_xorq_mi_sxl-clause-shape
 unfolding row_of operands_of
-returns-in-lock_xorq_mi_sxl-clause-shape g c = c.operands-in-lock_xorq_mi_sxl.ensures.shape
+returns-in-lock_xorq_mi_sxl-clause-shape g c = rw c.in-lock_xorq_mi_sxl.is c.operands-in-lock_xorq_mi_sxl.ensures.shape
 
 pub returns-in-lock_xorl_mi_sxb-clause-shape : goal.returns-in-lock_xorl_mi_sxb-clause-shape
 unfolding row_of operands_of
-returns-in-lock_xorl_mi_sxb-clause-shape g c = c.operands-in-lock_xorl_mi_sxb.ensures.shape
+returns-in-lock_xorl_mi_sxb-clause-shape g c = rw c.in-lock_xorl_mi_sxb.is c.operands-in-lock_xorl_mi_sxb.ensures.shape
 
 pub returns-in-lock_xorq_mi_sxb-clause-shape : goal.returns-in-lock_xorq_mi_sxb-clause-shape
 unfolding row_of operands_of
-returns-in-lock_xorq_mi_sxb-clause-shape g c = c.operands-in-lock_xorq_mi_sxb.ensures.shape
+returns-in-lock_xorq_mi_sxb-clause-shape g c = rw c.in-lock_xorq_mi_sxb.is c.operands-in-lock_xorq_mi_sxb.ensures.shape
 
 pub returns-in-lock_xorb_mr-clause-shape : goal.returns-in-lock_xorb_mr-clause-shape
 unfolding row_of operands_of
-returns-in-lock_xorb_mr-clause-shape g c = c.operands-in-lock_xorb_mr.ensures.shape
+returns-in-lock_xorb_mr-clause-shape g c = rw c.in-lock_xorb_mr.is c.operands-in-lock_xorb_mr.ensures.shape
 
 pub returns-in-lock_xorw_mr-clause-shape : goal.returns-in-lock_xorw_mr-clause-shape
 unfolding row_of operands_of
-returns-in-lock_xorw_mr-clause-shape g c = c.operands-in-lock_xorw_mr.ensures.shape
+returns-in-lock_xorw_mr-clause-shape g c = rw c.in-lock_xorw_mr.is c.operands-in-lock_xorw_mr.ensures.shape
 
 pub returns-in-lock_xorl_mr-clause-shape : goal.returns-in-lock_xorl_mr-clause-shape
 unfolding row_of operands_of
-returns-in-lock_xorl_mr-clause-shape g c = c.operands-in-lock_xorl_mr.ensures.shape
+returns-in-lock_xorl_mr-clause-shape g c = rw c.in-lock_xorl_mr.is c.operands-in-lock_xorl_mr.ensures.shape
 
 pub returns-in-lock_xorq_mr-clause-shape : goal.returns-in-lock_xorq_mr-clause-shape
 unfolding row_of operands_of
-returns-in-lock_xorq_mr-clause-shape g c = c.operands-in-lock_xorq_mr.ensures.shape
+returns-in-lock_xorq_mr-clause-shape g c = rw c.in-lock_xorq_mr.is c.operands-in-lock_xorq_mr.ensures.shape
