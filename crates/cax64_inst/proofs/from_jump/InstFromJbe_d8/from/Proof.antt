@@ -33,4 +33,4 @@ from_spec {M} 𝓤 𝓛 𝓜 𝓡 w t1 t2 t3 t4 t5 t6 t7 l1 l2 l3 l4 l5 l6 l7 c2
     here 𝓡.env (key.name here_args) f (code.unfolded 𝓤 𝓛.H 𝓜 𝓡 w (t1, (t2, (t3, (t4, (t5, (t6, (t7, tt))))))) d1 d2 d3 d4 d5 d6 d7 d8 d9 d10 d11 d12 d13 d14 d15 d16 d17 d18 d19)
     (λ κs a g. tt) (λ κs. reads.owns t1 t2 t3 t4 t5 t6 t7 l1 l2 l3 l4 l5 l6 l7 c2 c3 c4 c5 c6 c7 g1 d1 g2 d2 g3 d3 g4 d4 g5 d5 g6 d6 g7 d7 g8 d8 g9 d9 g10 d10 g11 d11 g12 d12 g13 d13 g14 d14 g15 d15 g16 d16 g17 d17 g18 d18 g19 d19 κs here) (reads.passes t1 t2 t3 t4 t5 t6 t7 l1 l2 l3 l4 l5 l6 l7 c2 c3 c4 c5 c6 c7 g1 d1 g2 d2 g3 d3 g4 d4 g5 d5 g6 d6 g7 d7 g8 d8 g9 d9 g10 d10 g11 d11 g12 d12 g13 d13 g14 d14 g15 d15 g16 d16 g17 d17 g18 d18 g19 d19 here)
     (λ g. making.moved 7 struct N ll tt 135 _ (making.late 121 tt) tt (loose_at N.parts ll 135) (at N 135) (making.pays N 135) (making.tags N 135) (making.the_one (kinds.ps t1 t2 t3 t4 t5 t6 t7 l1 l2 l3 l4 l5 l6 l7 c2 c3 c4 c5 c6 c7 g1 d1 g2 d2 g3 d3 g4 d4 g5 d5 g6 d6 g7 d7 g8 d8 g9 d9 g10 d10 g11 d11 g12 d12 g13 d13 g14 d14 g15 d15 g16 d16 g17 d17 g18 d18 g19 d19) tt).laws
-      (reads.Pre t1 t2 t3 t4 t5 t6 t7 l1 l2 l3 l4 l5 l6 l7 c2 c3 c4 c5 c6 c7 g1 d1 g2 d2 g3 d3 g4 d4 g5 d5 g6 d6 g7 d7 g8 d8 g9 d9 g10 d10 g11 d11 g12 d12 g13 d13 g14 d14 g15 d15 g16 d16 g17 d17 g18 d18 g19 d19) (reads.Post t1 t2 t3 t4 t5 t6 t7 l1 l2 l3 l4 l5 l6 l7 c2 c3 c4 c5 c6 c7 g1 d1 g2 d2 g3 d3 g4 d4 g5 d5 g6 d6 g7 d7 g8 d8 g9 d9 g10 d10 g11 d11 g12 d12 g13 d13 g14 d14 g15 d15 g16 d16 g17 d17 g18 d18 g19 d19) (λ κs a p e. refl) 𝓤 𝓛 (Over 𝓛 𝓜 𝓡 𝓡.env) f refl refl)
+    (reads.Pre t1 t2 t3 t4 t5 t6 t7 l1 l2 l3 l4 l5 l6 l7 c2 c3 c4 c5 c6 c7 g1 d1 g2 d2 g3 d3 g4 d4 g5 d5 g6 d6 g7 d7 g8 d8 g9 d9 g10 d10 g11 d11 g12 d12 g13 d13 g14 d14 g15 d15 g16 d16 g17 d17 g18 d18 g19 d19) (reads.Post t1 t2 t3 t4 t5 t6 t7 l1 l2 l3 l4 l5 l6 l7 c2 c3 c4 c5 c6 c7 g1 d1 g2 d2 g3 d3 g4 d4 g5 d5 g6 d6 g7 d7 g8 d8 g9 d9 g10 d10 g11 d11 g12 d12 g13 d13 g14 d14 g15 d15 g16 d16 g17 d17 g18 d18 g19 d19) (λ κs a p e. refl) 𝓤 𝓛 (Over 𝓛 𝓜 𝓡 𝓡.env) f refl refl)
