@@ -6,4 +6,4 @@ pub mod fields;
 mod names;
 mod values;
 
-pub use names::instructions_of;
+pub use names::{Takes, take_named};

@@ -31,12 +31,12 @@ fn put_if_encodable<A: Allocator>(
     encode_all_whole(insts, sink)
 }
 
-fn put_whole<A: Allocator>(sink: &mut Recorder<A>) -> Result<(), SinkError> {
-    let insts: [Inst<Numbers>; 2] = [
-        nop_9b::new().into(),
-        lock_addl_mr::new(TRAPPING, Gpr::new(1)).into(),
-    ];
-    put_if_encodable(&insts, sink)
+/// A no-operation, and an addition that may trap.
+pub(crate) fn two() -> [Inst<Numbers>; 2] {
+    [
+        Inst::nop_9b(nop_9b::new()),
+        Inst::lock_addl_mr(lock_addl_mr::new(TRAPPING, Gpr::new(1))),
+    ]
 }
 
 /// A list that is put whole, behind a byte.
@@ -50,7 +50,11 @@ impl Grows for Whole {
             return Outcome::Refused;
         }
         let told = [Notice::Trap(10, CODE)];
-        match (put_whole(&mut sink), sink.bytes(), sink.notices()) {
+        match (
+            put_if_encodable(&two(), &mut sink),
+            sink.bytes(),
+            sink.notices(),
+        ) {
             (Ok(()), bytes, notices) if bytes == BYTES.as_slice() && notices == told.as_slice() => {
                 Outcome::Made
             }

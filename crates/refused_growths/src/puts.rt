@@ -1,14 +1,14 @@
 //! Calls that put into a sink: what stands after a refusal is a front of the bytes and of the notices.
 
 use crate::growth::{Grows, Outcome, is_refused};
+use crate::lists::two;
 use cranelift_assembler_x64::evex::EvexPrefix;
-use cranelift_assembler_x64::inst::{andb_i, cmpps_a, lock_addl_mr, nop_9b};
+use cranelift_assembler_x64::inst::cmpps_a;
 use cranelift_assembler_x64::rex::{Disp, RexPrefix};
 use cranelift_assembler_x64::vex::VexPrefix;
 use cranelift_assembler_x64::{
-    Amode, AmodeOffsetPlusKnownOffset, CodeSink, Constant, DeferredTarget, Fixed, Gpr, Imm8, Imm16,
-    Imm64, Inst, Instruction, Label, Notice, Numbers, Recorder, SinkError, TrapCode, Xmm, XmmMem,
-    emit_modrm_sib_disp, encode_all,
+    Amode, CodeSink, Constant, DeferredTarget, Imm8, Imm16, Imm64, Inst, Instruction, Label,
+    Notice, Numbers, Recorder, SinkError, TrapCode, Xmm, XmmMem, emit_modrm_sib_disp, encode_all,
 };
 use std::alloc::{AllocError, Allocator, Global};
 use std::num::NonZeroU8;
@@ -20,12 +20,6 @@ const LABEL: DeferredTarget = DeferredTarget::Label(Label(7));
 const CONSTANT: DeferredTarget = DeferredTarget::Constant(Constant(3));
 
 const RELATIVE: Amode<u8> = Amode::RipRelative { target: CONSTANT };
-
-const TRAPPING: Amode<u8> = Amode::ImmReg {
-    base: 0,
-    simm32: AmodeOffsetPlusKnownOffset::ZERO,
-    trap: Some(CODE),
-};
 
 /// What is put.
 #[derive(Clone, Copy, Debug)]
@@ -82,16 +76,6 @@ fn put_all<S: CodeSink>(insts: &[Inst<Numbers>], sink: &mut S) -> Result<(), Sin
     }
 }
 
-fn put_list<S: CodeSink>(sink: &mut S) -> Result<(), SinkError> {
-    let insts: [Inst<Numbers>; 4] = [
-        nop_9b::new().into(),
-        andb_i::new(Fixed(0), Imm8::new(0xAA)).into(),
-        compare().into(),
-        lock_addl_mr::new(TRAPPING, Gpr::new(1)).into(),
-    ];
-    put_all(&insts, sink)
-}
-
 impl Put {
     fn into_sink<S: CodeSink>(self, sink: &mut S) -> Result<(), SinkError> {
         match self {
@@ -104,7 +88,7 @@ impl Put {
             Put::Displacement => Disp::Imm32(128).emit(sink),
             Put::Tail => put_tail(sink),
             Put::Instruction => put_instruction(sink),
-            Put::List => put_list(sink),
+            Put::List => put_all(&two(), sink),
         }
     }
 }
@@ -179,11 +163,10 @@ const CASES: [Case; 10] = [
     Case {
         put: Put::List,
         bytes: &[
-            0x66, 0x0F, 0x1F, 0x84, 0x00, 0x00, 0x00, 0x00, 0x00, 0x24, 0xAA, 0x0F, 0xC2, 0x05,
-            0xFF, 0xFF, 0xFF, 0xFF, 0x00, 0xF0, 0x01, 0x08,
+            0x66, 0x0F, 0x1F, 0x84, 0x00, 0x00, 0x00, 0x00, 0x00, 0xF0, 0x01, 0x08,
         ],
-        told: 2,
-        notices: [Notice::Target(14, CONSTANT), Notice::Trap(19, CODE)],
+        told: 1,
+        notices: [Notice::Trap(9, CODE), Notice::Target(0, LABEL)],
     },
 ];
 

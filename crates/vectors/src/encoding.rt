@@ -2,12 +2,13 @@
 
 use crate::columns::{write_bytes, write_calls, write_fault, write_notices};
 use crate::reading::note_front;
-use crate::visits::write_visits;
+use crate::visits::VisitText;
 use cax64_test_support::CallRecorder;
+use cranelift_assembler_x64 as assembler;
 use cranelift_assembler_x64::reader::read_inst;
-use cranelift_assembler_x64::{Inst, Instruction, Numbers, Recorder, Row};
+use cranelift_assembler_x64::{Instruction, Numbers, Recorder, Row};
 use named_instructions::fields::{Fault, Fields, parsed};
-use named_instructions::instructions_of;
+use named_instructions::{Takes, take_named};
 use std::alloc::Global;
 
 /// An empty recorder that knows the offsets of a column.
@@ -38,27 +39,45 @@ fn write_row(came: &mut String, bytes: &[u8], row: Row) -> Result<(), Fault> {
     Ok(())
 }
 
-/// The two columns of an instruction as a list of one: the toolchain proves no function here that holds an `Inst` itself.
-fn text_of(alloc: Global, fields: &mut Fields<'_>) -> Result<String, Fault> {
-    let name = fields.text()?;
-    let values = fields.text()?;
-    Ok(format!(in alloc; "{name} {values}")?)
+/// What comes of an instruction in a sink.
+#[derive(Drop)]
+struct Encoded {
+    sink: CallRecorder<Global>,
+    /// The length that it is said to have, and its row.
+    length_and_row: Option<(u8, Row)>,
+    visits: VisitText,
 }
 
-/// Encodes a list of one instruction, which has to be encodable. Answers the length that it is said to have, and its row.
-fn encode_one(
-    insts: &[Inst<Numbers>],
-    sink: &mut CallRecorder<Global>,
-) -> Result<(u8, Row), Fault> {
-    let [inst] = insts else {
-        return Err(Fault::Malformed);
-    };
-    if !inst.is_encodable(sink) {
-        return Err(Fault::Malformed);
+impl Encoded {
+    fn new(alloc: Global, offsets: &str) -> Result<Encoded, Fault> {
+        Ok(Encoded {
+            sink: CallRecorder::new(alloc, recorder_of(alloc, offsets)?),
+            length_and_row: None,
+            visits: VisitText::new(alloc),
+        })
     }
-    let length = inst.encoded_len(sink);
-    inst.encode(sink).map_err(|_| Fault::NoMemory)?;
-    Ok((length, inst.row()))
+}
+
+impl Takes for Encoded {
+    fn take<I: Instruction<Family = Numbers> + Drop>(&mut self, mut inst: I) -> Result<(), Fault> {
+        if !inst.is_encodable(&self.sink) {
+            return Err(Fault::Malformed);
+        }
+        self.length_and_row = Some((inst.encoded_len(&self.sink), inst.row()));
+        inst.encode(&mut self.sink).map_err(|_| Fault::NoMemory)?;
+        inst.visit(&mut self.visits);
+        Ok(())
+    }
+}
+
+/// What comes of the instruction of the next columns.
+fn encode_line(alloc: Global, fields: &mut Fields<'_>) -> Result<(Encoded, u8, Row), Fault> {
+    let name = fields.text()?;
+    let values = fields.text()?;
+    let mut encoded = Encoded::new(alloc, fields.text()?)?;
+    take_named(&mut encoded, name, values)?;
+    let (length, row) = encoded.length_and_row.ok_or(Fault::Malformed)?;
+    Ok((encoded, length, row))
 }
 
 pub(crate) fn answer_instruction(
@@ -66,16 +85,13 @@ pub(crate) fn answer_instruction(
     fields: &mut Fields<'_>,
     came: &mut String,
 ) -> Result<(), Fault> {
-    let text = text_of(alloc, fields)?;
-    let mut sink = CallRecorder::new(alloc, recorder_of(alloc, fields.text()?)?);
-    let mut insts = instructions_of(alloc, text.as_str())?;
-    let (length, row) = encode_one(&insts, &mut sink)?;
-    write_calls(came, &sink)?;
+    let (encoded, length, row) = encode_line(alloc, fields)?;
+    write_calls(came, &encoded.sink)?;
     write!(came, "\t{length}\t")?;
-    write_row(came, sink.bytes(), row)?;
+    write_row(came, encoded.sink.bytes(), row)?;
     came.push('\t')?;
-    write_visits(alloc, came, &mut insts)?;
-    note_front(came, sink.bytes())
+    encoded.visits.write(came)?;
+    note_front(came, encoded.sink.bytes())
 }
 
 /// Bytes and notices, where the length and the row that is read are the right ones.
@@ -84,34 +100,34 @@ pub(crate) fn answer_worked(
     fields: &mut Fields<'_>,
     came: &mut String,
 ) -> Result<(), Fault> {
-    let text = text_of(alloc, fields)?;
-    let mut sink = CallRecorder::new(alloc, recorder_of(alloc, fields.text()?)?);
-    let (length, row) = encode_one(&instructions_of(alloc, text.as_str())?, &mut sink)?;
-    write_bytes(came, sink.bytes())?;
+    let (encoded, length, row) = encode_line(alloc, fields)?;
+    let bytes = encoded.sink.bytes();
+    write_bytes(came, bytes)?;
     came.push('\t')?;
-    write_notices(came, sink.notices())?;
-    let read = read_inst(sink.bytes()).map(|reading| (reading.length, reading.row));
-    if read != Some((length, row)) || usize::from(length) != sink.bytes().len() {
+    write_notices(came, encoded.sink.notices())?;
+    let read = read_inst(bytes).map(|reading| (reading.length, reading.row));
+    if read != Some((length, row)) || usize::from(length) != bytes.len() {
         came.push_str(" but length or row are others")?;
     }
-    note_front(came, sink.bytes())
+    note_front(came, bytes)
 }
 
-fn write_first_fault(
-    came: &mut String,
-    insts: &[Inst<Numbers>],
-    sink: &Recorder<Global>,
-) -> Result<(), Fault> {
-    let [inst] = insts else {
-        return Err(Fault::Malformed);
-    };
-    let fault = inst.first_fault(sink);
-    let is_encodable = inst.is_encodable(sink);
-    write_fault(came, fault)?;
-    if is_encodable != fault.is_none() {
-        write!(came, " but is_encodable gives {is_encodable}")?;
+/// Why an instruction can't be encoded, and its visit.
+#[derive(Drop)]
+struct Faulty {
+    sink: Recorder<Global>,
+    fault: Option<assembler::Fault>,
+    is_encodable: bool,
+    visits: VisitText,
+}
+
+impl Takes for Faulty {
+    fn take<I: Instruction<Family = Numbers> + Drop>(&mut self, mut inst: I) -> Result<(), Fault> {
+        self.fault = inst.first_fault(&self.sink);
+        self.is_encodable = inst.is_encodable(&self.sink);
+        inst.visit(&mut self.visits);
+        Ok(())
     }
-    Ok(())
 }
 
 pub(crate) fn answer_fault(
@@ -119,10 +135,20 @@ pub(crate) fn answer_fault(
     fields: &mut Fields<'_>,
     came: &mut String,
 ) -> Result<(), Fault> {
-    let text = text_of(alloc, fields)?;
-    let sink = recorder_of(alloc, fields.text()?)?;
-    let mut insts = instructions_of(alloc, text.as_str())?;
-    write_first_fault(came, &insts, &sink)?;
+    let name = fields.text()?;
+    let values = fields.text()?;
+    let mut faulty = Faulty {
+        sink: recorder_of(alloc, fields.text()?)?,
+        fault: None,
+        is_encodable: false,
+        visits: VisitText::new(alloc),
+    };
+    take_named(&mut faulty, name, values)?;
+    write_fault(came, faulty.fault)?;
+    if faulty.is_encodable != faulty.fault.is_none() {
+        let is_encodable = faulty.is_encodable;
+        write!(came, " but is_encodable gives {is_encodable}")?;
+    }
     came.push('\t')?;
-    write_visits(alloc, came, &mut insts)
+    faulty.visits.write(came)
 }

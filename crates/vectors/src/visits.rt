@@ -2,18 +2,25 @@
 
 ghost use Rattle.std.specs.Prelude.{◌≡◌};
 
-use cranelift_assembler_x64::{Inst, Instruction, Numbers, RegisterVisitor};
+use cranelift_assembler_x64::{Numbers, RegisterVisitor};
 use named_instructions::fields::Fault;
 use std::alloc::Global;
 
 /// Writes each call that it gets, with spaces between them. The registers stay.
 #[derive(Drop)]
-struct VisitText {
+pub(crate) struct VisitText {
     text: String,
     is_refused: bool,
 }
 
 impl VisitText {
+    pub(crate) fn new(alloc: Global) -> VisitText {
+        VisitText {
+            text: String::new(alloc),
+            is_refused: false,
+        }
+    }
+
     fn push(&mut self, call: &str, number: u8, fixed: Option<u8>) {
         let space = if self.text.is_empty() { "" } else { " " };
         let written = match fixed {
@@ -23,6 +30,19 @@ impl VisitText {
         if written.is_err() {
             self.is_refused = true;
         }
+    }
+
+    /// Writes the calls, or `-` where there are none.
+    pub(crate) fn write(&self, came: &mut String) -> Result<(), Fault> {
+        if self.is_refused {
+            return Err(Fault::NoMemory);
+        }
+        if self.text.is_empty() {
+            came.push('-')?;
+        } else {
+            came.push_str(self.text.as_str())?;
+        }
+        Ok(())
     }
 }
 
@@ -89,29 +109,4 @@ impl RegisterVisitor<Numbers> for VisitText {
     fn fixed_write_xmm(&mut self, reg: &mut u8, enc: u8) {
         self.push("fixed_write_xmm", *reg, Some(enc));
     }
-}
-
-/// Writes the calls of a visit of a list of one, or `-` where there are none.
-pub(crate) fn write_visits(
-    alloc: Global,
-    came: &mut String,
-    insts: &mut [Inst<Numbers>],
-) -> Result<(), Fault> {
-    let [inst] = insts else {
-        return Err(Fault::Malformed);
-    };
-    let mut visitor = VisitText {
-        text: String::new(alloc),
-        is_refused: false,
-    };
-    inst.visit(&mut visitor);
-    if visitor.is_refused {
-        return Err(Fault::NoMemory);
-    }
-    if visitor.text.is_empty() {
-        came.push('-')?;
-    } else {
-        came.push_str(visitor.text.as_str())?;
-    }
-    Ok(())
 }

@@ -3,8 +3,8 @@
 use cax64_test_support::{All, Few, Named, Virtual};
 use cranelift_assembler_x64::inst::{andb_i, andps_a, lock_addl_mr, lock_xaddl_mr};
 use cranelift_assembler_x64::{
-    Amode, AmodeOffset, AmodeOffsetPlusKnownOffset, AsReg, CodeSink, Fault, Fixed, Gpr, Imm8, Inst,
-    Instruction, NonRspGpr, Scale, Size, Xmm, XmmMem, emit_modrm_sib_disp, encode_all,
+    Amode, AmodeOffset, AmodeOffsetPlusKnownOffset, AsReg, CodeSink, Fault, Fixed, Gpr, Imm8,
+    Instruction, NonRspGpr, Scale, Size, Xmm, XmmMem, emit_modrm_sib_disp, encode_each,
 };
 use std::alloc::{AllocFailed, Global};
 use std::test::Fail;
@@ -35,52 +35,13 @@ fn indexed<R: AsReg>(base: R, index: R) -> Amode<R> {
     }
 }
 
-fn add<R: AsReg>(place: Amode<R>, register: R) -> Inst<All<R>> {
-    lock_addl_mr::new(place, Gpr::new(register)).into()
+fn add<R: AsReg>(place: Amode<R>, register: R) -> lock_addl_mr<All<R>> {
+    lock_addl_mr::new(place, Gpr::new(register))
 }
 
-fn exchange<R: AsReg>(place: Amode<R>, register: R) -> Inst<All<R>> {
-    lock_xaddl_mr::new(place, Gpr::new(register)).into()
-}
-
-fn mask<R: AsReg>(register: R) -> Inst<All<R>> {
-    andb_i::new(Fixed(register), Imm8::new(0xAA)).into()
-}
-
-fn and_vectors<R: AsReg>(first: R, second: R) -> Inst<All<R>> {
-    andps_a::new(Xmm::new(first), XmmMem::Xmm(second)).into()
-}
-
-/// Encodes a list, if each of it is encodable. Answers whether it did. One generic in the family reaches a limit of the
-/// prover, so each family has its own.
-fn put_virtuals<S: CodeSink>(insts: &[Inst<All<Virtual>>], sink: &mut S) -> bool {
-    if !insts.iter().all(|inst| inst.is_encodable(sink)) {
-        return false;
-    }
-    match encode_all(insts, sink) {
-        Ok(()) => true,
-        Err(_) => false,
-    }
-}
-
-fn put_few<S: CodeSink>(insts: &[Inst<All<Few>>], sink: &mut S) -> bool {
-    if !insts.iter().all(|inst| inst.is_encodable(sink)) {
-        return false;
-    }
-    match encode_all(insts, sink) {
-        Ok(()) => true,
-        Err(_) => false,
-    }
-}
-
-fn put_named<S: CodeSink>(insts: &[Inst<All<Named>>], sink: &mut S) -> bool {
-    if !insts.iter().all(|inst| inst.is_encodable(sink)) {
-        return false;
-    }
-    match encode_all(insts, sink) {
-        Ok(()) => true,
-        Err(_) => false,
-    }
+/// Encodes a list, if each of it is encodable. Answers whether it did.
+fn put<I: Instruction, S: CodeSink>(insts: &[I], sink: &mut S) -> bool {
+    insts.iter().all(|inst| inst.is_encodable(sink)) && encode_each(insts, sink).is_ok()
 }
 
 fn no_memory<T: Drop>(_failed: AllocFailed<T>) -> Fail {
@@ -106,25 +67,23 @@ fn are(bytes: Option<Vec<u8>>, wanted: &[u8]) -> bool {
     }
 }
 
-const LIST: [u8; 11] = [
-    0x24, 0xAA, 0xF0, 0x41, 0x01, 0x45, 0x00, 0x44, 0x0F, 0x54, 0xED,
-];
+const LIST: [u8; 10] = [0xF0, 0x41, 0x01, 0x45, 0x00, 0xF0, 0x44, 0x01, 0x2C, 0x68];
 
-/// Instructions with registers 0, 5 and 13 of the family.
-fn with_real<R: AsReg>(alloc: Global) -> Result<Vec<Inst<All<R>>>, Fail> {
+/// Additions with registers 0, 5 and 13 of the family.
+fn with_real<R: AsReg>(alloc: Global) -> Result<Vec<lock_addl_mr<All<R>>>, Fail> {
     let (zero, five, thirteen) = (reg::<R>(0)?, reg::<R>(5)?, reg::<R>(13)?);
     let mut list = Vec::new(alloc);
-    list.push(mask(zero)).map_err(no_memory)?;
     list.push(add(based(thirteen), zero)).map_err(no_memory)?;
-    list.push(and_vectors(thirteen, five)).map_err(no_memory)?;
+    list.push(add(indexed(zero, five), thirteen))
+        .map_err(no_memory)?;
     Ok(list)
 }
 
-/// Instructions of which the second holds a register of the caller's.
-fn with_other<R: AsReg>(alloc: Global, other: R) -> Result<Vec<Inst<All<R>>>, Fail> {
+/// Additions of which the second holds a register of the caller's.
+fn with_other<R: AsReg>(alloc: Global, other: R) -> Result<Vec<lock_addl_mr<All<R>>>, Fail> {
     let zero = reg::<R>(0)?;
     let mut list = Vec::new(alloc);
-    list.push(mask(zero)).map_err(no_memory)?;
+    list.push(add(based(zero), zero)).map_err(no_memory)?;
     list.push(add(based(other), zero)).map_err(no_memory)?;
     Ok(list)
 }
@@ -142,7 +101,7 @@ fn has_tails<R: AsReg>(alloc: Global) -> Result<bool, Fail> {
 }
 
 /// Why the instruction can't be encoded.
-fn fault<R: AsReg>(alloc: Global, inst: Inst<All<R>>) -> Option<Fault> {
+fn fault<I: Instruction + Drop>(alloc: Global, inst: I) -> Option<Fault> {
     let sink: Vec<u8> = Vec::new(alloc);
     let fault = inst.first_fault(&sink);
     if inst.is_encodable(&sink) == fault.is_none() {
@@ -152,31 +111,46 @@ fn fault<R: AsReg>(alloc: Global, inst: Inst<All<R>>) -> Option<Fault> {
     }
 }
 
+fn mask_fault<R: AsReg>(alloc: Global, register: R) -> Option<Fault> {
+    let mask: andb_i<All<R>> = andb_i::new(Fixed(register), Imm8::new(0xAA));
+    fault(alloc, mask)
+}
+
+fn vector_fault<R: AsReg>(alloc: Global, first: R, second: R) -> Option<Fault> {
+    let and: andps_a<All<R>> = andps_a::new(Xmm::new(first), XmmMem::Xmm(second));
+    fault(alloc, and)
+}
+
+fn exchange_fault<R: AsReg>(alloc: Global, place: Amode<R>, register: R) -> Option<Fault> {
+    let exchange: lock_xaddl_mr<All<R>> = lock_xaddl_mr::new(place, Gpr::new(register));
+    fault(alloc, exchange)
+}
+
 /// Whether an instruction that holds a register that isn't real is refused at the register's place.
 fn refuses<R: AsReg>(alloc: Global, other: R) -> Result<bool, Fail> {
     let zero = reg::<R>(0)?;
     Ok(
         fault(alloc, add(based(other), zero)) == Some(Fault::Register(0))
-            && fault(alloc, exchange(based(other), zero)) == Some(Fault::Register(1))
             && fault(alloc, add(indexed(zero, other), zero)) == Some(Fault::Register(1))
-            && fault(alloc, mask(other)) == Some(Fault::Fixed(0)),
+            && exchange_fault(alloc, based(other), zero) == Some(Fault::Register(1))
+            && vector_fault(alloc, zero, other) == Some(Fault::Register(1))
+            && mask_fault(alloc, other) == Some(Fault::Fixed(0)),
     )
+}
+
+/// Whether a list with real registers alone is encoded, and one with another register isn't.
+fn holds_real_registers_alone<R: AsReg>(alloc: Global, other: R) -> Result<bool, Fail> {
+    let mut sink: Vec<u8> = Vec::new(alloc);
+    let is_encoded = put(&with_real::<R>(alloc)?, &mut sink);
+    let is_refused = !put(&with_other(alloc, other)?, &mut sink);
+    Ok(is_encoded && is_refused && sink.as_slice() == LIST.as_slice())
 }
 
 #[test]
 fn lists_hold_real_registers_alone(rt: HostRuntime) -> Result<(), Fail> {
-    let mut sink = Vec::new(rt.alloc());
-    assert!(rt; put_virtuals(&with_real(rt.alloc())?, &mut sink));
-    assert!(rt; sink.as_slice() == LIST.as_slice());
-    assert!(rt; !put_virtuals(&with_other(rt.alloc(), Virtual(200))?, &mut sink));
-    let mut sink = Vec::new(rt.alloc());
-    assert!(rt; put_few(&with_real(rt.alloc())?, &mut sink));
-    assert!(rt; sink.as_slice() == LIST.as_slice());
-    assert!(rt; !put_few(&with_other(rt.alloc(), Few(7))?, &mut sink));
-    let mut sink = Vec::new(rt.alloc());
-    assert!(rt; put_named(&with_real(rt.alloc())?, &mut sink));
-    assert!(rt; sink.as_slice() == LIST.as_slice());
-    assert!(rt; !put_named(&with_other(rt.alloc(), Named(200))?, &mut sink));
+    assert!(rt; holds_real_registers_alone(rt.alloc(), Virtual(200))?);
+    assert!(rt; holds_real_registers_alone(rt.alloc(), Few(7))?);
+    assert!(rt; holds_real_registers_alone(rt.alloc(), Named(200))?);
     Ok(())
 }
 
@@ -199,7 +173,7 @@ fn registers_that_may_be_virtual(rt: HostRuntime) -> Result<(), Fail> {
 fn three_registers_alone(rt: HostRuntime) -> Result<(), Fail> {
     assert!(rt; has_tails::<Few>(rt.alloc())?);
     assert!(rt; refuses(rt.alloc(), Few(7))? && tail(rt.alloc(), 0, &based(Few(7))).is_none());
-    assert!(rt; fault(rt.alloc(), mask(Few(13))) == Some(Fault::Fixed(0)));
+    assert!(rt; mask_fault(rt.alloc(), Few(13)) == Some(Fault::Fixed(0)));
     assert!(rt; !Few::accepts(4) && !Few::accepts(16));
     Ok(())
 }

@@ -11,7 +11,7 @@ use std::process::Abort;
 fn put_all(
     rt: &impl Abort,
     insts: &[Inst<Numbers>],
-    sink: &mut FixedSink<3>,
+    sink: &mut FixedSink<2>,
 ) -> Result<(), Refused> {
     assert!(rt; insts.iter().all(|inst| inst.is_encodable(sink)));
     encode_all_to_fixed_sink(insts, sink)
@@ -19,20 +19,19 @@ fn put_all(
 
 #[test]
 fn a_list_is_taken_as_far_as_it_fits(rt: HostRuntime) {
-    let insts: [Inst<Numbers>; 3] = [
-        nop_1b::new().into(),
-        andb_i::new(Fixed(0), Imm8::new(0xAA)).into(),
-        nop_1b::new().into(),
+    let insts: [Inst<Numbers>; 2] = [
+        Inst::andb_i(andb_i::new(Fixed(0), Imm8::new(0xAA))),
+        Inst::nop_1b(nop_1b::new()),
     ];
-    let mut sink = FixedSink::<3>::new();
+    let mut sink = FixedSink::<2>::new();
     let refused = Refused {
-        whole: 2,
+        whole: 1,
         error: SinkError::Full,
     };
     assert!(rt; put_all(&rt, &insts, &mut sink) == Err(refused));
-    assert!(rt; sink.bytes() == [0x90, 0x24, 0xAA].as_slice());
-    let mut sink = FixedSink::<3>::new();
-    assert!(rt; put_all(&rt, &insts[..2], &mut sink) == Ok(()));
+    assert!(rt; sink.bytes() == [0x24, 0xAA].as_slice());
+    let mut sink = FixedSink::<2>::new();
+    assert!(rt; put_all(&rt, &insts[1..], &mut sink) == Ok(()));
 }
 
 #[test]

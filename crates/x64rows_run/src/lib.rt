@@ -4,69 +4,15 @@
 mod line;
 mod rows;
 
-ghost use Rattle.std.specs.Prelude.{◌≡◌, ◌⊎◌, ◌≢◌, ◌↔◌, IsNone, IfErr, map};
-ghost use Rattle.x64rows_run.specs.declared.Fault.TheVariants.{NoMemory, Write};
+ghost use Rattle.std.specs.Prelude.{◌≡◌, ◌⊎◌, ◌≢◌, IfErr, map};
 ghost use Rattle.x64rows_command.specs.Command.{IsCommand};
 ghost use Rattle.x64rows_run.specs.Status.{IsStatus};
 
 use crate::line::push_bytes;
 use crate::rows::ROW_LINES;
-use std::alloc::{AllocError, Allocator};
-use std::io;
+use std::alloc::Allocator;
 use std::io::Write;
-use x64rows_command::{asked_tail, asks_for_rows};
-
-/// Why a run ends before its last line is written.
-#[derive(Clone, Copy, Debug, PartialEq)]
-enum Fault {
-    /// The words aren't those of a command.
-    Usage,
-    NoMemory,
-    /// The output refused a line.
-    Write,
-}
-
-impl Fault {
-    ghost use Rattle.x64rows_run.specs.Fault.{status_of};
-
-    /// The exit status, 2 to 4.
-    fn status(self) -> u8
-        ensures { result ≡ status_of self }
-    {
-        match self {
-            Fault::Usage => 2,
-            Fault::NoMemory => 3,
-            Fault::Write => 4,
-        }
-    }
-
-    /// The line for the error stream.
-    fn message(self) -> Option<&'static str>
-        ensures { IsNone result ↔ (self ≡ Fault.Write) }
-    {
-        match self {
-            Fault::Usage => Some("usage\n"),
-            Fault::NoMemory => Some("no memory\n"),
-            Fault::Write => None,
-        }
-    }
-}
-
-impl From<AllocError> for Fault {
-    ghost from_gives = { λ _ fault. fault ≡ NoMemory };
-
-    fn from(_error: AllocError) -> Fault {
-        Fault::NoMemory
-    }
-}
-
-impl From<io::Error> for Fault {
-    ghost from_gives = { λ _ fault. fault ≡ Write };
-
-    fn from(_error: io::Error) -> Fault {
-        Fault::Write
-    }
-}
+use x64rows_command::{Fault, asked_tail, asks_for_rows};
 
 fn print_tail<A: Allocator>(alloc: A, bytes: &[u8], out: &mut impl Write) -> Result<(), Fault>
     ensures { IfErr result (λ fault. fault ≢ Fault.Usage) }

@@ -10,8 +10,8 @@ use cranelift_assembler_x64::inst::{
 };
 use cranelift_assembler_x64::reader::read_inst;
 use cranelift_assembler_x64::{
-    Amode, Constant, DeferredTarget, Fixed, FixedSink, Gpr, GprMem, Imm8, Inst, Instruction,
-    Numbers, Scale, Simm8, Simm32, Xmm, XmmMem,
+    Amode, Constant, DeferredTarget, Fixed, FixedSink, Gpr, GprMem, Imm8, Instruction, Numbers,
+    Scale, Simm8, Simm32, Xmm, XmmMem,
 };
 use std::alloc::{AllocError, Allocator};
 use x64rows_command::{base_and_displacement, base_and_index};
@@ -56,80 +56,101 @@ pub const ROW_LINES: [RowLine; 14] = [
     RowLine::Nop9b,
 ];
 
-impl RowLine {
-    /// What stands at the front.
-    fn name(self) -> &'static str {
-        match self {
-            RowLine::AndbI => "andb_i",
-            RowLine::LockAddlMr => "lock_addl_mr",
-            RowLine::AndpsA => "andps_a",
-            RowLine::LockAddbMr => "lock_addb_mr",
-            RowLine::LockAddqMiSxl => "lock_addq_mi_sxl",
-            RowLine::LockCmpxchg16bM => "lock_cmpxchg16b_m",
-            RowLine::MulxqRvm => "mulxq_rvm",
-            RowLine::VcmppsB => "vcmpps_b",
-            RowLine::Vcvtpd2psA => "vcvtpd2ps_a",
-            RowLine::CmppsA => "cmpps_a",
-            RowLine::JmpD8 => "jmp_d8",
-            RowLine::JeD32 => "je_d32",
-            RowLine::ShlbM1 => "shlb_m1",
-            RowLine::Nop9b => "nop_9b",
-        }
-    }
+/// The line of an instruction: the name, the instruction's bytes, and what these read as: a row, the number of bytes and
+/// that of the tail's.
+fn text_of<I: Instruction + Drop, A: Allocator>(
+    alloc: A,
+    name: &str,
+    inst: I,
+) -> Result<String<A>, AllocError>
+    requires { (offsets : ℕ → Option ℤ) → IsTrue (is_encodable offsets (I.meant inst offsets)) }
+{
+    let mut sink = FixedSink::<MOST>::new();
+    inst.encode(&mut sink).unwrap();
+    let reading = read_inst(sink.bytes()).unwrap();
+    let mut text = format!(in alloc; "{name}: ")?;
+    push_bytes(&mut text, sink.bytes())?;
+    let row = reading.row.name();
+    let length = reading.length;
+    let tail = reading.tail;
+    writeln!(text, ": {row} {length} {tail}")?;
+    Ok(text)
+}
 
-    fn inst(self) -> Inst<Numbers>
-        ensures { (offsets : ℕ → Option ℤ) → IsTrue (is_encodable offsets (⟦<Inst<Numbers> as Instruction>⟧.meant result offsets)) }
-    {
+impl RowLine {
+    /// The whole line.
+    pub fn text<A: Allocator>(self, alloc: A) -> Result<String<A>, AllocError> {
         match self {
-            RowLine::AndbI => andb_i::new(Fixed(0), Imm8::new(0xAA)).into(),
-            RowLine::LockAddlMr => {
-                lock_addl_mr::new(base_and_displacement(12, -128), Gpr::new(9)).into()
+            RowLine::AndbI => {
+                let mask: andb_i<Numbers> = andb_i::new(Fixed(0), Imm8::new(0xAA));
+                text_of(alloc, "andb_i", mask)
             }
-            RowLine::AndpsA => andps_a::new(Xmm::new(8), XmmMem::Xmm(1)).into(),
+            RowLine::LockAddlMr => {
+                let place = base_and_displacement(12, -128);
+                let add: lock_addl_mr<Numbers> = lock_addl_mr::new(place, Gpr::new(9));
+                text_of(alloc, "lock_addl_mr", add)
+            }
+            RowLine::AndpsA => {
+                let and: andps_a<Numbers> = andps_a::new(Xmm::new(8), XmmMem::Xmm(1));
+                text_of(alloc, "andps_a", and)
+            }
             RowLine::LockAddbMr => {
-                lock_addb_mr::new(base_and_displacement(0, 0), Gpr::new(6)).into()
+                let place = base_and_displacement(0, 0);
+                let add: lock_addb_mr<Numbers> = lock_addb_mr::new(place, Gpr::new(6));
+                text_of(alloc, "lock_addb_mr", add)
             }
             RowLine::LockAddqMiSxl => {
                 let place = base_and_index(13, 9, Scale::Eight, 0x12345678);
-                lock_addq_mi_sxl::new(place, Simm32::new(-1)).into()
+                let add: lock_addq_mi_sxl<Numbers> = lock_addq_mi_sxl::new(place, Simm32::new(-1));
+                text_of(alloc, "lock_addq_mi_sxl", add)
             }
             RowLine::LockCmpxchg16bM => {
                 let place = base_and_displacement(0, 0);
-                lock_cmpxchg16b_m::new(place, Fixed(0), Fixed(2), Fixed(1), Fixed(3)).into()
+                let exchange: lock_cmpxchg16b_m<Numbers> = lock_cmpxchg16b_m::new(
+                    place,
+                    Fixed(0),
+                    Fixed(2),
+                    Fixed(1),
+                    Fixed(3),
+                );
+                text_of(alloc, "lock_cmpxchg16b_m", exchange)
             }
             RowLine::MulxqRvm => {
-                mulxq_rvm::new(Gpr::new(1), Gpr::new(2), GprMem::Gpr(8), Fixed(2)).into()
+                let multiply: mulxq_rvm<Numbers> = mulxq_rvm::new(
+                    Gpr::new(1),
+                    Gpr::new(2),
+                    GprMem::Gpr(8),
+                    Fixed(2),
+                );
+                text_of(alloc, "mulxq_rvm", multiply)
             }
             RowLine::VcmppsB => {
                 let place = XmmMem::Mem(base_and_displacement(8, 0));
-                vcmpps_b::new(Xmm::new(0), Xmm::new(15), place, Imm8::new(0x20)).into()
+                let compare: vcmpps_b<Numbers> = vcmpps_b::new(
+                    Xmm::new(0),
+                    Xmm::new(15),
+                    place,
+                    Imm8::new(0x20),
+                );
+                text_of(alloc, "vcmpps_b", compare)
             }
-            RowLine::Vcvtpd2psA => vcvtpd2ps_a::new(Xmm::new(0), XmmMem::Xmm(1)).into(),
+            RowLine::Vcvtpd2psA => {
+                let convert: vcvtpd2ps_a<Numbers> = vcvtpd2ps_a::new(Xmm::new(0), XmmMem::Xmm(1));
+                text_of(alloc, "vcvtpd2ps_a", convert)
+            }
             RowLine::CmppsA => {
                 let target = DeferredTarget::Constant(Constant(3));
                 let place = XmmMem::Mem(Amode::RipRelative { target });
-                cmpps_a::new(Xmm::new(0), place, Imm8::new(0)).into()
+                let compare: cmpps_a<Numbers> = cmpps_a::new(Xmm::new(0), place, Imm8::new(0));
+                text_of(alloc, "cmpps_a", compare)
             }
-            RowLine::JmpD8 => jmp_d8::new(Simm8::new(-2)).into(),
-            RowLine::JeD32 => je_d32::new(Simm32::new(-10)).into(),
-            RowLine::ShlbM1 => shlb_m1::new(GprMem::Gpr(0)).into(),
-            RowLine::Nop9b => nop_9b::new().into(),
+            RowLine::JmpD8 => text_of(alloc, "jmp_d8", jmp_d8::new(Simm8::new(-2))),
+            RowLine::JeD32 => text_of(alloc, "je_d32", je_d32::new(Simm32::new(-10))),
+            RowLine::ShlbM1 => {
+                let shift: shlb_m1<Numbers> = shlb_m1::new(GprMem::Gpr(0));
+                text_of(alloc, "shlb_m1", shift)
+            }
+            RowLine::Nop9b => text_of(alloc, "nop_9b", nop_9b::new()),
         }
-    }
-
-    /// The whole line: the name, the instruction's bytes, and what these read as: a row, the number of bytes and that
-    /// of the tail's.
-    pub fn text<A: Allocator>(self, alloc: A) -> Result<String<A>, AllocError> {
-        let mut sink = FixedSink::<MOST>::new();
-        self.inst().encode(&mut sink).unwrap();
-        let reading = read_inst(sink.bytes()).unwrap();
-        let name = self.name();
-        let mut text = format!(in alloc; "{name}: ")?;
-        push_bytes(&mut text, sink.bytes())?;
-        let row = reading.row.name();
-        let length = reading.length;
-        let tail = reading.tail;
-        writeln!(text, ": {row} {length} {tail}")?;
-        Ok(text)
     }
 }

@@ -1,7 +1,7 @@
 -- Exit statuses of faults.
 use Rattle.std.specs.Prelude.{ℕ}
-use Rattle.x64rows_run.specs.declared.Fault.{Fault}
-use Rattle.x64rows_run.specs.declared.Fault.TheVariants.{Usage, NoMemory, Write}
+use Rattle.x64rows_command.specs.declared.fault.Fault.{Fault}
+use Rattle.x64rows_command.specs.declared.fault.Fault.TheVariants.{Usage, NoMemory, Write}
 
 abbrev pub status_of : Fault → ℕ
 status_of Usage = 2
