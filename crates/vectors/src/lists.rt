@@ -4,7 +4,7 @@ use crate::columns::{write_bytes, write_notices};
 use crate::encoding::recorder_of;
 use cax64_test_support::RefusingSink;
 use cranelift_assembler_x64::{
-    CodeSink, FixedSink, Instruction, Numbers, Recorder, encode_each, encode_each_whole,
+    CodeSink, FixedSink, Instruction, Numbers, Recorder, Refused, encode_each, encode_each_whole,
 };
 use named_instructions::fields::{Fault, Fields, parsed};
 use named_instructions::{Takes, take_named};
@@ -13,10 +13,37 @@ use std::alloc::Global;
 /// The size of the fixed sink.
 const SIZE: usize = 64;
 
+/// A list of one.
+fn list_of<I: Drop>(alloc: Global, inst: I) -> Result<Vec<I>, Fault> {
+    let mut list = Vec::new(alloc);
+    list.push(inst).map_err(|_| Fault::NoMemory)?;
+    Ok(list)
+}
+
+/// Puts a list, which has to be encodable.
+fn put<I: Instruction, S: CodeSink>(
+    insts: &[I],
+    sink: &mut S,
+) -> Result<Result<(), Refused>, Fault> {
+    if !insts.iter().all(|inst| inst.is_encodable(sink)) {
+        return Err(Fault::Malformed);
+    }
+    Ok(encode_each(insts, sink))
+}
+
+fn put_whole<I: Instruction>(insts: &[I], sink: &mut Recorder<Global>) -> Result<(), Fault> {
+    let is_encodable = insts.iter().all(|inst| inst.is_encodable(&*sink));
+    if !is_encodable || insts.len() > usize::MAX / 13 {
+        return Err(Fault::Malformed);
+    }
+    encode_each_whole(insts, sink).map_err(|_| Fault::NoMemory)
+}
+
 /// A list that is encoded. Each of its instructions is of a type of its own, so it is put as a list of one behind those
 /// before, up to the first that is refused.
 #[derive(Drop)]
 struct Listing<S> {
+    alloc: Global,
     sink: S,
     /// How many are whole.
     whole: usize,
@@ -25,13 +52,10 @@ struct Listing<S> {
 
 impl<S: CodeSink> Takes for Listing<S> {
     fn take<I: Instruction<Family = Numbers> + Drop>(&mut self, inst: I) -> Result<(), Fault> {
-        if !inst.is_encodable(&self.sink) {
-            return Err(Fault::Malformed);
-        }
         if self.is_refused {
             return Ok(());
         }
-        match encode_each(&[inst], &mut self.sink) {
+        match put(&list_of(self.alloc, inst)?, &mut self.sink)? {
             Ok(()) => self.whole = self.whole.saturating_add(1),
             Err(refused) => {
                 self.whole = self.whole.saturating_add(refused.whole);
@@ -42,16 +66,16 @@ impl<S: CodeSink> Takes for Listing<S> {
     }
 }
 
-/// A list of which a recorder takes each instruction whole or not at all.
+/// Instructions of which a recorder takes each whole or not at all.
 #[derive(Drop)]
-struct Whole(Recorder<Global>);
+struct Whole {
+    alloc: Global,
+    recorder: Recorder<Global>,
+}
 
 impl Takes for Whole {
     fn take<I: Instruction<Family = Numbers> + Drop>(&mut self, inst: I) -> Result<(), Fault> {
-        if !inst.is_encodable(&self.0) {
-            return Err(Fault::Malformed);
-        }
-        encode_each_whole(&[inst], &mut self.0).map_err(|_| Fault::NoMemory)
+        put_whole(&list_of(self.alloc, inst)?, &mut self.recorder)
     }
 }
 
@@ -67,8 +91,14 @@ fn take_list<T: Takes>(taker: &mut T, list: &str) -> Result<(), Fault> {
 }
 
 /// Encodes a list, and writes whether the sink took it.
-fn write_outcome<S: CodeSink + Drop>(came: &mut String, list: &str, sink: S) -> Result<S, Fault> {
+fn write_outcome<S: CodeSink + Drop>(
+    alloc: Global,
+    came: &mut String,
+    list: &str,
+    sink: S,
+) -> Result<S, Fault> {
     let mut listing = Listing {
+        alloc,
         sink,
         whole: 0,
         is_refused: false,
@@ -84,13 +114,13 @@ fn write_outcome<S: CodeSink + Drop>(came: &mut String, list: &str, sink: S) -> 
 }
 
 /// A fixed sink that is full but for so many bytes.
-fn write_room(came: &mut String, list: &str, room: usize) -> Result<(), Fault> {
+fn write_room(alloc: Global, came: &mut String, list: &str, room: usize) -> Result<(), Fault> {
     let mut sink = FixedSink::<SIZE>::new();
     for _ in room..SIZE {
         let _ = sink.put1(0);
     }
     let before = sink.bytes().len();
-    let sink = write_outcome(came, list, sink)?;
+    let sink = write_outcome(alloc, came, list, sink)?;
     write_bytes(came, sink.bytes().get(before..).ok_or(Fault::Malformed)?)?;
     came.push_str("\t-")?;
     Ok(())
@@ -98,12 +128,13 @@ fn write_room(came: &mut String, list: &str, room: usize) -> Result<(), Fault> {
 
 /// A recorder that takes so many calls.
 fn write_refused_call(
+    alloc: Global,
     came: &mut String,
     list: &str,
     recorder: Recorder<Global>,
     calls: usize,
 ) -> Result<(), Fault> {
-    let sink = write_outcome(came, list, RefusingSink::new(recorder, calls))?;
+    let sink = write_outcome(alloc, came, list, RefusingSink::new(recorder, calls))?;
     let recorder = sink.into_recorder();
     write_bytes(came, recorder.bytes())?;
     came.push('\t')?;
@@ -111,16 +142,22 @@ fn write_refused_call(
 }
 
 /// A recorder that takes instructions whole or not at all.
-fn write_whole(came: &mut String, list: &str, recorder: Recorder<Global>) -> Result<(), Fault> {
-    let mut whole = Whole(recorder);
+fn write_whole(
+    alloc: Global,
+    came: &mut String,
+    list: &str,
+    recorder: Recorder<Global>,
+) -> Result<(), Fault> {
+    let mut whole = Whole { alloc, recorder };
     take_list(&mut whole, list)?;
     came.push_str("ok\t")?;
-    write_bytes(came, whole.0.bytes())?;
+    write_bytes(came, whole.recorder.bytes())?;
     came.push('\t')?;
-    write_notices(came, whole.0.notices())
+    write_notices(came, whole.recorder.notices())
 }
 
 fn write_refusal(
+    alloc: Global,
     came: &mut String,
     list: &str,
     recorder: Recorder<Global>,
@@ -128,9 +165,9 @@ fn write_refusal(
     number: usize,
 ) -> Result<(), Fault> {
     match limit {
-        "room" if number <= SIZE => write_room(came, list, number),
-        "call" if number > 0 => write_refused_call(came, list, recorder, number - 1),
-        "whole" => write_whole(came, list, recorder),
+        "room" if number <= SIZE => write_room(alloc, came, list, number),
+        "call" if number > 0 => write_refused_call(alloc, came, list, recorder, number - 1),
+        "whole" => write_whole(alloc, came, list, recorder),
         _ => Err(Fault::Malformed),
     }
 }
@@ -148,5 +185,5 @@ pub(crate) fn answer_refusal(
     }
     let limit = fields.text()?;
     let number: usize = parsed(fields.text()?)?;
-    write_refusal(came, list, recorder, limit, number)
+    write_refusal(alloc, came, list, recorder, limit, number)
 }
