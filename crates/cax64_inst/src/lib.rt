@@ -2,8 +2,7 @@
 #![tactic(auto)]
 #![allow(non_camel_case_types)]
 
-ghost use Rattle.std.specs.Prelude.{◌≡◌};
-ghost use Rattle.cax64_inst.specs.Inst.{row_of, operands_of, without_registers};
+ghost use Rattle.cax64_inst.specs.Inst.{row_of, operands_of};
 
 use arith::andb_i;
 use arith::mulxl_rvm;
@@ -33,7 +32,6 @@ use arith::xchgl_rm;
 use arith::xchgq_rm;
 use arith::xchgw_rm;
 use cax64_machine_code::row::Row;
-use cax64_operand::Operand;
 use cax64_operand::Operands;
 use cax64_operand::RegisterVisitor;
 use cax64_operand::RowAndOperands;
@@ -182,6 +180,7 @@ mod from_lock_b;
 mod from_lock_x;
 mod from_nop;
 mod from_simd;
+mod operands;
 mod visit;
 
 /// An instruction.
@@ -350,17 +349,6 @@ pub enum Inst<R: Registers> {
     jge_d32(jge_d32),
     jle_d32(jle_d32),
     jg_d32(jg_d32),
-}
-
-/// The operands of an instruction without registers, for any family. Others would be left out.
-fn without_registers<R: Registers, S: Registers>(operands: Operands<R>) -> Operands<S>
-    ensures { result ≡ without_registers operands }
-{
-    match operands {
-        Operands::One(Operand::Imm(imm)) => Operands::One(Operand::Imm(imm)),
-        Operands::Nop(nop) => Operands::Nop(nop),
-        _ => Operands::Zero,
-    }
 }
 
 impl<R: Registers> RowAndOperands for Inst<R> {
@@ -539,173 +527,8 @@ impl<R: Registers> RowAndOperands for Inst<R> {
         }
     }
 
-    #[tactic(auto, unfolding(crate::specs::Inst::row_of, crate::specs::Inst::operands_of))]
     fn operands(&self) -> Operands<R> {
-        match self {
-            Inst::nop_1b(i) => without_registers(i.operands()),
-            Inst::nop_2b(i) => without_registers(i.operands()),
-            Inst::nop_3b(i) => without_registers(i.operands()),
-            Inst::nop_4b(i) => without_registers(i.operands()),
-            Inst::nop_5b(i) => without_registers(i.operands()),
-            Inst::nop_6b(i) => without_registers(i.operands()),
-            Inst::nop_7b(i) => without_registers(i.operands()),
-            Inst::nop_8b(i) => without_registers(i.operands()),
-            Inst::nop_9b(i) => without_registers(i.operands()),
-            Inst::lock_addb_mi(i) => i.operands(),
-            Inst::lock_addw_mi(i) => i.operands(),
-            Inst::lock_addl_mi(i) => i.operands(),
-            Inst::lock_addq_mi_sxl(i) => i.operands(),
-            Inst::lock_addl_mi_sxb(i) => i.operands(),
-            Inst::lock_addq_mi_sxb(i) => i.operands(),
-            Inst::lock_addb_mr(i) => i.operands(),
-            Inst::lock_addw_mr(i) => i.operands(),
-            Inst::lock_addl_mr(i) => i.operands(),
-            Inst::lock_addq_mr(i) => i.operands(),
-            Inst::lock_orb_mi(i) => i.operands(),
-            Inst::lock_orw_mi(i) => i.operands(),
-            Inst::lock_orl_mi(i) => i.operands(),
-            Inst::lock_orq_mi_sxl(i) => i.operands(),
-            Inst::lock_orl_mi_sxb(i) => i.operands(),
-            Inst::lock_orq_mi_sxb(i) => i.operands(),
-            Inst::lock_orb_mr(i) => i.operands(),
-            Inst::lock_orw_mr(i) => i.operands(),
-            Inst::lock_orl_mr(i) => i.operands(),
-            Inst::lock_orq_mr(i) => i.operands(),
-            Inst::lock_adcb_mi(i) => i.operands(),
-            Inst::lock_adcw_mi(i) => i.operands(),
-            Inst::lock_adcl_mi(i) => i.operands(),
-            Inst::lock_adcq_mi_sxl(i) => i.operands(),
-            Inst::lock_adcl_mi_sxb(i) => i.operands(),
-            Inst::lock_adcq_mi_sxb(i) => i.operands(),
-            Inst::lock_adcb_mr(i) => i.operands(),
-            Inst::lock_adcw_mr(i) => i.operands(),
-            Inst::lock_adcl_mr(i) => i.operands(),
-            Inst::lock_adcq_mr(i) => i.operands(),
-            Inst::lock_cmpxchgb_mr(i) => i.operands(),
-            Inst::lock_cmpxchgw_mr(i) => i.operands(),
-            Inst::lock_cmpxchgl_mr(i) => i.operands(),
-            Inst::lock_cmpxchgq_mr(i) => i.operands(),
-            Inst::lock_cmpxchg16b_m(i) => i.operands(),
-            Inst::lock_xaddb_mr(i) => i.operands(),
-            Inst::lock_xaddw_mr(i) => i.operands(),
-            Inst::lock_xaddl_mr(i) => i.operands(),
-            Inst::lock_xaddq_mr(i) => i.operands(),
-            Inst::andb_i(i) => i.operands(),
-            Inst::mulxl_rvm(i) => i.operands(),
-            Inst::mulxq_rvm(i) => i.operands(),
-            Inst::rolb_m1(i) => i.operands(),
-            Inst::rolw_m1(i) => i.operands(),
-            Inst::roll_m1(i) => i.operands(),
-            Inst::rolq_m1(i) => i.operands(),
-            Inst::rorb_m1(i) => i.operands(),
-            Inst::rorw_m1(i) => i.operands(),
-            Inst::rorl_m1(i) => i.operands(),
-            Inst::rorq_m1(i) => i.operands(),
-            Inst::sarb_m1(i) => i.operands(),
-            Inst::sarw_m1(i) => i.operands(),
-            Inst::sarl_m1(i) => i.operands(),
-            Inst::sarq_m1(i) => i.operands(),
-            Inst::shlb_m1(i) => i.operands(),
-            Inst::shlw_m1(i) => i.operands(),
-            Inst::shll_m1(i) => i.operands(),
-            Inst::shlq_m1(i) => i.operands(),
-            Inst::shrb_m1(i) => i.operands(),
-            Inst::shrw_m1(i) => i.operands(),
-            Inst::shrl_m1(i) => i.operands(),
-            Inst::shrq_m1(i) => i.operands(),
-            Inst::xchgb_rm(i) => i.operands(),
-            Inst::xchgw_rm(i) => i.operands(),
-            Inst::xchgl_rm(i) => i.operands(),
-            Inst::xchgq_rm(i) => i.operands(),
-            Inst::andps_a(i) => i.operands(),
-            Inst::cmpps_a(i) => i.operands(),
-            Inst::cmppd_a(i) => i.operands(),
-            Inst::cmpss_a(i) => i.operands(),
-            Inst::cmpsd_a(i) => i.operands(),
-            Inst::vcmpps_b(i) => i.operands(),
-            Inst::vcmppd_b(i) => i.operands(),
-            Inst::vcmpss_b(i) => i.operands(),
-            Inst::vcmpsd_b(i) => i.operands(),
-            Inst::vcvtpd2ps_a(i) => i.operands(),
-            Inst::vcvttpd2dq_a(i) => i.operands(),
-            Inst::callq_m(i) => i.operands(),
-            Inst::jmpq_m(i) => i.operands(),
-            Inst::lock_sbbb_mi(i) => i.operands(),
-            Inst::lock_sbbw_mi(i) => i.operands(),
-            Inst::lock_sbbl_mi(i) => i.operands(),
-            Inst::lock_sbbq_mi_sxl(i) => i.operands(),
-            Inst::lock_sbbl_mi_sxb(i) => i.operands(),
-            Inst::lock_sbbq_mi_sxb(i) => i.operands(),
-            Inst::lock_sbbb_mr(i) => i.operands(),
-            Inst::lock_sbbw_mr(i) => i.operands(),
-            Inst::lock_sbbl_mr(i) => i.operands(),
-            Inst::lock_sbbq_mr(i) => i.operands(),
-            Inst::lock_andb_mi(i) => i.operands(),
-            Inst::lock_andw_mi(i) => i.operands(),
-            Inst::lock_andl_mi(i) => i.operands(),
-            Inst::lock_andq_mi_sxl(i) => i.operands(),
-            Inst::lock_andl_mi_sxb(i) => i.operands(),
-            Inst::lock_andq_mi_sxb(i) => i.operands(),
-            Inst::lock_andb_mr(i) => i.operands(),
-            Inst::lock_andw_mr(i) => i.operands(),
-            Inst::lock_andl_mr(i) => i.operands(),
-            Inst::lock_andq_mr(i) => i.operands(),
-            Inst::lock_subb_mi(i) => i.operands(),
-            Inst::lock_subw_mi(i) => i.operands(),
-            Inst::lock_subl_mi(i) => i.operands(),
-            Inst::lock_subq_mi_sxl(i) => i.operands(),
-            Inst::lock_subl_mi_sxb(i) => i.operands(),
-            Inst::lock_subq_mi_sxb(i) => i.operands(),
-            Inst::lock_subb_mr(i) => i.operands(),
-            Inst::lock_subw_mr(i) => i.operands(),
-            Inst::lock_subl_mr(i) => i.operands(),
-            Inst::lock_subq_mr(i) => i.operands(),
-            Inst::lock_xorb_mi(i) => i.operands(),
-            Inst::lock_xorw_mi(i) => i.operands(),
-            Inst::lock_xorl_mi(i) => i.operands(),
-            Inst::lock_xorq_mi_sxl(i) => i.operands(),
-            Inst::lock_xorl_mi_sxb(i) => i.operands(),
-            Inst::lock_xorq_mi_sxb(i) => i.operands(),
-            Inst::lock_xorb_mr(i) => i.operands(),
-            Inst::lock_xorw_mr(i) => i.operands(),
-            Inst::lock_xorl_mr(i) => i.operands(),
-            Inst::lock_xorq_mr(i) => i.operands(),
-            Inst::jmp_d8(i) => without_registers(i.operands()),
-            Inst::jo_d8(i) => without_registers(i.operands()),
-            Inst::jno_d8(i) => without_registers(i.operands()),
-            Inst::jb_d8(i) => without_registers(i.operands()),
-            Inst::jae_d8(i) => without_registers(i.operands()),
-            Inst::je_d8(i) => without_registers(i.operands()),
-            Inst::jne_d8(i) => without_registers(i.operands()),
-            Inst::jbe_d8(i) => without_registers(i.operands()),
-            Inst::ja_d8(i) => without_registers(i.operands()),
-            Inst::js_d8(i) => without_registers(i.operands()),
-            Inst::jns_d8(i) => without_registers(i.operands()),
-            Inst::jp_d8(i) => without_registers(i.operands()),
-            Inst::jnp_d8(i) => without_registers(i.operands()),
-            Inst::jl_d8(i) => without_registers(i.operands()),
-            Inst::jge_d8(i) => without_registers(i.operands()),
-            Inst::jle_d8(i) => without_registers(i.operands()),
-            Inst::jg_d8(i) => without_registers(i.operands()),
-            Inst::callq_d(i) => without_registers(i.operands()),
-            Inst::jmp_d32(i) => without_registers(i.operands()),
-            Inst::jo_d32(i) => without_registers(i.operands()),
-            Inst::jno_d32(i) => without_registers(i.operands()),
-            Inst::jb_d32(i) => without_registers(i.operands()),
-            Inst::jae_d32(i) => without_registers(i.operands()),
-            Inst::je_d32(i) => without_registers(i.operands()),
-            Inst::jne_d32(i) => without_registers(i.operands()),
-            Inst::jbe_d32(i) => without_registers(i.operands()),
-            Inst::ja_d32(i) => without_registers(i.operands()),
-            Inst::js_d32(i) => without_registers(i.operands()),
-            Inst::jns_d32(i) => without_registers(i.operands()),
-            Inst::jp_d32(i) => without_registers(i.operands()),
-            Inst::jnp_d32(i) => without_registers(i.operands()),
-            Inst::jl_d32(i) => without_registers(i.operands()),
-            Inst::jge_d32(i) => without_registers(i.operands()),
-            Inst::jle_d32(i) => without_registers(i.operands()),
-            Inst::jg_d32(i) => without_registers(i.operands()),
-        }
+        self.operands_locked()
     }
 
     fn visit<V: RegisterVisitor<R>>(&mut self, visitor: &mut V) {
