@@ -225,7 +225,7 @@ pub mod laws {
     pub use cax64_address::laws::emit_to_fixed_sink;
     pub use cax64_encode_all::encode_all_to_fixed_sink;
     pub use cax64_encoder::laws::encode_to_fixed_sink;
-    pub use cax64_sequence::laws::first_of_a_list;
+    pub use cax64_sequence::laws::{encode_each_to_fixed_sink, first_of_a_list};
 }
 
 /// The reading of machine code.

@@ -1,37 +1,36 @@
 //! Over a sink of fixed size calls have laws of their own.
 
 use cranelift_assembler_x64::inst::{andb_i, nop_1b};
-use cranelift_assembler_x64::laws::{encode_all_to_fixed_sink, encode_to_fixed_sink};
+use cranelift_assembler_x64::laws::{encode_each_to_fixed_sink, encode_to_fixed_sink};
 use cranelift_assembler_x64::vex::VexPrefix;
-use cranelift_assembler_x64::{
-    Fixed, FixedSink, Imm8, Inst, Instruction, Numbers, Refused, SinkError,
-};
+use cranelift_assembler_x64::{Fixed, FixedSink, Imm8, Instruction, Numbers, Refused, SinkError};
 use std::process::Abort;
 
-fn put_all(
+fn put_each<I: Instruction>(
     rt: &impl Abort,
-    insts: &[Inst<Numbers>],
-    sink: &mut FixedSink<2>,
+    insts: &[I],
+    sink: &mut FixedSink<5>,
 ) -> Result<(), Refused> {
     assert!(rt; insts.iter().all(|inst| inst.is_encodable(sink)));
-    encode_all_to_fixed_sink(insts, sink)
+    encode_each_to_fixed_sink(insts, sink)
+}
+
+fn mask(number: u8) -> andb_i<Numbers> {
+    andb_i::new(Fixed(0), Imm8::new(number))
 }
 
 #[test]
 fn a_list_is_taken_as_far_as_it_fits(rt: HostRuntime) {
-    let insts: [Inst<Numbers>; 2] = [
-        Inst::andb_i(andb_i::new(Fixed(0), Imm8::new(0xAA))),
-        Inst::nop_1b(nop_1b::new()),
-    ];
-    let mut sink = FixedSink::<2>::new();
+    let masks = [mask(1), mask(2), mask(3)];
+    let mut sink = FixedSink::<5>::new();
     let refused = Refused {
-        whole: 1,
+        whole: 2,
         error: SinkError::Full,
     };
-    assert!(rt; put_all(&rt, &insts, &mut sink) == Err(refused));
-    assert!(rt; sink.bytes() == [0x24, 0xAA].as_slice());
-    let mut sink = FixedSink::<2>::new();
-    assert!(rt; put_all(&rt, &insts[1..], &mut sink) == Ok(()));
+    assert!(rt; put_each(&rt, &masks, &mut sink) == Err(refused));
+    assert!(rt; sink.bytes() == [0x24, 1, 0x24, 2, 0x24].as_slice());
+    let mut sink = FixedSink::<5>::new();
+    assert!(rt; put_each(&rt, &masks[..2], &mut sink) == Ok(()));
 }
 
 #[test]
