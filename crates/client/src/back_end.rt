@@ -4,7 +4,7 @@ ghost use Rattle.std.specs.Prelude.{◌≡◌, IfOk, IsTrue, All};
 ghost use Rattle.cranelift_assembler_x64.specs.Instruction.{can_encode_in, fault_in};
 
 use cranelift_assembler_x64::{
-    CodeSink, Fault, Inst, Instruction, Numbers, Refused, Registers, SinkError, encode_all,
+    CodeSink, Fault, Inst, Instruction, Numbers, Refused, SinkError, encode_all, encode_each,
 };
 
 /// Encodes an instruction if it can be encoded, and says whether it did.
@@ -55,13 +55,13 @@ fn all_encodable<I: Instruction, S: CodeSink>(insts: &[I], sink: &S) -> bool
     insts.iter().all(|inst| inst.is_encodable(sink))
 }
 
-/// The same for any family of registers.
-pub fn encode_all_of_any_family<R: Registers, S: CodeSink>(
-    insts: &[Inst<R>],
+/// The same of instructions of any one type, and so of an [`Inst`] over any family of registers.
+pub fn encode_each_if_encodable<I: Instruction, S: CodeSink>(
+    insts: &[I],
     sink: &mut S,
 ) -> Result<bool, Refused> {
     if all_encodable(insts, &*sink) {
-        encode_all(insts, sink)?;
+        encode_each(insts, sink)?;
         Ok(true)
     } else {
         Ok(false)

@@ -11,7 +11,7 @@ ghost use Rattle.cranelift_assembler_x64.specs.Recorder.{recorder_state};
 ghost use Rattle.cranelift_assembler_x64.specs.Sequence.{IsFront};
 
 pub use back_end::{
-    encode_all_if_encodable, encode_all_of_any_family, encode_if_encodable, encode_or_tell,
+    encode_all_if_encodable, encode_each_if_encodable, encode_if_encodable, encode_or_tell,
 };
 use cranelift_assembler_x64::inst::{lock_addl_mi_sxb, nop_1b};
 use cranelift_assembler_x64::{
