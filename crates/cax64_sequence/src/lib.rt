@@ -5,5 +5,5 @@ pub mod laws;
 mod sequence;
 mod whole;
 
-pub use sequence::{Refused, encode_each};
+pub use sequence::{Refused, all_encodable, encode_each};
 pub use whole::encode_each_whole;

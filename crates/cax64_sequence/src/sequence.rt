@@ -1,6 +1,6 @@
 //! Instructions one behind the other.
 
-ghost use Rattle.std.specs.Prelude.{◌≡◌, ◌*◌, ◌≤◌, ℕ, true, IsTrue, All, OnOk, IfErr, IsOk, take, length};
+ghost use Rattle.std.specs.Prelude.{◌≡◌, ◌↔◌, ◌*◌, ◌≤◌, ℕ, true, IsTrue, All, OnOk, IfErr, IsOk, take, length};
 ghost use Rattle.cax64_encoder.specs.Instruction.{can_encode_in};
 ghost use Rattle.cax64_machine_code.specs.Sequence.{IsFront};
 ghost use Rattle.cax64_sequence.specs.List.{AddsList, LeavesList, meants, total_len, total_notices, list_len, list_notices};
@@ -17,6 +17,13 @@ pub struct Refused {
     pub whole: usize,
     /// Why the next one isn't.
     pub error: SinkError,
+}
+
+/// Whether each of some instructions can be encoded for this sink, as the calls that put lists ask.
+pub fn all_encodable<I: Instruction, S: CodeSink>(insts: &[I], sink: &S) -> bool
+    ensures { IsTrue result ↔ All (λ i. IsTrue (can_encode_in (S.state sink.now) (I.meant i))) insts.now }
+{
+    insts.iter().all(|inst| inst.is_encodable(sink))
 }
 
 /// Puts instructions of one type one behind the other, and tells the sink of their traps and targets.

@@ -1,10 +1,11 @@
 //! The calls that a back end makes, which meet the conditions of `encode` by a test at run time.
 
-ghost use Rattle.std.specs.Prelude.{◌≡◌, IfOk, IsTrue, All};
+ghost use Rattle.std.specs.Prelude.{◌≡◌, IfOk};
 ghost use Rattle.cranelift_assembler_x64.specs.Instruction.{can_encode_in, fault_in};
 
 use cranelift_assembler_x64::{
-    CodeSink, Fault, Inst, Instruction, Numbers, Refused, SinkError, encode_all, encode_each,
+    CodeSink, Fault, Inst, Instruction, Numbers, Refused, SinkError, all_encodable, encode_all,
+    encode_each,
 };
 
 /// Encodes an instruction if it can be encoded, and says whether it did.
@@ -46,13 +47,6 @@ pub fn encode_all_if_encodable<S: CodeSink>(
     } else {
         Ok(false)
     }
-}
-
-/// Whether each of some instructions can be encoded.
-fn all_encodable<I: Instruction, S: CodeSink>(insts: &[I], sink: &S) -> bool
-    ensures { IsTrue result → All (λ i. IsTrue (can_encode_in (S.state sink.now) (I.meant i))) insts.now }
-{
-    insts.iter().all(|inst| inst.is_encodable(sink))
 }
 
 /// The same of instructions of any one type, and so of an [`Inst`] over any family of registers.

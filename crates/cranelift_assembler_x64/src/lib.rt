@@ -18,7 +18,7 @@ pub use cax64_operand::{Immediate, Numbers, Operand, Operands, RegisterVisitor, 
 pub use cax64_prefix::rex::RexPrefix;
 pub use cax64_register::{AsReg, Fixed, Gpr, NonRspGpr, Registers, Size, Xmm, register_name};
 pub use cax64_renaming::rename;
-pub use cax64_sequence::{Refused, encode_each, encode_each_whole};
+pub use cax64_sequence::{Refused, all_encodable, encode_each, encode_each_whole};
 pub use cax64_sink::{
     CodeSink, Constant, DeferredTarget, FixedSink, KnownOffset, Label, Notice, Recorder, SinkError,
     TrapCode,

@@ -4,7 +4,7 @@ use crate::growth::{Grows, Outcome, is_refused};
 use cranelift_assembler_x64::inst::{lock_addl_mr, nop_9b};
 use cranelift_assembler_x64::{
     Amode, AmodeOffsetPlusKnownOffset, CodeSink, Gpr, Inst, Instruction, Notice, Numbers, Recorder,
-    SinkError, TrapCode, encode_all_whole,
+    SinkError, TrapCode, all_encodable, encode_all_whole,
 };
 use std::alloc::{AllocError, Allocator};
 use std::num::NonZeroU8;
@@ -25,7 +25,7 @@ fn put_if_encodable<A: Allocator>(
     insts: &[Inst<Numbers>],
     sink: &mut Recorder<A>,
 ) -> Result<(), SinkError> {
-    if !insts.iter().all(|inst| inst.is_encodable(&*sink)) || insts.len() > usize::MAX / 13 {
+    if !all_encodable(insts, &*sink) || insts.len() > usize::MAX / 13 {
         return Ok(());
     }
     encode_all_whole(insts, sink)

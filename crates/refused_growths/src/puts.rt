@@ -8,7 +8,8 @@ use cranelift_assembler_x64::rex::{Disp, RexPrefix};
 use cranelift_assembler_x64::vex::VexPrefix;
 use cranelift_assembler_x64::{
     Amode, CodeSink, Constant, DeferredTarget, Imm8, Imm16, Imm64, Inst, Instruction, Label,
-    Notice, Numbers, Recorder, SinkError, TrapCode, Xmm, XmmMem, emit_modrm_sib_disp, encode_all,
+    Notice, Numbers, Recorder, SinkError, TrapCode, Xmm, XmmMem, all_encodable,
+    emit_modrm_sib_disp, encode_all,
 };
 use std::alloc::{AllocError, Allocator, Global};
 use std::num::NonZeroU8;
@@ -67,7 +68,7 @@ fn put_instruction<S: CodeSink>(sink: &mut S) -> Result<(), SinkError> {
 
 /// Puts a list, where each of it is encodable.
 fn put_all<S: CodeSink>(insts: &[Inst<Numbers>], sink: &mut S) -> Result<(), SinkError> {
-    if !insts.iter().all(|inst| inst.is_encodable(sink)) {
+    if !all_encodable(insts, sink) {
         return Ok(());
     }
     match encode_all(insts, sink) {

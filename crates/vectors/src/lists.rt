@@ -4,7 +4,8 @@ use crate::columns::{write_bytes, write_notices};
 use crate::encoding::recorder_of;
 use cax64_test_support::RefusingSink;
 use cranelift_assembler_x64::{
-    CodeSink, FixedSink, Instruction, Numbers, Recorder, Refused, encode_each, encode_each_whole,
+    CodeSink, FixedSink, Instruction, Numbers, Recorder, Refused, all_encodable, encode_each,
+    encode_each_whole,
 };
 use named_instructions::fields::{Fault, Fields, parsed};
 use named_instructions::{Takes, take_named};
@@ -25,15 +26,14 @@ fn put<I: Instruction, S: CodeSink>(
     insts: &[I],
     sink: &mut S,
 ) -> Result<Result<(), Refused>, Fault> {
-    if !insts.iter().all(|inst| inst.is_encodable(sink)) {
+    if !all_encodable(insts, sink) {
         return Err(Fault::Malformed);
     }
     Ok(encode_each(insts, sink))
 }
 
 fn put_whole<I: Instruction>(insts: &[I], sink: &mut Recorder<Global>) -> Result<(), Fault> {
-    let is_encodable = insts.iter().all(|inst| inst.is_encodable(&*sink));
-    if !is_encodable || insts.len() > usize::MAX / 13 {
+    if !all_encodable(insts, sink) || insts.len() > usize::MAX / 13 {
         return Err(Fault::Malformed);
     }
     encode_each_whole(insts, sink).map_err(|_| Fault::NoMemory)

@@ -4,7 +4,8 @@ use cax64_test_support::{All, Few, Named, Virtual};
 use cranelift_assembler_x64::inst::{andb_i, andps_a, lock_addl_mr, lock_xaddl_mr};
 use cranelift_assembler_x64::{
     Amode, AmodeOffset, AmodeOffsetPlusKnownOffset, AsReg, CodeSink, Fault, Fixed, Gpr, Imm8,
-    Instruction, NonRspGpr, Scale, Size, Xmm, XmmMem, emit_modrm_sib_disp, encode_each,
+    Instruction, NonRspGpr, Scale, Size, Xmm, XmmMem, all_encodable, emit_modrm_sib_disp,
+    encode_each,
 };
 use std::alloc::{AllocFailed, Global};
 use std::test::Fail;
@@ -41,7 +42,7 @@ fn add<R: AsReg>(place: Amode<R>, register: R) -> lock_addl_mr<All<R>> {
 
 /// Encodes a list, if each of it is encodable. Answers whether it did.
 fn put<I: Instruction, S: CodeSink>(insts: &[I], sink: &mut S) -> bool {
-    insts.iter().all(|inst| inst.is_encodable(sink)) && encode_each(insts, sink).is_ok()
+    all_encodable(insts, &*sink) && encode_each(insts, sink).is_ok()
 }
 
 fn no_memory<T: Drop>(_failed: AllocFailed<T>) -> Fail {

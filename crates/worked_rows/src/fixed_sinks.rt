@@ -3,7 +3,9 @@
 use cranelift_assembler_x64::inst::{andb_i, nop_1b};
 use cranelift_assembler_x64::laws::{encode_each_to_fixed_sink, encode_to_fixed_sink};
 use cranelift_assembler_x64::vex::VexPrefix;
-use cranelift_assembler_x64::{Fixed, FixedSink, Imm8, Instruction, Numbers, Refused, SinkError};
+use cranelift_assembler_x64::{
+    Fixed, FixedSink, Imm8, Instruction, Numbers, Refused, SinkError, all_encodable,
+};
 use std::process::Abort;
 
 fn put_each<I: Instruction>(
@@ -11,7 +13,7 @@ fn put_each<I: Instruction>(
     insts: &[I],
     sink: &mut FixedSink<5>,
 ) -> Result<(), Refused> {
-    assert!(rt; insts.iter().all(|inst| inst.is_encodable(sink)));
+    assert!(rt; all_encodable(insts, &*sink));
     encode_each_to_fixed_sink(insts, sink)
 }
 
