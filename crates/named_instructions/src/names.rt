@@ -1,11 +1,11 @@
 //! Instructions from their names and fields. What one group of names doesn't hold, the next may; `PassedOver` where there
 //! is no such struct.
 
-mod arith;
-mod jump;
+mod arithmetic;
+mod jumps;
 mod locked;
-mod nop;
-mod simd;
+mod nops;
+mod vector;
 
 use crate::fields::Fault;
 use crate::names::locked::take_add;

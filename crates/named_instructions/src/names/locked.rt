@@ -2,7 +2,7 @@
 
 use crate::fields::Fault;
 use crate::names::Takes;
-use crate::names::arith::take_parts;
+use crate::names::arithmetic::take_parts;
 use crate::values::Values;
 use cranelift_assembler_x64::inst::{
     lock_adcb_mi, lock_adcb_mr, lock_adcl_mi, lock_adcl_mi_sxb, lock_adcl_mr, lock_adcq_mi_sxb,

@@ -2,7 +2,7 @@
 
 use crate::fields::Fault;
 use crate::names::Takes;
-use crate::names::nop::take_nop;
+use crate::names::nops::take_nop;
 use crate::values::Values;
 use cranelift_assembler_x64::inst::{
     callq_d, callq_m, ja_d8, ja_d32, jae_d8, jae_d32, jb_d8, jb_d32, jbe_d8, jbe_d32, je_d8,

@@ -2,7 +2,7 @@
 
 use crate::fields::Fault;
 use crate::names::Takes;
-use crate::names::simd::take_sse;
+use crate::names::vector::take_sse;
 use crate::values::Values;
 use cranelift_assembler_x64::inst::{
     andb_i, mulxl_rvm, mulxq_rvm, rolb_m1, roll_m1, rolq_m1, rolw_m1, rorb_m1, rorl_m1, rorq_m1,

@@ -2,7 +2,7 @@
 
 use crate::fields::Fault;
 use crate::names::Takes;
-use crate::names::jump::take_rm;
+use crate::names::jumps::take_rm;
 use crate::values::Values;
 use cranelift_assembler_x64::inst::{
     andps_a, cmppd_a, cmpps_a, cmpsd_a, cmpss_a, vcmppd_b, vcmpps_b, vcmpsd_b, vcmpss_b,
