@@ -1,5 +1,5 @@
-//! Operands of the instruction within, in two functions: the prover writes what it knows of a match three times over where
-//! the match has more than a hundred arms.
+//! Operands of the instruction within, in two functions: what the prover keeps of an arm that borrows what is within
+//! grows with the arms before it.
 
 ghost use Rattle.std.specs.Prelude.{◌≡◌, ◌≤◌};
 ghost use Rattle.cax64_inst.specs.Group.{group_of};
