@@ -1,0 +1,4 @@
+pub mod PrefixLength
+pub mod Numbers
+pub mod Whole
+pub mod Structs

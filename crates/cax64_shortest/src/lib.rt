@@ -1,0 +1,5 @@
+//! No string of bytes that is read as the same instruction is shorter.
+#![tactic(auto)]
+
+pub mod laws;
+pub mod worked;
