@@ -38,7 +38,7 @@ use Rattle.cax64_encoder.specs.ImmActions.{imm_actions, optional_imm_actions}
 use Rattle.cax64_encoder.specs.Line.{first_byte, is_digit, uses_8bit_reg, uses_8bit_place}
 use Rattle.cax64_encoder.specs.Notices.{trap_notice}
 use Rattle.cax64_encoder.specs.Number.{number_value}
-use Rattle.cax64_encoder.specs.Prefix.{reg_number}
+use Rattle.cax64_encoder.specs.Prefix.{reg_number, register_number}
 use Rattle.cax64_operand.specs.Immediate.{imm_value, imm_size, imm_in_range, signed_below}
 use Rattle.cax64_operand.specs.Shape.{imm_has_size, is_no_imm, imm_fits}
 use Rattle.cax64_encoder.specs.declared.number.Number.{Number}
@@ -185,7 +185,7 @@ low_view false false n e h = rw e refl
 other_view : (rex : Bool) (n : ℕ) → view_of false rex n ≡ Low n
 other_view rex n = refl
 
-pub reg_viewed : (field : RegField) (pf : PlaceField) (p : Prefix) (number : Option Number) → reg_fits field number ≡ true → r_of p ≡ reg_number (Modrm field pf) number / 8 → (uses_8bit_reg (Modrm field pf) ≡ true → is_special_if_8bit (reg_number (Modrm field pf) number) ≡ true → has_rex p ≡ true) → reg_view field p (reg_number (Modrm field pf) number % 8) ≡ option_map (λ (n : Number). Low (number_value n)) number
+pub reg_viewed : (field : RegField) (pf : PlaceField) (p : Prefix) (number : Option Number) → reg_fits field number ≡ true → r_of p ≡ register_number number / 8 → (uses_8bit_reg (Modrm field pf) ≡ true → is_special_if_8bit (register_number number) ≡ true → has_rex p ≡ true) → reg_view field p (reg_number (Modrm field pf) number % 8) ≡ option_map (λ (n : Number). Low (number_value n)) number
 reg_viewed (Digit d) pf p None h r low = refl
 reg_viewed (Digit d) pf p (Some n) h r low = cc
 reg_viewed Register8 pf p None h r low = cc

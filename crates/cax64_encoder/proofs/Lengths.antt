@@ -1,13 +1,12 @@
 use Rattle.std.proofs.Common.{◌≡◌, ℕ, arith, Bool, true, false, refl, ◌∙◌, ap, sym, Option, Some, None, List, length, ℤ}
-use Rattle.std.specs.Prelude.{◌&&◌, ◌||◌, nat_lt, nat_le, option_map}
+use Rattle.std.specs.Prelude.{◌&&◌, ◌||◌, nat_le, option_map}
 use Rattle.std.proofs.lemmas.Bool.{and_parts}
-use Rattle.std.proofs.lemmas.Bool.Decides.{nat_tests}
 use Rattle.cax64_sink.specs.Run.{all_bytes}
 use Rattle.cax64_sink.specs.Call.{Action}
 use Rattle.cax64_address.specs.Address.{displaced_place}
 use Rattle.cax64_address.specs.declared.amode.Amode.{Amode}
 use Rattle.cax64_address.specs.declared.amode.Amode.TheVariants.{ImmReg, ImmRegRegShift, RipRelative}
-use Rattle.cax64_machine_code.specs.Len.{is_w1, reg_is_high, place_is_high, reg_is_special, place_is_special, digit_is_special, has_rex_byte, prefix_len, opcode_len, tail_len, line_len, len_of}
+use Rattle.cax64_machine_code.specs.Len.{is_w1, reg_is_high, place_is_high, reg_is_special, place_is_special, has_rex_byte, prefix_len, opcode_len, tail_len, line_len, len_of}
 use Rattle.cax64_machine_code.specs.Line.{imm_bytes}
 use Rattle.cax64_machine_code.specs.Rows.{line_of}
 use Rattle.cax64_machine_code.specs.declared.line.Line.{Line}
@@ -27,10 +26,10 @@ use Rattle.cax64_encoder.specs.Code.{trap_actions, opcode_actions}
 use Rattle.cax64_encoder.specs.Encodes.{form_parts}
 use Rattle.cax64_encoder.specs.Form.{tail_fits, vvvv_fits, fits}
 use Rattle.cax64_encoder.specs.ImmActions.{optional_imm_actions}
-use Rattle.cax64_encoder.specs.Line.{is_digit, is_8bit_once, has_8bit, is_line}
+use Rattle.cax64_encoder.specs.Line.{is_8bit_once, has_8bit, is_line}
 use Rattle.cax64_encoder.specs.Number.{number_value}
 use Rattle.cax64_encoder.specs.Place.{place_read}
-use Rattle.cax64_encoder.specs.Prefix.{reg_number, amode_high, place_high, place_special, rex_stands, written_prefix_len}
+use Rattle.cax64_encoder.specs.Prefix.{register_number, amode_high, place_high, place_special, rex_stands, written_prefix_len}
 use Rattle.cax64_operand.specs.Immediate.{imm_size}
 use Rattle.cax64_operand.specs.Shape.{imm_fits}
 use Rattle.cax64_encoder.specs.declared.number.Number.{Number}
@@ -66,54 +65,43 @@ place_special_same enc disp at_end field (place.TheVariants.Memory amode) = amod
 abbrev view_of : Option Number → Option RegView
 view_of number = option_map (λ (n : Number). Low (number_value n)) number
 
-digit_low : (d : ℕ) → nat_lt d 8 ≡ true → nat_le 8 d ≡ false
-digit_low d h = grind (arith, nat_tests)
-
-or_turned : (a b : Bool) → (a || b) ≡ (b || a)
-or_turned true true = refl
-or_turned true false = refl
-or_turned false true = refl
-or_turned false false = refl
-
 -- whether a REX byte stands, W aside
 abbrev stands_but_w : {M : Type 0} → (M → ℕ) → TailField → Option Number → PlaceOperand M → Bool
-stands_but_w enc tail number operand = nat_le 8 (reg_number tail number) || (place_high enc operand || (has_8bit tail && ((nat_le 4 (reg_number tail number) && nat_le (reg_number tail number) 7) || place_special operand)))
+stands_but_w enc tail number operand = nat_le 8 (register_number number) || (place_high enc operand || (has_8bit tail && ((nat_le 4 (register_number number) && nat_le (register_number number) 7) || place_special operand)))
 
 abbrev has_but_w : TailField → Option RegView → Option Place → Bool
-has_but_w tail view place = reg_is_high view || (place_is_high place || (reg_is_special tail view || (place_is_special tail place || digit_is_special tail)))
+has_but_w tail view place = reg_is_high view || (place_is_high place || (reg_is_special tail view || place_is_special tail place))
 
-but_w_same : {M : Type 0} (enc : M → ℕ) (disp : ℤ) (at_end : ℕ) (tail : TailField) (number : Option Number) (operand : PlaceOperand M) → tail_fits tail number operand ≡ true → is_digit tail ≡ true → is_8bit_once tail ≡ true → stands_but_w enc tail number operand ≡ has_but_w tail (view_of number) (place_read enc disp at_end operand)
-but_w_same enc disp at_end NoTail None place.TheVariants.NoPlace hf hd ho = refl
-but_w_same enc disp at_end NoTail None (place.TheVariants.Register n) hf hd ho = cc
-but_w_same enc disp at_end NoTail None (place.TheVariants.Memory amode) hf hd ho = cc
-but_w_same enc disp at_end NoTail (Some n) operand hf hd ho = cc
-but_w_same enc disp at_end (Modrm (Digit d) Memory) None operand hf hd ho = rw (digit_low d hd, place_high_same enc disp at_end operand) refl
-but_w_same enc disp at_end (Modrm (Digit d) RegisterOrMemory) None operand hf hd ho = rw (digit_low d hd, place_high_same enc disp at_end operand) refl
-but_w_same enc disp at_end (Modrm (Digit d) Register8OrMemory) None operand hf hd ho =
-    rw (digit_low d hd, place_high_same enc disp at_end operand, place_special_same enc disp at_end (Digit d) operand)
-    (ap (λ (x : Bool). place_is_high (place_read enc disp at_end operand) || x) (or_turned (nat_le 4 d && nat_le d 7) (place_is_special (Modrm (Digit d) Register8OrMemory) (place_read enc disp at_end operand))))
-but_w_same enc disp at_end (Modrm (Digit d) field) (Some n) operand hf hd ho = cc
-but_w_same enc disp at_end (Modrm Register8 field) None operand hf hd ho = cc
-but_w_same enc disp at_end (Modrm Register8 Memory) (Some n) place.TheVariants.NoPlace hf hd ho = cc
-but_w_same enc disp at_end (Modrm Register8 Memory) (Some n) (place.TheVariants.Register m) hf hd ho = cc
-but_w_same enc disp at_end (Modrm Register8 Memory) (Some n) (place.TheVariants.Memory amode) hf hd ho = rw (amode_high_same enc disp at_end amode) refl
-but_w_same enc disp at_end (Modrm Register8 RegisterOrMemory) (Some n) operand hf hd ho = cc
-but_w_same enc disp at_end (Modrm Register8 Register8OrMemory) (Some n) operand hf hd ho = cc
-but_w_same enc disp at_end (Modrm Register field) None operand hf hd ho = cc
-but_w_same enc disp at_end (Modrm Register Memory) (Some n) operand hf hd ho = rw (place_high_same enc disp at_end operand) refl
-but_w_same enc disp at_end (Modrm Register RegisterOrMemory) (Some n) operand hf hd ho = rw (place_high_same enc disp at_end operand) refl
-but_w_same enc disp at_end (Modrm Register Register8OrMemory) (Some n) operand hf hd ho = cc
+but_w_same : {M : Type 0} (enc : M → ℕ) (disp : ℤ) (at_end : ℕ) (tail : TailField) (number : Option Number) (operand : PlaceOperand M) → tail_fits tail number operand ≡ true → is_8bit_once tail ≡ true → stands_but_w enc tail number operand ≡ has_but_w tail (view_of number) (place_read enc disp at_end operand)
+but_w_same enc disp at_end NoTail None place.TheVariants.NoPlace hf ho = refl
+but_w_same enc disp at_end NoTail None (place.TheVariants.Register n) hf ho = cc
+but_w_same enc disp at_end NoTail None (place.TheVariants.Memory amode) hf ho = cc
+but_w_same enc disp at_end NoTail (Some n) operand hf ho = cc
+but_w_same enc disp at_end (Modrm (Digit d) Memory) None operand hf ho = rw (place_high_same enc disp at_end operand) refl
+but_w_same enc disp at_end (Modrm (Digit d) RegisterOrMemory) None operand hf ho = rw (place_high_same enc disp at_end operand) refl
+but_w_same enc disp at_end (Modrm (Digit d) Register8OrMemory) None operand hf ho = rw (place_high_same enc disp at_end operand, place_special_same enc disp at_end (Digit d) operand) refl
+but_w_same enc disp at_end (Modrm (Digit d) field) (Some n) operand hf ho = cc
+but_w_same enc disp at_end (Modrm Register8 field) None operand hf ho = cc
+but_w_same enc disp at_end (Modrm Register8 Memory) (Some n) place.TheVariants.NoPlace hf ho = cc
+but_w_same enc disp at_end (Modrm Register8 Memory) (Some n) (place.TheVariants.Register m) hf ho = cc
+but_w_same enc disp at_end (Modrm Register8 Memory) (Some n) (place.TheVariants.Memory amode) hf ho = rw (amode_high_same enc disp at_end amode) refl
+but_w_same enc disp at_end (Modrm Register8 RegisterOrMemory) (Some n) operand hf ho = cc
+but_w_same enc disp at_end (Modrm Register8 Register8OrMemory) (Some n) operand hf ho = cc
+but_w_same enc disp at_end (Modrm Register field) None operand hf ho = cc
+but_w_same enc disp at_end (Modrm Register Memory) (Some n) operand hf ho = rw (place_high_same enc disp at_end operand) refl
+but_w_same enc disp at_end (Modrm Register RegisterOrMemory) (Some n) operand hf ho = rw (place_high_same enc disp at_end operand) refl
+but_w_same enc disp at_end (Modrm Register Register8OrMemory) (Some n) operand hf ho = cc
 
-rex_same : {M : Type 0} (enc : M → ℕ) (row : Row) (disp : ℤ) (line : Line) (o : Form M) → is_line line ≡ true → fits line o ≡ true → rex_stands enc (is_w1 line.w) (has_8bit line.tail) (reg_number line.tail o.reg) o.place ≡ has_rex_byte line (form_parts enc row disp o)
+rex_same : {M : Type 0} (enc : M → ℕ) (row : Row) (disp : ℤ) (line : Line) (o : Form M) → is_line line ≡ true → fits line o ≡ true → rex_stands enc (is_w1 line.w) (has_8bit line.tail) (register_number o.reg) o.place ≡ has_rex_byte line (form_parts enc row disp o)
 rex_same enc row disp line o hl hf =
     let facts = line_facts line hl in
-    ap (λ (x : Bool). is_w1 line.w || x) (but_w_same enc disp (imm_size o.imm) line.tail o.reg o.place (and_parts (tail_fits line.tail o.reg o.place) _ hf).0 facts.digit facts.once)
+    ap (λ (x : Bool). is_w1 line.w || x) (but_w_same enc disp (imm_size o.imm) line.tail o.reg o.place (and_parts (tail_fits line.tail o.reg o.place) _ hf).0 facts.once)
 
-prefix_same : {M : Type 0} (enc : M → ℕ) (row : Row) (disp : ℤ) (line : Line) (o : Form M) (field : PrefixField) → is_line line ≡ true → fits line o ≡ true → written_prefix_len enc field line (reg_number line.tail o.reg) o.place ≡ prefix_len field line (form_parts enc row disp o)
+prefix_same : {M : Type 0} (enc : M → ℕ) (row : Row) (disp : ℤ) (line : Line) (o : Form M) (field : PrefixField) → is_line line ≡ true → fits line o ≡ true → written_prefix_len enc field line (register_number o.reg) o.place ≡ prefix_len field line (form_parts enc row disp o)
 prefix_same enc row disp line o (LegacyField set rex) hl hf = rw (rex_same enc row disp line o hl hf) refl
 prefix_same enc row disp line o (VexField pp map l vvvv) hl hf = rw (place_high_same enc disp (imm_size o.imm) o.place) refl
 
-line_is : {M : Type 0} (enc : M → ℕ) (row : Row) (line : Line) (o : Form M) (disp : ℤ) (trap : Option TrapCode) (pre tail : List Action) → is_line line ≡ true → fits line o ≡ true → length (all_bytes pre) ≡ written_prefix_len enc line.prefix line (reg_number line.tail o.reg) o.place → length (all_bytes tail) ≡ tail_len (place_read enc disp (imm_size o.imm) o.place) → length (all_bytes (instruction_actions line trap pre tail o)) ≡ line_len line (form_parts enc row disp o)
+line_is : {M : Type 0} (enc : M → ℕ) (row : Row) (line : Line) (o : Form M) (disp : ℤ) (trap : Option TrapCode) (pre tail : List Action) → is_line line ≡ true → fits line o ≡ true → length (all_bytes pre) ≡ written_prefix_len enc line.prefix line (register_number o.reg) o.place → length (all_bytes tail) ≡ tail_len (place_read enc disp (imm_size o.imm) o.place) → length (all_bytes (instruction_actions line trap pre tail o)) ≡ line_len line (form_parts enc row disp o)
 line_is enc row line o disp trap pre tail hl hf hp ht =
     let q = and_parts (vvvv_fits line.prefix o.vvvv) (imm_fits line.imm o.imm) (and_parts (tail_fits line.tail o.reg o.place) _ hf).1 in
     let whole = five_lengths (trap_actions trap) pre (opcode_actions line.opcode) tail (optional_imm_actions o.imm) (trap_bytes trap) in
@@ -123,5 +111,5 @@ line_is enc row line o disp trap pre tail hl hf hp ht =
     omega (arith, whole, op, imm, prefix, ht)
 
 -- as many bytes as the instruction has
-pub length_is : {M : Type 0} (enc : M → ℕ) (row : Row) (line : Line) (o : Form M) (disp : ℤ) (trap : Option TrapCode) (pre tail : List Action) → line_of row ≡ line → is_line line ≡ true → fits line o ≡ true → length (all_bytes pre) ≡ written_prefix_len enc line.prefix line (reg_number line.tail o.reg) o.place → length (all_bytes tail) ≡ tail_len (place_read enc disp (imm_size o.imm) o.place) → length (all_bytes (instruction_actions line trap pre tail o)) ≡ len_of (form_parts enc row disp o)
+pub length_is : {M : Type 0} (enc : M → ℕ) (row : Row) (line : Line) (o : Form M) (disp : ℤ) (trap : Option TrapCode) (pre tail : List Action) → line_of row ≡ line → is_line line ≡ true → fits line o ≡ true → length (all_bytes pre) ≡ written_prefix_len enc line.prefix line (register_number o.reg) o.place → length (all_bytes tail) ≡ tail_len (place_read enc disp (imm_size o.imm) o.place) → length (all_bytes (instruction_actions line trap pre tail o)) ≡ len_of (form_parts enc row disp o)
 length_is enc row line o disp trap pre tail e hl hf hp ht = line_is enc row line o disp trap pre tail hl hf hp ht ∙ ap (λ (l : Line). line_len l (form_parts enc row disp o)) (sym e)

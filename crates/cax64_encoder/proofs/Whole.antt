@@ -54,7 +54,7 @@ use Rattle.cax64_encoder.specs.Line.{first_byte, has_tail, is_line, is_digit, ta
 use Rattle.cax64_encoder.specs.Notices.{trap_notice, notices_of}
 use Rattle.cax64_encoder.specs.Number.{number_value}
 use Rattle.cax64_encoder.specs.Place.{place_read, memory_in}
-use Rattle.cax64_encoder.specs.Prefix.{reg_number, PrefixFor}
+use Rattle.cax64_encoder.specs.Prefix.{reg_number, register_number, PrefixFor}
 use Rattle.cax64_encoder.specs.Real.{is_absent_or_real, place_is_real, form_is_real, place_x, place_b, trap_in}
 use Rattle.cax64_operand.specs.Immediate.{imm_value, imm_size}
 use Rattle.cax64_operand.specs.Shape.{imm_fits}
@@ -83,7 +83,7 @@ instruction_actions line trap pre tail o = trap_actions trap ++ (pre ++ (opcode_
 pub record Parted {M : Type 0} (enc : M → ℕ) (row : Row) (o : Form M) (pre : List Action) : Type 0 where
   pub facts : LineFacts (line_of row)
   pub imm : imm_fits (line_of row).imm o.imm ≡ true
-  pub prefix : PrefixFor enc (line_of row) (reg_number (line_of row).tail o.reg) o.vvvv o.place (all_bytes pre)
+  pub prefix : PrefixFor enc (line_of row) (register_number o.reg) o.vvvv o.place (all_bytes pre)
   pub quiet : (k : ℕ) → all_notices pre k ≡ []
 
 -- what is written are bytes
@@ -207,7 +207,7 @@ module _ {M : Type 0} (enc : M → ℕ) (row : Row) (o : Form M) (disp : ℤ) (f
   tail_is = rw (h.prefix.x, h.prefix.b) t.tail
 
   viewed : reg_view field h.prefix.prefix (reg_number (line_of row).tail o.reg % 8) ≡ option_map (λ (n : Number). Low (number_value n)) o.reg
-  viewed = rw ht (reg_viewed field place_field h.prefix.prefix o.reg hr (rw ht at h.prefix.r) (rw ht at h.prefix.low_reg))
+  viewed = rw ht (reg_viewed field place_field h.prefix.prefix o.reg hr h.prefix.r (rw ht at h.prefix.low_reg))
 
   digit_there : DigitIs field (reg_number (line_of row).tail o.reg % 8)
   digit_there = rw ht (digit_is field place_field o.reg (rw ht at h.facts.digit))
@@ -330,7 +330,7 @@ by_tail enc row o disp pre tail (Modrm field place_field) e h f t tb =
     by_place enc row o disp field place_field pre tail o.place refl h e p.0 p.1 t tb
 
 -- a prefix, an opcode, a tail and an immediate for a row and operands of its shape write that row with these operands
-pub encodes : {M : Type 0} (enc : M → ℕ) (row : Row) (o : Form M) (disp : ℤ) (pre tail : List Action) → is_line (line_of row) ≡ true → fits (line_of row) o ≡ true → PrefixFor enc (line_of row) (reg_number (line_of row).tail o.reg) o.vvvv o.place (all_bytes pre) → ((k : ℕ) → all_notices pre k ≡ []) → TailPartOf enc disp (imm_size o.imm) (reg_number (line_of row).tail o.reg) o.place tail → IsBytes (all_bytes tail) → EncodesParts (form_parts enc row disp o) (memory_in o.place) (instruction_actions (line_of row) (trap_in o.place) pre tail o)
+pub encodes : {M : Type 0} (enc : M → ℕ) (row : Row) (o : Form M) (disp : ℤ) (pre tail : List Action) → is_line (line_of row) ≡ true → fits (line_of row) o ≡ true → PrefixFor enc (line_of row) (register_number o.reg) o.vvvv o.place (all_bytes pre) → ((k : ℕ) → all_notices pre k ≡ []) → TailPartOf enc disp (imm_size o.imm) (reg_number (line_of row).tail o.reg) o.place tail → IsBytes (all_bytes tail) → EncodesParts (form_parts enc row disp o) (memory_in o.place) (instruction_actions (line_of row) (trap_in o.place) pre tail o)
 encodes enc row o disp pre tail hl hf prefix quiet t tb =
     let p = and_parts (tail_fits (line_of row).tail o.reg o.place) _ hf in
     let q = and_parts (vvvv_fits (line_of row).prefix o.vvvv) (imm_fits (line_of row).imm o.imm) p.1 in
@@ -349,12 +349,16 @@ vvvv_real settled enc o h =
     let p = and_parts (is_absent_or_real o.reg) _ h in
     (and_parts (is_absent_or_real o.vvvv) (place_is_real settled enc o.place) p.1).0
 
+absent_is_zero : (number : Option Number) → is_absent number ≡ true → (register_number number == 0) ≡ true
+absent_is_zero None h = refl
+absent_is_zero (Some number) h = cc
+
 -- without a tail there is no place, and nothing in reg
-pub bare_is : {M : Type 0} (line : Line) (o : Form M) → fits line o ≡ true → (has_tail line.tail || (is_no_place o.place && (reg_number line.tail o.reg == 0))) ≡ true
+pub bare_is : {M : Type 0} (line : Line) (o : Form M) → fits line o ≡ true → (has_tail line.tail || (is_no_place o.place && (register_number o.reg == 0))) ≡ true
 bare_is line o h = by_field line.tail (and_parts (tail_fits line.tail o.reg o.place) _ h).0
   where
-    by_field : (tail : TailField) → tail_fits tail o.reg o.place ≡ true → (has_tail tail || (is_no_place o.place && (reg_number tail o.reg == 0))) ≡ true
-    by_field NoTail f = rw ((and_parts (is_absent o.reg) (is_no_place o.place) f).1) refl
+    by_field : (tail : TailField) → tail_fits tail o.reg o.place ≡ true → (has_tail tail || (is_no_place o.place && (register_number o.reg == 0))) ≡ true
+    by_field NoTail f = let p = and_parts (is_absent o.reg) (is_no_place o.place) f in rw (p.1, absent_is_zero o.reg p.0) refl
     by_field (Modrm reg field) f = refl
 
 pub vvvv_fit : {M : Type 0} (line : Line) (o : Form M) → fits line o ≡ true → vvvv_fits line.prefix o.vvvv ≡ true
@@ -378,7 +382,7 @@ prefix_quiet (Legacy set rex) k = all_notices_append (set_actions set) (puts (re
 prefix_quiet (Vex vex) k = all_notices-puts (vex_bytes vex) k
 
 -- the same of a line that is the row's
-pub line_encodes : {M : Type 0} (enc : M → ℕ) (row : Row) (line : Line) (o : Form M) (disp : ℤ) (pre tail : List Action) → line_of row ≡ line → is_line line ≡ true → fits line o ≡ true → PrefixFor enc line (reg_number line.tail o.reg) o.vvvv o.place (all_bytes pre) → ((k : ℕ) → all_notices pre k ≡ []) → TailPartOf enc disp (imm_size o.imm) (reg_number line.tail o.reg) o.place tail → IsBytes (all_bytes tail) → EncodesParts (form_parts enc row disp o) (memory_in o.place) (instruction_actions line (trap_in o.place) pre tail o)
+pub line_encodes : {M : Type 0} (enc : M → ℕ) (row : Row) (line : Line) (o : Form M) (disp : ℤ) (pre tail : List Action) → line_of row ≡ line → is_line line ≡ true → fits line o ≡ true → PrefixFor enc line (register_number o.reg) o.vvvv o.place (all_bytes pre) → ((k : ℕ) → all_notices pre k ≡ []) → TailPartOf enc disp (imm_size o.imm) (reg_number line.tail o.reg) o.place tail → IsBytes (all_bytes tail) → EncodesParts (form_parts enc row disp o) (memory_in o.place) (instruction_actions line (trap_in o.place) pre tail o)
 line_encodes enc row line o disp pre tail e =
-    let P : Line → Type 0 = λ l. is_line l ≡ true → fits l o ≡ true → PrefixFor enc l (reg_number l.tail o.reg) o.vvvv o.place (all_bytes pre) → ((k : ℕ) → all_notices pre k ≡ []) → TailPartOf enc disp (imm_size o.imm) (reg_number l.tail o.reg) o.place tail → IsBytes (all_bytes tail) → EncodesParts (form_parts enc row disp o) (memory_in o.place) (instruction_actions l (trap_in o.place) pre tail o) in
+    let P : Line → Type 0 = λ l. is_line l ≡ true → fits l o ≡ true → PrefixFor enc l (register_number o.reg) o.vvvv o.place (all_bytes pre) → ((k : ℕ) → all_notices pre k ≡ []) → TailPartOf enc disp (imm_size o.imm) (reg_number l.tail o.reg) o.place tail → IsBytes (all_bytes tail) → EncodesParts (form_parts enc row disp o) (memory_in o.place) (instruction_actions l (trap_in o.place) pre tail o) in
     subst P e (encodes enc row o disp pre tail)

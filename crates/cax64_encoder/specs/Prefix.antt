@@ -1,4 +1,4 @@
-use Rattle.std.specs.Prelude.{◌≡◌, ℕ, ◌+◌, ◌/◌, ◌≤◌, Bool, true, false, ◌&&◌, ◌||◌, ◌==◌, not, nat_le, if◌then◌else◌, Option, Some, None, option_map, List, ◌∷◌, ◌++◌, length}
+use Rattle.std.specs.Prelude.{◌≡◌, ℕ, ◌+◌, ◌/◌, ◌≤◌, Bool, true, false, ◌&&◌, ◌||◌, ◌==◌, not, nat_le, if◌then◌else◌, Option, Some, None, option_map, unwrap_or, List, ◌∷◌, ◌++◌, length}
 use Rattle.cax64_address.specs.declared.amode.Amode.{Amode}
 use Rattle.cax64_address.specs.declared.amode.Amode.TheVariants.{ImmReg, ImmRegRegShift, RipRelative}
 use Rattle.cax64_machine_code.specs.Fields.{IsBytes}
@@ -29,6 +29,10 @@ reg_number (Modrm Register field) None = 0
 reg_number (Modrm Register field) (Some number) = number_value number
 reg_number NoTail number = 0
 
+-- the number of a register in reg or in vvvv, 0 where there is none
+abbrev pub register_number : Option Number → ℕ
+register_number number = unwrap_or (option_map number_value number) 0
+
 abbrev pub amode_high : {M : Type 0} → (M → ℕ) → Amode M → Bool
 amode_high enc (ImmReg base simm32 trap) = nat_le 8 (enc base)
 amode_high enc (ImmRegRegShift base index scale simm32 trap) = nat_le 8 (enc index) || nat_le 8 (enc base)
@@ -46,7 +50,7 @@ place_special place.TheVariants.NoPlace = false
 place_special (place.TheVariants.Register number) = is_special_if_8bit (number_value number)
 place_special (place.TheVariants.Memory amode) = false
 
--- whether a REX byte stands. A digit counts as a register's number.
+-- whether a REX byte stands, by the number of the register in reg, 0 where a digit or nothing stands there
 abbrev pub rex_stands : {M : Type 0} → (M → ℕ) → Bool → Bool → ℕ → PlaceOperand M → Bool
 rex_stands enc w uses_8bit reg operand = w || (nat_le 8 reg || (place_high enc operand || (uses_8bit && (is_special_if_8bit reg || place_special operand))))
 

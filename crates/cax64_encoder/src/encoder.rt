@@ -1,6 +1,6 @@
 //! From a line of the table and operands to the code of an instruction.
 
-ghost use Rattle.std.specs.Prelude.{◌≡◌, ◌==◌, ◌<◌, ◌/◌, ◌&&◌, ◌||◌, ◌↔◌, false, IsTrue, IsSome, IfSome, Option, option_map, unwrap_or, pos, length};
+ghost use Rattle.std.specs.Prelude.{◌≡◌, ◌==◌, ◌<◌, ◌/◌, ◌&&◌, ◌||◌, ◌↔◌, false, IsTrue, IsSome, IfSome, Option, unwrap_or, pos, length};
 ghost use Rattle.std.specs.Int.{from_bool};
 ghost use Rattle.cax64_encoder.specs.Code.{prefix_actions, tail_actions, line_actions, code_actions};
 ghost use Rattle.cax64_encoder.specs.Encodes.{TailPartOf, EncodesParts, EncodesAs, form_parts};
@@ -10,7 +10,7 @@ ghost use Rattle.cax64_encoder.specs.Line.{has_8bit, has_tail, is_w, is_w0, is_l
 ghost use Rattle.cax64_encoder.specs.Meant.{meant_of};
 ghost use Rattle.cax64_encoder.specs.Number.{number_value};
 ghost use Rattle.cax64_encoder.specs.Place.{memory_in, place_read};
-ghost use Rattle.cax64_encoder.specs.Prefix.{reg_number, rex_stands, PrefixFor};
+ghost use Rattle.cax64_encoder.specs.Prefix.{reg_number, register_number, rex_stands, PrefixFor};
 ghost use Rattle.cax64_encoder.specs.Real.{form_is_real, place_is_real, is_absent_or_real, place_x, place_b, trap_in};
 ghost use Rattle.cax64_machine_code.specs.Fields.{IsBytes};
 ghost use Rattle.cax64_machine_code.specs.Len.{is_w1, tail_len, len_of};
@@ -105,13 +105,13 @@ fn operand_registers<M: AsReg>(place: &PlaceOperand<M>) -> (Option<u8>, Option<u
     }
 }
 
-/// The number in vvvv, 0 where there is none.
-fn vvvv_number(vvvv: Option<Number>) -> u8
-    requires { IsTrue (is_absent_or_real vvvv) }
-    ensures number { result ≡ unwrap_or (option_map number_value vvvv) 0 }
+/// The number of a register in reg or in vvvv, 0 where there is none.
+fn register_number(register: Option<Number>) -> u8
+    requires { IsTrue (is_absent_or_real register) }
+    ensures number { result ≡ register_number register }
     ensures below { result < 16 }
 {
-    match vvvv {
+    match register {
         Some(number) => number.value(),
         None => 0,
     }
@@ -130,7 +130,7 @@ fn w_bit(w: Option<u8>) -> bool
     }
 }
 
-/// What stands before the opcode of a row, with this number in reg.
+/// What stands before the opcode of a row, with this register in reg, 0 where a digit or nothing stands there.
 fn prefix_of<M: AsReg>(
     line: Line,
     reg: u8,
@@ -152,7 +152,7 @@ fn prefix_of<M: AsReg>(
         }
         PrefixField::VexField(pp, map, l, _) => PrefixCode::Vex(VexPrefix::three_op(
             reg,
-            vvvv_number(vvvv),
+            register_number(vvvv),
             operand_registers(place),
             l,
             pp,
@@ -209,7 +209,7 @@ fn code_of<M: AsReg>(line: Line, form: &Form<M>, displacement: i32) -> LineCode
     let reg = reg_number(line.tail, form.reg);
     LineCode {
         trap: trap_of(&form.place),
-        prefix: prefix_of(line, reg, form.vvvv, &form.place),
+        prefix: prefix_of(line, register_number(form.reg), form.vvvv, &form.place),
         opcode: line.opcode,
         tail: tail_part(reg, &form.place, displacement, imm_size(form.imm)),
         imm: form.imm,

@@ -77,28 +77,18 @@ place_is_special (Modrm reg Register8OrMemory) (Some (Reg view)) = is_special vi
 place_is_special (Modrm reg Register8OrMemory) (Some (Mem base index disp)) = false
 place_is_special (Modrm reg Register8OrMemory) (Some (Rip disp)) = false
 
--- A digit of 4 to 7 beside an 8-bit register or memory counts as such a number, although it needs no REX byte.
-abbrev pub digit_is_special : TailField → Bool
-digit_is_special NoTail = false
-digit_is_special (Modrm (Digit d) Memory) = false
-digit_is_special (Modrm (Digit d) RegisterOrMemory) = false
-digit_is_special (Modrm (Digit d) Register8OrMemory) = is_4_to_7 d
-digit_is_special (Modrm Register8 field) = false
-digit_is_special (Modrm Register field) = false
-
 abbrev pub is_w1 : Option ℕ → Bool
 is_w1 None = false
 is_w1 (Some w) = w == 1
 
--- whether a REX byte stands. (Intel SDM, volume 2, 2.2.1.)
+-- whether a REX byte stands. A digit is no register and asks for none. (Intel SDM, volume 2, 2.2.1.)
 abbrev pub has_rex_byte : Line → Parts → Bool
 has_rex_byte line parts =
     is_w1 line.w
     || (reg_is_high parts.reg
     || (place_is_high parts.place
     || (reg_is_special line.tail parts.reg
-    || (place_is_special line.tail parts.place
-    || digit_is_special line.tail))))
+    || place_is_special line.tail parts.place)))
 
 -- two bytes of VEX hold map 1 alone, and neither bit 3 of the place nor W. (Intel SDM, volume 2, 2.3.5.)
 abbrev pub fits_two_byte_vex : ℕ → Option ℕ → Option Place → Bool

@@ -52,15 +52,16 @@ pub fn addresses()
     ensures register { address_of (Place.Reg (RegView.Low 3)) [] 0 ≡ None }
 {}
 
-/// Numbers of bytes: an immediate alone, `%sil`, a base that needs a SIB byte, the longest, a shift of `%al` with a REX
-/// byte for its digit, VEX with two bytes and with three; the least tails of `%rbp` and of `%r12`.
+/// Numbers of bytes: an immediate alone, `%sil`, a base that needs a SIB byte, the longest, shifts of `%al`, whose digit
+/// asks for no REX byte, and of `%sil`, VEX with two bytes and with three; the least tails of `%rbp` and of `%r12`.
 #[tactic(auto, unfolding(crate::specs::Rows::line_of))]
 pub fn lengths()
     ensures andb { len_of (record { row = Row.andb_i; reg = None; vvvv = None; place = None; imm = Some (pos 170) }) ≡ 2 }
     ensures lock_addb { len_of (record { row = Row.lock_addb_mr; reg = Some (RegView.Low 6); vvvv = None; place = Some (Place.Mem (Some 0) None (pos 0)); imm = None }) ≡ 4 }
     ensures lock_addl { len_of (record { row = Row.lock_addl_mr; reg = Some (RegView.Low 9); vvvv = None; place = Some (Place.Mem (Some 12) None (negsuc 127)); imm = None }) ≡ 6 }
     ensures longest { len_of (record { row = Row.lock_addq_mi_sxl; reg = None; vvvv = None; place = Some (Place.Mem (Some 13) (Some (9, 8)) (pos 0x12345678)); imm = Some (negsuc 0) }) ≡ 13 }
-    ensures digit { len_of (record { row = Row.shlb_m1; reg = None; vvvv = None; place = Some (Place.Reg (RegView.Low 0)); imm = None }) ≡ 3 }
+    ensures digit { len_of (record { row = Row.shlb_m1; reg = None; vvvv = None; place = Some (Place.Reg (RegView.Low 0)); imm = None }) ≡ 2 }
+    ensures digit_and_sil { len_of (record { row = Row.sarb_m1; reg = None; vvvv = None; place = Some (Place.Reg (RegView.Low 6)); imm = None }) ≡ 3 }
     ensures two_bytes { len_of (record { row = Row.vcvtpd2ps_a; reg = Some (RegView.Low 0); vvvv = None; place = Some (Place.Reg (RegView.Low 1)); imm = None }) ≡ 4 }
     ensures three_bytes { len_of (record { row = Row.mulxq_rvm; reg = Some (RegView.Low 1); vvvv = Some 2; place = Some (Place.Reg (RegView.Low 8)); imm = None }) ≡ 5 }
     ensures relative { len_of (record { row = Row.cmpps_a; reg = Some (RegView.Low 0); vvvv = None; place = Some (Place.Rip (negsuc 0)); imm = Some (pos 0) }) ≡ 8 }

@@ -21,7 +21,6 @@ use Rattle.cax64_encoder.specs.Instruction.{AddsInstruction}
 use Rattle.cax64_encoder.specs.Meant.{Meant, operands_meant, nop_or, meant_of, len}
 use Rattle.cax64_encoder.specs.Nop.{nop_bytes, nop_parts}
 use Rattle.cax64_encoder.specs.Role.{roles_of}
-use Rattle.cax64_shortest.specs.Needless.{needless_byte}
 use Rattle.cax64_shortest.proofs.Whole.{string_least}
 
 -- an instruction by its row and its operands
@@ -43,15 +42,15 @@ len_is : {M : Type 0} (row : Row) (nop : Option Nop) (m : Meant M) (S : Type 0) 
 len_is row None m S e shape h = rw e refl
 len_is row (Some nop) m S e shape h = nop_len nop h ∙ ap (λ (r : Row). len_of (nop_parts r nop)) (sym shape)
 
--- no string of bytes that is read as the instruction is shorter, save for a needless byte
-pub shortest : {R A B C D E F : Type 0} (f : Family A B C D E F) (row : Row) (operands : Operands R A B C D E F) (offsets : ℕ → Option ℤ) (bytes : List ℕ) (reading : Reading) → HasShape row operands → IfSome (meant_of f row operands offsets).exact (λ very. length very ≤ 3) → IsBytes bytes → read bytes ≡ Some reading → Same reading (meant_of f row operands offsets).parts → len (meant_of f row operands offsets) ≤ length bytes + needless_byte (meant_of f row operands offsets).parts
+-- no string of bytes that is read as the instruction is shorter
+pub shortest : {R A B C D E F : Type 0} (f : Family A B C D E F) (row : Row) (operands : Operands R A B C D E F) (offsets : ℕ → Option ℤ) (bytes : List ℕ) (reading : Reading) → HasShape row operands → IfSome (meant_of f row operands offsets).exact (λ very. length very ≤ 3) → IsBytes bytes → read bytes ≡ Some reading → Same reading (meant_of f row operands offsets).parts → len (meant_of f row operands offsets) ≤ length bytes
 shortest f row operands offsets bytes reading shape short hb h same =
     let is = len_is row (nop_of operands) (operands_meant f.read_gpr row (roles_of f (list_of operands)) offsets) _ refl shape short in
     let least = string_least (meant_of f row operands offsets).parts bytes reading hb h same in
     rw is least
 
 -- what was added has as many bytes as the instruction has
-pub added_shortest : {M : Type 0} (m : Meant M) (old new : State) (result : Result (Unit {0}) SinkError) → OnOk result (AddsInstruction m old new) → ((bytes : List ℕ) (reading : Reading) → IsBytes bytes → read bytes ≡ Some reading → Same reading m.parts → len m ≤ length bytes + needless_byte m.parts) → OnOk result ((bytes : List ℕ) (reading : Reading) → IsBytes bytes → read bytes ≡ Some reading → Same reading m.parts → length new.bytes ≤ length old.bytes + (length bytes + needless_byte m.parts))
+pub added_shortest : {M : Type 0} (m : Meant M) (old new : State) (result : Result (Unit {0}) SinkError) → OnOk result (AddsInstruction m old new) → ((bytes : List ℕ) (reading : Reading) → IsBytes bytes → read bytes ≡ Some reading → Same reading m.parts → len m ≤ length bytes) → OnOk result ((bytes : List ℕ) (reading : Reading) → IsBytes bytes → read bytes ≡ Some reading → Same reading m.parts → length new.bytes ≤ length old.bytes + length bytes)
 added_shortest m old new (Err e) adds least = tt
 added_shortest m old new (Ok tt) adds least = λ bytes reading hb h same.
     let most = least bytes reading hb h same in

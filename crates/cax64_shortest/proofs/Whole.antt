@@ -1,10 +1,10 @@
 use Rattle.std.proofs.Common.{◌≡◌, ℕ, zero, suc, ◌+◌, ◌-◌, ◌*◌, ◌≤◌, arith, List, [], ◌∷◌, Bool, true, false, Some, None, Option, refl, ap, ◌∙◌, ℤ, pos, length}
-use Rattle.std.specs.Prelude.{◌==◌, ◌&&◌, ◌||◌, not, if◌then◌else◌, option_map, option_and_then}
+use Rattle.std.specs.Prelude.{◌==◌, ◌&&◌, ◌||◌, if◌then◌else◌, option_map, option_and_then}
 use Rattle.std.proofs.lemmas.Bool.{and_parts}
 use Rattle.std.proofs.lemmas.Bool.Decides.{nat_tests}
 use Rattle.std.proofs.lemmas.Option.{same_Some}
 use Rattle.cax64_machine_code.specs.Fields.{IsBytes, number_at, signed_of}
-use Rattle.cax64_machine_code.specs.Len.{one_if, is_w1, reg_is_high, place_is_high, reg_is_special, place_is_special, digit_is_special, has_rex_byte, fits_two_byte_vex, legacy_len, prefix_len, opcode_len, least_tail, tail_len, line_len, len_of}
+use Rattle.cax64_machine_code.specs.Len.{one_if, is_w1, reg_is_high, place_is_high, reg_is_special, place_is_special, has_rex_byte, fits_two_byte_vex, legacy_len, prefix_len, opcode_len, least_tail, tail_len, line_len, len_of}
 use Rattle.cax64_machine_code.specs.Line.{w_matches, vvvv_matches, same_legacy, field_matches, prefix_matches, after, opcode_at, opcode_bytes, imm_bytes}
 use Rattle.cax64_machine_code.specs.Prefix.{Vex, Prefix, legacy_prefix, vex_prefix, has_rex, w_of, r_of, x_of, b_of}
 use Rattle.cax64_machine_code.specs.Reading.{Parts, Found, read, find, vvvv_at, reg_view, place_at, imm_at, operands_of, operands_at}
@@ -32,7 +32,6 @@ use Rattle.cax64_machine_code.proofs.Forms.{later_bytes, true_is}
 use Rattle.cax64_machine_code.proofs.NoShorter.{no_shorter}
 use Rattle.cax64_machine_code.proofs.Uniqueness.{behind, legacy_same, some_if}
 use Rattle.cax64_machine_code.proofs.Whole.{read_found, row_matches, steps}
-use Rattle.cax64_shortest.specs.Needless.{needs_rex_byte, has_needless_byte, needless_byte}
 use Rattle.cax64_shortest.proofs.Numbers.{tail_low, tail_reg, reg_low, reg_plain, place_low, place_plain}
 use Rattle.cax64_shortest.proofs.PrefixLength.{Before, is_short_vex, prefix_least, prefix_length}
 
@@ -53,14 +52,13 @@ one_most : (t : Bool) → one_if t ≤ 1
 one_most true = omega arith
 one_most false = omega arith
 
-digit_alone : (w r p s q d : Bool) → w ≡ false → r ≡ false → p ≡ false → s ≡ false → q ≡ false → one_if (w || (r || (p || (s || (q || d))))) ≤ one_if (d && not (w || (r || (p || (s || q)))))
-digit_alone w r p s q true hw hr hp hs hq = rw (hw, hr, hp, hs, hq) (omega arith)
-digit_alone w r p s q false hw hr hp hs hq = rw (hw, hr, hp, hs, hq) (omega arith)
+none_needed : (w r p s q : Bool) → w ≡ false → r ≡ false → p ≡ false → s ≡ false → q ≡ false → one_if (w || (r || (p || (s || q)))) ≡ 0
+none_needed w r p s q hw hr hp hs hq = rw (hw, hr, hp, hs, hq) refl
 
-without_rex : (line : Line) (set found : LegacySet) (rex : Bool) (parts : Parts) → prefix_matches line (legacy_prefix found None) ≡ true → line.prefix ≡ LegacyField set rex → Fits line (legacy_prefix found None) parts → one_if (has_rex_byte line parts) ≤ one_if (digit_is_special line.tail && not (needs_rex_byte line parts))
-without_rex line set found rex parts h is f =
+without_rex : (line : Line) (found : LegacySet) (parts : Parts) → prefix_matches line (legacy_prefix found None) ≡ true → Fits line (legacy_prefix found None) parts → one_if (has_rex_byte line parts) ≡ 0
+without_rex line found parts h f =
     let w = not_w1 line.w (and_parts (field_matches line.prefix (legacy_prefix found None)) (w_matches line.w 0) h).1 in
-    digit_alone (is_w1 line.w) (reg_is_high parts.reg) (place_is_high parts.place) (reg_is_special line.tail parts.reg) (place_is_special line.tail parts.place) (digit_is_special line.tail)
+    none_needed (is_w1 line.w) (reg_is_high parts.reg) (place_is_high parts.place) (reg_is_special line.tail parts.reg) (place_is_special line.tail parts.place)
     w (f.reg_low refl) (f.place_low refl refl) (f.reg_plain refl) (f.place_plain refl)
 
 same_set : (set found : LegacySet) (t : Bool) → same_legacy set found && t ≡ true → legacy_len set ≡ legacy_len found
@@ -90,11 +88,11 @@ vex_counted line vex map parts true e hm hw f =
 vex_facts : (a b c d : Bool) → a && (b && (c && d)) ≡ true → b ≡ true
 vex_facts a b c d h = (and_parts b (c && d) (and_parts a (b && (c && d)) h).1).0
 
--- no prefix that the line's operands are read under is shorter than is counted, save for a needless byte
-prefix_counted : (line : Line) (field : PrefixField) (p : Prefix) (parts : Parts) → line.prefix ≡ field → prefix_matches line p ≡ true → Fits line p parts → prefix_len field line parts ≤ prefix_least p + one_if (has_needless_byte field line parts)
+-- no prefix that the line's operands are read under is shorter than is counted
+prefix_counted : (line : Line) (field : PrefixField) (p : Prefix) (parts : Parts) → line.prefix ≡ field → prefix_matches line p ≡ true → Fits line p parts → prefix_len field line parts ≤ prefix_least p
 prefix_counted line (LegacyField set rex) (legacy_prefix found None) parts is h f =
     let set_is : legacy_len set ≡ legacy_len found = same_set set found _ (and_parts _ (w_matches line.w 0) (rw is at h)).0 in
-    let byte = without_rex line set found rex parts h is f in
+    let byte = without_rex line found parts h f in
     omega (arith, set_is, byte)
 prefix_counted line (LegacyField set rex) (legacy_prefix found (Some bits)) parts is h f =
     let set_is : legacy_len set ≡ legacy_len found = same_set set found _ (and_parts _ (w_matches line.w bits.w) (rw is at h)).0 in
@@ -208,8 +206,8 @@ at_row : (row : Row) (p : Prefix) (bytes : List ℕ) (found : Found) → IsBytes
 unfolding operands_at
 at_row row p bytes found hb h = operands_found (line_of row).tail row (line_of row) p bytes found refl hb h
 
--- an instruction that is found, and what is left, are at least so many bytes, save for a needless byte
-whole_by : (row : Row) (p : Prefix) (bytes left rest : List ℕ) (found : Found) → found.parts.row ≡ row → prefix_matches (line_of row) p ≡ true → Before (prefix_least p) bytes left → Before (length (opcode_bytes (line_of row).opcode)) left rest → Operands row (line_of row) p rest found → len_of found.parts + length found.rest ≤ length bytes + needless_byte found.parts
+-- an instruction that is found, and what is left, are at least so many bytes
+whole_by : (row : Row) (p : Prefix) (bytes left rest : List ℕ) (found : Found) → found.parts.row ≡ row → prefix_matches (line_of row) p ≡ true → Before (prefix_least p) bytes left → Before (length (opcode_bytes (line_of row).opcode)) left rest → Operands row (line_of row) p rest found → len_of found.parts + length found.rest ≤ length bytes
 whole_by row p bytes left rest found is matches pre opcode operands =
     let prefix = prefix_counted (line_of row) (line_of row).prefix p found.parts refl matches operands.fits in
     let before = pre.0 in
@@ -217,10 +215,9 @@ whole_by row p bytes left rest found is matches pre opcode operands =
     let code = opcode.0 in
     let op : length (opcode_bytes (line_of row).opcode) ≡ opcode_len (line_of row).opcode = opcode_length (line_of row).opcode in
     let len : len_of found.parts ≡ line_len (line_of row) found.parts = ap (λ (r : Row). line_len (line_of r) found.parts) is in
-    let needless : needless_byte found.parts ≡ one_if (has_needless_byte (line_of row).prefix (line_of row) found.parts) = ap (λ (r : Row). one_if (has_needless_byte (line_of r).prefix (line_of r) found.parts)) is in
-    rw (len, needless) (omega (arith, prefix, before, size, code, op))
+    rw len (omega (arith, prefix, before, size, code, op))
 
-whole_found : (bytes : List ℕ) (found : Found) → IsBytes bytes → find bytes ≡ Some found → len_of found.parts + length found.rest ≤ length bytes + needless_byte found.parts
+whole_found : (bytes : List ℕ) (found : Found) → IsBytes bytes → find bytes ≡ Some found → len_of found.parts + length found.rest ≤ length bytes
 whole_found bytes found hb h =
     let s = steps bytes found h in
     let pre = prefix_length bytes s.prefix s.behind hb s.prefix_is in
@@ -230,15 +227,15 @@ whole_found bytes found hb h =
     let operands = at_row s.row s.prefix s.rest found code.1 s.operands_are in
     whole_by s.row s.prefix bytes s.behind s.rest found operands.row_is m.0 pre code operands
 
--- what is read as these parts has no fewer bytes than are counted, save for a needless one
-pub reading_least : (parts : Parts) (bytes : List ℕ) (reading : Reading) → IsBytes bytes → read bytes ≡ Some reading → Same reading parts → len_of parts ≤ reading.length + needless_byte parts
+-- what is read as these parts has no fewer bytes than are counted
+pub reading_least : (parts : Parts) (bytes : List ℕ) (reading : Reading) → IsBytes bytes → read bytes ≡ Some reading → Same reading parts → len_of parts ≤ reading.length
 reading_least parts bytes reading hb h same =
     let a = read_found bytes reading h in
     let found = a.0 in
     let least = whole_found bytes found hb a.1 in
     let is : length bytes - length found.rest ≡ reading.length = ap (λ (z : Reading). z.length) a.2 in
     let parts_are : found.parts ≡ parts = ap parts_of a.2 ∙ same in
-    let counted : len_of parts + length found.rest ≤ length bytes + needless_byte parts = rw parts_are at least in
+    let counted : len_of parts + length found.rest ≤ length bytes = rw parts_are at least in
     omega (arith, counted, is)
 
 reading_most : (bytes : List ℕ) (reading : Reading) → read bytes ≡ Some reading → reading.length ≤ length bytes
@@ -249,7 +246,7 @@ reading_most bytes reading h =
     omega (arith, is)
 
 -- nor has the string
-pub string_least : (parts : Parts) (bytes : List ℕ) (reading : Reading) → IsBytes bytes → read bytes ≡ Some reading → Same reading parts → len_of parts ≤ length bytes + needless_byte parts
+pub string_least : (parts : Parts) (bytes : List ℕ) (reading : Reading) → IsBytes bytes → read bytes ≡ Some reading → Same reading parts → len_of parts ≤ length bytes
 string_least parts bytes reading hb h same =
     let least = reading_least parts bytes reading hb h same in
     let most = reading_most bytes reading h in

@@ -1,39 +1,36 @@
 //! That no string of bytes which is read as an instruction is shorter.
 
-ghost use Rattle.std.specs.Prelude.{◌≡◌, ◌≤◌, ◌+◌, ℕ, ℤ, Option, Some, List, length, IfSome};
+ghost use Rattle.std.specs.Prelude.{◌≡◌, ◌≤◌, ℕ, ℤ, Option, Some, List, length, IfSome};
 ghost use Rattle.cax64_encoder.specs.Meant.{len};
 ghost use Rattle.cax64_machine_code.specs.Fields.{IsBytes};
 ghost use Rattle.cax64_machine_code.specs.Len.{len_of};
 ghost use Rattle.cax64_machine_code.specs.Reading.{Parts, read};
 ghost use Rattle.cax64_machine_code.specs.Sequence.{Same};
 ghost use Rattle.cax64_machine_code.specs.declared.reading.Reading.{Reading};
-ghost use Rattle.cax64_shortest.specs.Needless.{needless_byte};
 
 use cax64_encoder::Instruction;
 use cax64_operand::RowAndOperands;
 
-/// `len_of` is the least number of bytes of an instruction, save that one fewer may do where it counts a REX byte for
-/// a digit alone: no string of bytes that is read as these parts is shorter, and what is read of it has no fewer. It
-/// does nothing: its clauses are the law.
+/// `len_of` is the least number of bytes of an instruction: no string of bytes that is read as these parts is shorter,
+/// and what is read of it has no fewer. It does nothing: its clauses are the law.
 #[tactic(auto, using(crate::proofs::Whole::string_least, crate::proofs::Whole::reading_least))]
 pub fn len_is_least()
     ensures no_shorter { (parts : Parts) (bytes : List ℕ) (reading : Reading)
         → IsBytes bytes → read bytes ≡ Some reading → Same reading parts
-        → len_of parts ≤ length bytes + needless_byte parts }
+        → len_of parts ≤ length bytes }
     ensures no_shorter_reading { (parts : Parts) (bytes : List ℕ) (reading : Reading)
         → IsBytes bytes → read bytes ≡ Some reading → Same reading parts
-        → len_of parts ≤ reading.length + needless_byte parts }
+        → len_of parts ≤ reading.length }
 {}
 
-/// No string of bytes that is read as an instruction is shorter than what [`Instruction::encode`] adds for it, save by
-/// a REX byte for a digit alone, whatever its registers are and whatever offsets a sink knows. The no-operations of
-/// four to nine bytes, whose length is what they are asked for, are left out. It asks for the operands, since their
-/// shape comes with them, and does nothing else.
+/// No string of bytes that is read as an instruction is shorter than what [`Instruction::encode`] adds for it, whatever
+/// its registers are and whatever offsets a sink knows. The no-operations of four to nine bytes, whose length is what
+/// they are asked for, are left out. It asks for the operands, since their shape comes with them, and does nothing else.
 pub fn whole_instruction_is_shortest<I: RowAndOperands>(inst: &I)
     ensures { (offsets : ℕ → Option ℤ) (bytes : List ℕ) (reading : Reading)
         → IfSome (⟦<I as Instruction>⟧.meant inst.now offsets).exact (λ very. length very ≤ 3)
         → IsBytes bytes → read bytes ≡ Some reading → Same reading (⟦<I as Instruction>⟧.meant inst.now offsets).parts
-        → len (⟦<I as Instruction>⟧.meant inst.now offsets) ≤ length bytes + needless_byte (⟦<I as Instruction>⟧.meant inst.now offsets).parts }
+        → len (⟦<I as Instruction>⟧.meant inst.now offsets) ≤ length bytes }
 {
     let _operands = inst.operands();
 }

@@ -5,7 +5,6 @@ ghost use Rattle.cax64_encoder.specs.Instruction.{can_encode_in};
 ghost use Rattle.cax64_machine_code.specs.Fields.{IsBytes};
 ghost use Rattle.cax64_machine_code.specs.Reading.{read};
 ghost use Rattle.cax64_machine_code.specs.Sequence.{Same};
-ghost use Rattle.cax64_shortest.specs.Needless.{needless_byte};
 
 use crate::laws::{len_is_least, whole_instruction_is_shortest};
 use cax64_encoder::Instruction;
@@ -31,7 +30,7 @@ pub fn least_lengths()
     len_is_least();
 }
 
-/// A shift of `%al` is read with a byte 40 before it, and without.
+/// A shift of `%al` is read with a byte 40 before it, which it doesn't need, and without.
 #[tactic(auto, unfolding(cax64_machine_code::specs::Reading::read, cax64_machine_code::specs::Reading::find, cax64_machine_code::specs::Reading::row_at, cax64_machine_code::specs::Reading::operands_at, cax64_machine_code::specs::Rows::line_of, cax64_machine_code::specs::Rows::all_rows, cax64_machine_code::specs::Line::after, cax64_machine_code::specs::Prefix::prefix_at, cax64_machine_code::specs::Prefix::legacy_at, cax64_machine_code::specs::Prefix::rex_at, cax64_machine_code::specs::Prefix::vex_at, cax64_machine_code::specs::Tail::read_tail))]
 pub fn lengths_of_a_shift()
     ensures three { read (0x40 ∷ 0xD0 ∷ 0xE0 ∷ []) ≡ Some (record { row = Row.shlb_m1; length = 3; tail = 1; reg = None; vvvv = None; place = Some (Place.Reg (RegView.Low 0)); imm = None }) }
@@ -39,7 +38,7 @@ pub fn lengths_of_a_shift()
 {}
 
 /// Encodes an instruction that isn't a no-operation of four bytes or more. What it adds is no longer than any string of
-/// bytes that is read as the instruction, save for a needless byte.
+/// bytes that is read as the instruction.
 pub fn encode_shortest<I: RowAndOperands, S: CodeSink>(
     inst: &I,
     sink: &mut S,
@@ -48,7 +47,7 @@ pub fn encode_shortest<I: RowAndOperands, S: CodeSink>(
     requires short { IfSome (⟦<I as Instruction>⟧.meant inst.now (S.state sink.old).offsets).exact (λ very. length very ≤ 3) }
     ensures { OnOk result ((bytes : List ℕ) (reading : Reading)
         → IsBytes bytes → read bytes ≡ Some reading → Same reading (⟦<I as Instruction>⟧.meant inst.now (S.state sink.old).offsets).parts
-        → length (S.state sink.new).bytes ≤ length (S.state sink.old).bytes + (length bytes + needless_byte (⟦<I as Instruction>⟧.meant inst.now (S.state sink.old).offsets).parts)) }
+        → length (S.state sink.new).bytes ≤ length (S.state sink.old).bytes + length bytes) }
 {
     whole_instruction_is_shortest(inst);
     inst.encode(sink)

@@ -8,5 +8,5 @@ returns-in-LegacyField g c =
 
 pub returns-in-VexField : goal.returns-in-VexField
 returns-in-VexField g c =
-    vex_for g.M.AsReg.enc c.args.line c.args.reg c.args.vvvv c.args.place.now c.in-VexField.pp c.in-VexField.map c.in-VexField.l c.in-VexField.field-3 c.w_bit-w.result c.vvvv_number.result c.operand_registers.result c.three_op.result c.three_op.ensures.bytes
-    c.in-VexField.is c.requires.line c.requires.vvvv_fits c.w_bit-w.ensures.matches c.vvvv_number.ensures.number c.operand_registers.ensures.b c.operand_registers.ensures.x c.w_bit-w.ensures.value c.three_op.ensures.reads c.three_op.ensures.two_bytes
+    vex_for g.M.AsReg.enc c.args.line c.args.reg c.args.vvvv c.args.place.now c.in-VexField.pp c.in-VexField.map c.in-VexField.l c.in-VexField.field-3 c.w_bit-w.result c.register_number.result c.operand_registers.result c.three_op.result c.three_op.ensures.bytes
+    c.in-VexField.is c.requires.line c.requires.vvvv_fits c.w_bit-w.ensures.matches c.register_number.ensures.number c.operand_registers.ensures.b c.operand_registers.ensures.x c.w_bit-w.ensures.value c.three_op.ensures.reads c.three_op.ensures.two_bytes
