@@ -1,10 +1,11 @@
 //! Examples of the laws.
 
-ghost use Rattle.std.specs.Prelude.{◌≡◌, ◌≤◌, ◌+◌, ℕ, List, [], ◌∷◌, length, Some, None, pos, IsTrue, OnOk, IfSome};
-ghost use Rattle.cax64_encoder.specs.Instruction.{can_encode_in};
+ghost use Rattle.std.specs.Prelude.{◌≡◌, ◌≤◌, ◌+◌, ℕ, List, [], ◌∷◌, length, Some, None, pos, IsTrue, OnOk, OnErr, IsOk, IfSome};
+ghost use Rattle.cax64_encoder.specs.Instruction.{can_encode_in, Adds, Leaves};
 ghost use Rattle.cax64_machine_code.specs.Fields.{IsBytes};
 ghost use Rattle.cax64_machine_code.specs.Reading.{read};
 ghost use Rattle.cax64_machine_code.specs.Sequence.{Same};
+ghost use Rattle.cax64_sink.specs.Room.{HasRoom};
 
 use crate::laws::{len_is_least, whole_instruction_is_shortest};
 use cax64_encoder::Instruction;
@@ -45,9 +46,12 @@ pub fn encode_shortest<I: RowAndOperands, S: CodeSink>(
 ) -> Result<(), SinkError>
     requires encodable { IsTrue (can_encode_in (S.state sink.old) (⟦<I as Instruction>⟧.meant inst.now)) }
     requires short { IfSome (⟦<I as Instruction>⟧.meant inst.now (S.state sink.old).offsets).exact (λ very. length very ≤ 3) }
-    ensures { OnOk result ((bytes : List ℕ) (reading : Reading)
+    ensures shortest { OnOk result ((bytes : List ℕ) (reading : Reading)
         → IsBytes bytes → read bytes ≡ Some reading → Same reading (⟦<I as Instruction>⟧.meant inst.now (S.state sink.old).offsets).parts
         → length (S.state sink.new).bytes ≤ length (S.state sink.old).bytes + length bytes) }
+    ensures adds { OnOk result (Adds (⟦<I as Instruction>⟧.meant inst.now) (S.state sink.old) (S.state sink.new)) }
+    ensures leaves { OnErr result (Leaves (⟦<I as Instruction>⟧.meant inst.now) (S.state sink.old) (S.state sink.new)) }
+    ensures enough { HasRoom (S.state sink.old).byte_room 13 → HasRoom (S.state sink.old).notice_room 1 → IsOk result }
 {
     whole_instruction_is_shortest(inst);
     inst.encode(sink)
