@@ -1,3 +1,4 @@
 pub mod Fields
 pub mod Uses
 pub mod Patched
+pub mod Filling

@@ -1,4 +1,4 @@
-use Rattle.std.proofs.Common.{◌≡◌, ◌⊎◌, inl, inr, ℕ, suc, zero, ◌+◌, ◌-◌, ◌*◌, ◌^◌, ◌<◌, ◌≤◌, arith, refl, ◌∙◌, ap, sym, List, [], ◌∷◌, ◌++◌, Bool, true, false, ℤ, pos, ◌+ℤ◌, ◌-ℤ◌, Option, Some, None, length, take, drop, get_or, All, append_assoc}
+use Rattle.std.proofs.Common.{◌≡◌, ◌⊎◌, inl, inr, ℕ, suc, ◌+◌, ◌-◌, ◌^◌, ◌<◌, ◌≤◌, arith, refl, ◌∙◌, ap, sym, List, [], ◌∷◌, ◌++◌, Bool, true, false, ℤ, pos, ◌+ℤ◌, ◌-ℤ◌, Option, Some, None, length, take, drop, get_or, All, append_assoc}
 use Rattle.std.specs.Prelude.{option_and_then, if◌then◌else◌}
 use Rattle.std.proofs.Math.ListN.{get_or-append}
 use Rattle.std.proofs.Math.Seq.{drop-append_seam}
@@ -11,15 +11,14 @@ use Rattle.std.specs.Int.{cast_unsigned, to_le_bytes, w32}
 use Rattle.std.specs.Int.RustNames.{FitsSigned}
 use Rattle.cax64_address.specs.Offset.{fits_i32}
 use Rattle.cax64_machine_code.proofs.Bytes.{s32_back, four_back}
-use Rattle.cax64_machine_code.specs.Fields.{number_at, s32}
 use Rattle.cax64_sink.specs.Recorder.{written_over}
 use Rattle.cax64_sink.specs.Sink.{State}
 use Rattle.cax64_sink.specs.declared.DeferredTarget.{DeferredTarget}
 use Rattle.cax64_sink.specs.declared.DeferredTarget.TheVariants as target
-use Rattle.x64_code_buffer.specs.Field.{if_i32, patched, stored_at}
-use Rattle.x64_code_buffer.specs.Patching.{field_put, field_led, use_patched, all_patched, with_bytes}
+use Rattle.x64_code_buffer.specs.Field.{patched, stored_at}
+use Rattle.x64_code_buffer.specs.Patching.{field_put, field_led, all_patched, with_bytes}
 use Rattle.cax64_sink.specs.declared.Notice.{Notice}
-use Rattle.x64_code_buffer.specs.Use.{Use, uses_of, patched_at, unless_patched, unless_bound, refusal_of, or_later, first_refusal, links, IsOutside, AreApart, EachApart, IsPatched}
+use Rattle.x64_code_buffer.specs.Use.{Use, uses_of, patched_at, unless_patched, unless_bound, or_later, first_refusal, links, IsOutside, AreApart, EachApart, IsPatched}
 use Rattle.x64_code_buffer.specs.declared.errors.FinishError.{FinishError}
 use Rattle.x64_code_buffer.proofs.Fields.{stored_is, none_stored, all_there}
 

@@ -1,10 +1,10 @@
-use Rattle.std.proofs.Common.{◌≡◌, ℕ, ◌+◌, ◌-◌, ◌<◌, ◌≤◌, arith, refl, ◌∙◌, ap, sym, List, [], ◌∷◌, ◌++◌, Option, Some, None, length, drop, get_or, IsSome}
+use Rattle.std.proofs.Common.{◌≡◌, ℕ, ◌+◌, ◌<◌, refl, ◌∙◌, ap, sym, List, [], ◌∷◌, Option, Some, None, length, drop, get_or, IsSome}
 use Rattle.std.proofs.lemmas.List.{drop_more}
 use Rattle.cax64_sink.specs.declared.DeferredTarget.{DeferredTarget}
 use Rattle.cax64_sink.specs.declared.Notice.{Notice}
 use Rattle.cax64_sink.specs.declared.Notice.TheVariants.{Trap, Target}
 use Rattle.x64_code_buffer.specs.Patching.{notice_patched, all_patched}
-use Rattle.x64_code_buffer.specs.Use.{Use, uses_of, refusal_of, or_later, first_refusal}
+use Rattle.x64_code_buffer.specs.Use.{uses_of, refusal_of, or_later, first_refusal}
 use Rattle.x64_code_buffer.specs.declared.errors.FinishError.{FinishError}
 
 -- One notice and then the next.

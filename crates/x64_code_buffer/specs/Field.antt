@@ -1,5 +1,5 @@
 -- The relative fields of a buffer: what is stored in them, and what they are to hold.
-use Rattle.std.specs.Prelude.{◌≡◌, ◌≤◌, ℕ, ◌+◌, ℤ, pos, ◌+ℤ◌, ◌-ℤ◌, if◌then◌else◌, Option, Some, None, option_map, List, drop}
+use Rattle.std.specs.Prelude.{ℕ, ◌+◌, ℤ, pos, ◌+ℤ◌, ◌-ℤ◌, if◌then◌else◌, Option, Some, None, option_map, List, drop}
 use Rattle.cax64_address.specs.Offset.{fits_i32}
 use Rattle.cax64_machine_code.specs.Fields.{number_at, s32}
 

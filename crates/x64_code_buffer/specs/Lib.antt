@@ -2,6 +2,7 @@
 pub mod Field
 pub mod Binding
 pub mod Use
+pub mod Filled
 pub mod Buffer
 -- Steps of the proofs.
 pub mod Patching

@@ -7,7 +7,7 @@ use Rattle.cax64_sink.specs.declared.DeferredTarget.{DeferredTarget}
 use Rattle.cax64_sink.specs.declared.DeferredTarget.TheVariants as target
 use Rattle.cax64_sink.specs.declared.Notice.{Notice}
 use Rattle.cax64_sink.specs.declared.Notice.TheVariants.{Trap, Target}
-use Rattle.x64_code_buffer.specs.Use.{Use, uses_of, patched_at}
+use Rattle.x64_code_buffer.specs.Use.{Use, patched_at}
 
 abbrev pub field_put : List ℕ → ℕ → Option ℤ → List ℕ
 field_put bytes at None = bytes

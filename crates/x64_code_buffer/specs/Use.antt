@@ -1,5 +1,5 @@
 -- The uses of labels and constants that a buffer was told of, and what keeps one from being patched.
-use Rattle.std.specs.Prelude.{◌≡◌, ◌≤◌, ◌<◌, ◌⊎◌, ℕ, ◌+◌, ℤ, Option, Some, None, option_and_then, List, [], ◌∷◌, All, IfSome, Contains}
+use Rattle.std.specs.Prelude.{◌≡◌, ◌≤◌, ◌<◌, ◌⊎◌, ℕ, ◌+◌, ℤ, Option, Some, None, option_and_then, List, [], ◌∷◌, All}
 use Rattle.cax64_sink.specs.declared.DeferredTarget.{DeferredTarget}
 use Rattle.cax64_sink.specs.declared.DeferredTarget.TheVariants as target
 use Rattle.cax64_sink.specs.declared.Notice.{Notice}

@@ -1,8 +1,13 @@
 //! The buffer, its labels and constants, and its end.
 
-ghost use Rattle.std.specs.Prelude.{◌≡◌, ◌↔◌, ◌+◌, ◌⊎◌, ◌≤◌, ℕ, [], Some, None, Ok, Err, IsOk, IfOk, IfErr, OnOk, OnErr, All, MatchOption, if◌then◌else◌, is_ok, length, slice_index};
+ghost use Rattle.std.specs.Prelude.{◌≡◌, ◌↔◌, ◌+◌, ◌⊎◌, ◌≤◌, ℕ, [], Some, None, Ok, Err, IsOk, IsTrue, List, ◌∷◌, IfOk, IfErr, OnOk, OnErr, All, MatchOption, if◌then◌else◌, is_ok, length, slice_index};
+ghost use Rattle.std.specs.Int.{to_le_bytes, w16, w32, w64};
+ghost use Rattle.cax64_encoder.specs.Instruction.{can_encode_in, Adds};
+ghost use Rattle.cax64_machine_code.specs.declared.reading.Reading.{Reading};
+ghost use Rattle.cax64_sink.specs.Call.{Step, put, trap, target};
+ghost use Rattle.cax64_sink.specs.Keeps.{Keeps};
 ghost use Rattle.cax64_sink.specs.Recorder.{with_offset};
-ghost use Rattle.cax64_sink.specs.Room.{count};
+ghost use Rattle.cax64_sink.specs.Room.{HasRoom, count};
 ghost use Rattle.cax64_sink.specs.declared.DeferredTarget.{DeferredTarget};
 ghost use Rattle.cax64_sink.specs.declared.SinkError.{SinkError};
 ghost use Rattle.x64_code_buffer.specs.declared.errors.BindError.{BindError};
@@ -11,7 +16,10 @@ use crate::bindings::Bindings;
 use crate::errors::{BindError, FinishError};
 use crate::patch::patch_uses;
 use crate::refusal::first_refusal;
-use cax64_sink::{CodeSink, Constant, DeferredTarget, KnownOffset, Label, Notice, Recorder, SinkError, TrapCode};
+use cax64_encoder::instruction::Instruction;
+use cax64_sink::{
+    CodeSink, Constant, DeferredTarget, KnownOffset, Label, Notice, Recorder, SinkError, TrapCode,
+};
 use std::alloc::Allocator;
 
 /// A recording sink that knows labels and constants.
@@ -23,6 +31,7 @@ pub struct CodeBuffer<A: Allocator> {
 
 impl<A: Allocator + Copy> CodeBuffer<A> {
     ghost use Rattle.x64_code_buffer.specs.Buffer.{buffer_state, label_count, places_of};
+    ghost use Rattle.x64_code_buffer.specs.Filled.{Filled};
 
     /// An empty buffer that knows no offset, gave no label and bound nothing. Takes no memory.
     pub fn new(alloc: A) -> Self
@@ -33,6 +42,7 @@ impl<A: Allocator + Copy> CodeBuffer<A> {
         ensures notice_room { (buffer_state result).notice_room ≡ count 0 }
         ensures labels { label_count result ≡ 0 }
         ensures places { (target : DeferredTarget) → places_of result target ≡ None }
+        ensures filled { Filled [] 0 (buffer_state result) (places_of result) }
     {
         CodeBuffer {
             recorder: Recorder::new(alloc),
@@ -43,7 +53,8 @@ impl<A: Allocator + Copy> CodeBuffer<A> {
 
 impl<A: Allocator> CodeBuffer<A> {
     ghost use Rattle.x64_code_buffer.specs.Binding.{SamePlaces, AddsBinding, bind_answer};
-    ghost use Rattle.x64_code_buffer.specs.Buffer.{buffer_state, label_count, places_of};
+    ghost use Rattle.x64_code_buffer.specs.Buffer.{AsBefore, StaysFilled, buffer_state, label_count, places_of};
+    ghost use Rattle.x64_code_buffer.specs.Filled.{Filled, FilledOn};
     ghost use Rattle.x64_code_buffer.specs.Use.{uses_of, links, first_refusal, EachApart, IsOutside, IsPatched};
 
     /// Makes `offset` known, or replaces its value. Takes no memory.
@@ -51,6 +62,7 @@ impl<A: Allocator> CodeBuffer<A> {
         ensures state { buffer_state self.new ≡ with_offset offset value (buffer_state self.old) }
         ensures labels { label_count self.new ≡ label_count self.old }
         ensures places { SamePlaces (places_of self.old) (places_of self.new) }
+        ensures filled { StaysFilled self.old self.new }
     {
         self.recorder.set_offset(offset, value);
     }
@@ -85,6 +97,7 @@ impl<A: Allocator> CodeBuffer<A> {
         ensures full { (result ≡ Err SinkError.Full) ↔ (label_count self.old ≡ u32.MAX) }
         ensures state { buffer_state self.new ≡ buffer_state self.old }
         ensures places { SamePlaces (places_of self.old) (places_of self.new) }
+        ensures filled { StaysFilled self.old self.new }
     {
         self.bindings.new_label()
     }
@@ -96,9 +109,30 @@ impl<A: Allocator> CodeBuffer<A> {
         ensures unchanged { OnErr result (SamePlaces (places_of self.old) (places_of self.new)) }
         ensures labels { label_count self.new ≡ label_count self.old }
         ensures state { buffer_state self.new ≡ buffer_state self.old }
+        ensures filled { StaysFilled self.old self.new }
     {
         let place = self.recorder.bytes().len();
         self.bindings.bind(label, place)
+    }
+
+    /// Puts an instruction, and tells of its trap or target.
+    ///
+    /// It makes room for thirteen bytes and a notice first, so a refusal leaves all as it was but the rooms. Takes constant
+    /// time, over many instructions.
+    pub fn push<I: Instruction>(&mut self, inst: &I) -> Result<(), SinkError>
+        requires { IsTrue (can_encode_in (buffer_state self.old) (I.meant inst.now)) }
+        ensures adds { OnOk result (Adds (I.meant inst.now) (buffer_state self.old) (buffer_state self.new)) }
+        ensures unchanged { OnErr result (AsBefore (buffer_state self.old) (buffer_state self.new)) }
+        ensures error { IfErr result (λ e. e ≡ SinkError.NoMemory) }
+        ensures enough { HasRoom (buffer_state self.old).byte_room 13 → HasRoom (buffer_state self.old).notice_room 1 → IsOk result }
+        ensures keeps { Keeps (buffer_state self.old) (buffer_state self.new) }
+        ensures labels { label_count self.new ≡ label_count self.old }
+        ensures places { SamePlaces (places_of self.old) (places_of self.new) }
+        ensures filled { let meant = (I.meant inst.now (buffer_state self.old).offsets).parts in (readings : List Reading) → Filled readings (length (buffer_state self.old).bytes) (buffer_state self.old) (places_of self.old) → OnOk result (FilledOn meant readings (buffer_state self.new) (places_of self.new)) }
+        ensures refused { OnErr result (StaysFilled self.old self.new) }
+    {
+        self.recorder.reserve(13, 1)?;
+        inst.encode(&mut self.recorder)
     }
 
     /// Patches the field of each use of a label or a constant, in place, and gives the bytes. Takes no memory.
@@ -133,7 +167,7 @@ impl<A: Allocator> CodeBuffer<A> {
 
 impl<A: Allocator + Clone> CodeBuffer<A> {
     ghost use Rattle.x64_code_buffer.specs.Binding.{SamePlaces, AddsBinding};
-    ghost use Rattle.x64_code_buffer.specs.Buffer.{buffer_state, label_count, places_of};
+    ghost use Rattle.x64_code_buffer.specs.Buffer.{StaysFilled, buffer_state, label_count, places_of};
 
     /// Binds a constant, a key of the caller's, to the present number of bytes. That it is bound already is found before
     /// memory is asked for. Takes as long as a hash map takes to insert a key.
@@ -143,6 +177,7 @@ impl<A: Allocator + Clone> CodeBuffer<A> {
         ensures unchanged { OnErr result (SamePlaces (places_of self.old) (places_of self.new)) }
         ensures labels { label_count self.new ≡ label_count self.old }
         ensures state { buffer_state self.new ≡ buffer_state self.old }
+        ensures filled { StaysFilled self.old self.new }
     {
         let place = self.recorder.bytes().len();
         self.bindings.bind_constant(constant, place)
@@ -150,31 +185,61 @@ impl<A: Allocator + Clone> CodeBuffer<A> {
 }
 
 impl<A: Allocator> CodeSink for CodeBuffer<A> {
-    ghost use Rattle.x64_code_buffer.specs.Buffer.{buffer_state};
+    ghost use Rattle.x64_code_buffer.specs.Binding.{SamePlaces};
+    ghost use Rattle.x64_code_buffer.specs.Buffer.{StaysFilled, buffer_state, label_count, places_of};
 
     ghost state = { buffer_state };
 
-    fn put1(&mut self, value: u8) -> Result<(), SinkError> {
+    fn put1(&mut self, value: u8) -> Result<(), SinkError>
+        ensures step { Step (put (value ∷ [])) (buffer_state self.old) (buffer_state self.new) result }
+        ensures labels { label_count self.new ≡ label_count self.old }
+        ensures places { SamePlaces (places_of self.old) (places_of self.new) }
+        ensures filled { StaysFilled self.old self.new }
+    {
         self.recorder.put1(value)
     }
 
-    fn put2(&mut self, value: u16) -> Result<(), SinkError> {
+    fn put2(&mut self, value: u16) -> Result<(), SinkError>
+        ensures step { Step (put (to_le_bytes w16 value)) (buffer_state self.old) (buffer_state self.new) result }
+        ensures labels { label_count self.new ≡ label_count self.old }
+        ensures places { SamePlaces (places_of self.old) (places_of self.new) }
+        ensures filled { StaysFilled self.old self.new }
+    {
         self.recorder.put2(value)
     }
 
-    fn put4(&mut self, value: u32) -> Result<(), SinkError> {
+    fn put4(&mut self, value: u32) -> Result<(), SinkError>
+        ensures step { Step (put (to_le_bytes w32 value)) (buffer_state self.old) (buffer_state self.new) result }
+        ensures labels { label_count self.new ≡ label_count self.old }
+        ensures places { SamePlaces (places_of self.old) (places_of self.new) }
+        ensures filled { StaysFilled self.old self.new }
+    {
         self.recorder.put4(value)
     }
 
-    fn put8(&mut self, value: u64) -> Result<(), SinkError> {
+    fn put8(&mut self, value: u64) -> Result<(), SinkError>
+        ensures step { Step (put (to_le_bytes w64 value)) (buffer_state self.old) (buffer_state self.new) result }
+        ensures labels { label_count self.new ≡ label_count self.old }
+        ensures places { SamePlaces (places_of self.old) (places_of self.new) }
+        ensures filled { StaysFilled self.old self.new }
+    {
         self.recorder.put8(value)
     }
 
-    fn add_trap(&mut self, code: TrapCode) -> Result<(), SinkError> {
+    fn add_trap(&mut self, code: TrapCode) -> Result<(), SinkError>
+        ensures step { Step (trap code) (buffer_state self.old) (buffer_state self.new) result }
+        ensures labels { label_count self.new ≡ label_count self.old }
+        ensures places { SamePlaces (places_of self.old) (places_of self.new) }
+        ensures filled { StaysFilled self.old self.new }
+    {
         self.recorder.add_trap(code)
     }
 
-    fn use_target(&mut self, place: DeferredTarget) -> Result<(), SinkError> {
+    fn use_target(&mut self, place: DeferredTarget) -> Result<(), SinkError>
+        ensures step { Step (target place) (buffer_state self.old) (buffer_state self.new) result }
+        ensures labels { label_count self.new ≡ label_count self.old }
+        ensures places { SamePlaces (places_of self.old) (places_of self.new) }
+    {
         self.recorder.use_target(place)
     }
 

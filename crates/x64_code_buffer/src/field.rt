@@ -20,10 +20,5 @@ pub(crate) fn stored_at(bytes: &[u8], at: usize) -> Option<i32>
     if bytes.len() < 4 || bytes.len() - 4 < at {
         return None;
     }
-    Some(i32::from_le_bytes([
-        bytes[at],
-        bytes[at + 1],
-        bytes[at + 2],
-        bytes[at + 3],
-    ]))
+    Some(i32::from_le_bytes([bytes[at], bytes[at + 1], bytes[at + 2], bytes[at + 3]]))
 }

@@ -1,4 +1,4 @@
-use Rattle.std.proofs.Common.{◌≡◌, ◌∙◌, ap, ℕ, ◌+◌, ◌-◌, ◌*◌, ◌^◌, ◌<◌, ◌≤◌, length, arith, sym, get_or, Option, Some}
+use Rattle.std.proofs.Common.{◌∙◌, ap, ℕ, ◌+◌, ◌<◌, ◌≤◌, length, arith, sym, get_or, Some}
 use Rattle.x64_code_buffer.proofs.Fields.{none_stored, stored_is, signed_again, in_places, four_fit}
 use Rattle.x64_code_buffer.proofs.field.stored_at.Goals as goal
 use Rattle.x64_code_buffer.proofs.field.stored_at.Goals.{then-bytes-lt4-via-then-bytes-lt4, then-bytes-lt4-via-else-bytes-lt4+then-bytes-at}
