@@ -2,3 +2,5 @@ pub mod Fields
 pub mod Uses
 pub mod Patched
 pub mod Filling
+pub mod Fronts
+pub mod Relocated
