@@ -167,7 +167,7 @@ filled_on readings s t old new added meant memory reads bytes notices relative s
 
 -- What is filled reads, and nothing is left.
 
-one_read : (b : List ℕ) (n : ℕ) → n ≤ length b → take n b ++ drop n b ≡ b
+pub one_read : (b : List ℕ) (n : ℕ) → n ≤ length b → take n b ++ drop n b ≡ b
 one_read b zero h = refl
 one_read [] (suc n) h = refl
 one_read (byte ∷ b) (suc n) h = ap (λ (z : List ℕ). byte ∷ z) (one_read b n (omega arith))

@@ -4,3 +4,5 @@ pub mod Patched
 pub mod Filling
 pub mod Fronts
 pub mod Relocated
+pub mod Settling
+pub mod Finished

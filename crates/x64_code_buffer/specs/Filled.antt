@@ -1,5 +1,6 @@
 -- A buffer that is filled with instructions.
 use Rattle.std.specs.Prelude.{◌≡◌, ◌≤◌, ◌⊎◌, ℕ, ◌+◌, ◌-◌, pos, ◌-ℤ◌, Option, Some, None, List, [], ◌∷◌, ◌++◌, length, take, drop}
+use Rattle.cax64_machine_code.specs.Address.{address_of, modulo_64_bits}
 use Rattle.cax64_machine_code.specs.Line.{imm_bytes}
 use Rattle.cax64_machine_code.specs.Reading.{Parts, read}
 use Rattle.cax64_machine_code.specs.Rows.{line_of}
@@ -9,6 +10,7 @@ use Rattle.cax64_machine_code.specs.declared.reading.Place.TheVariants.{Reg, Mem
 use Rattle.cax64_machine_code.specs.declared.reading.Reading.{Reading}
 use Rattle.cax64_sink.specs.Sink.{State}
 use Rattle.cax64_sink.specs.declared.DeferredTarget.{DeferredTarget}
+use Rattle.cax64_sink.specs.declared.DeferredTarget.TheVariants as target
 use Rattle.x64_code_buffer.specs.Use.{Use, uses_of}
 
 -- how many bytes of immediate a reading's row has
@@ -70,3 +72,48 @@ pub record FilledOn (meant : Parts) (readings : List Reading) (s : State) (place
   pub reading : Reading
   pub same : Same reading meant
   pub filled : Filled (readings ++ reading ∷ []) (length s.bytes) s places
+
+-- a place whose address, for any values of the registers, is this
+abbrev pub HasAddress : Option Place → ℕ → ℕ → Type 0
+HasAddress None end place = ⊥
+HasAddress (Some found) end place = (regs : List ℕ) → address_of found regs end ≡ Some (modulo_64_bits (pos place))
+
+-- a reading that differs in its place alone, whose address is the place that the target is bound to
+pub record Leads (places : DeferredTarget → Option ℕ) (target : DeferredTarget) (end : ℕ) (old new : Reading) : Type 0 where
+  pub bound_to : ℕ
+  pub is_bound : places target ≡ Some bound_to
+  pub same : new ≡ record old { place = new.place }
+  pub leads : HasAddress new.place end bound_to
+
+-- The reading of a relative place goes with the next use: a label's or a constant's leads there; any other is as before.
+abbrev pub SettledBy : (DeferredTarget → Option ℕ) → ℕ → Reading → List Use → Reading → Type 0
+SettledBy places end old [] new = ⊥
+SettledBy places end old ((at, target.Label label) ∷ later) new = Leads places (target.Label label) end old new
+SettledBy places end old ((at, target.Constant constant) ∷ later) new = Leads places (target.Constant constant) end old new
+SettledBy places end old ((at, target.None) ∷ later) new = new ≡ old
+
+abbrev pub SettledAs : (DeferredTarget → Option ℕ) → ℕ → Reading → Option Place → List Use → Reading → Type 0
+SettledAs places end old None uses new = new ≡ old
+SettledAs places end old (Some (Reg view)) uses new = new ≡ old
+SettledAs places end old (Some (Mem base index disp)) uses new = new ≡ old
+SettledAs places end old (Some (Rip disp)) uses new = SettledBy places end old uses new
+
+-- the uses behind those of a reading with this place
+abbrev pub uses_behind : Option Place → List Use → List Use
+uses_behind None uses = uses
+uses_behind (Some (Reg view)) uses = uses
+uses_behind (Some (Mem base index disp)) uses = uses
+uses_behind (Some (Rip disp)) uses = drop 1 uses
+
+-- each reading and what it has become, where the first begins after so many bytes
+abbrev pub Settled : (DeferredTarget → Option ℕ) → ℕ → List Reading → List Use → List Reading → Type 0
+Settled places at [] uses new = new ≡ []
+Settled places at (r ∷ later) uses [] = ⊥
+Settled places at (r ∷ later) uses (q ∷ new) = SettledAs places (at + r.length) r r.place uses q × Settled places (at + r.length) later (uses_behind r.place uses) new
+
+-- The first n bytes read as before, with the same lengths and parts, save that each field of a label or a constant has the
+-- bound place as its address.
+pub record Finished (readings : List Reading) (n : ℕ) (s : State) (places : DeferredTarget → Option ℕ) (code : List ℕ) : Type 0 where
+  pub now : List Reading
+  pub reads : ReadsEach now (take n code)
+  pub settled : Settled places 0 readings (uses_of s.notices) now

@@ -54,7 +54,7 @@ impl<A: Allocator + Copy> CodeBuffer<A> {
 impl<A: Allocator> CodeBuffer<A> {
     ghost use Rattle.x64_code_buffer.specs.Binding.{SamePlaces, AddsBinding, bind_answer};
     ghost use Rattle.x64_code_buffer.specs.Buffer.{AsBefore, StaysFilled, buffer_state, label_count, places_of};
-    ghost use Rattle.x64_code_buffer.specs.Filled.{Filled, FilledOn};
+    ghost use Rattle.x64_code_buffer.specs.Filled.{Filled, FilledOn, Finished};
     ghost use Rattle.x64_code_buffer.specs.Use.{uses_of, links, first_refusal, EachApart, IsOutside, IsPatched};
 
     /// Makes `offset` known, or replaces its value. Takes no memory.
@@ -147,6 +147,7 @@ impl<A: Allocator> CodeBuffer<A> {
         ensures length { IfOk result (λ code. length code.items ≡ length (buffer_state self).bytes) }
         ensures fields { EachApart (links (uses_of (buffer_state self).notices)) → IfOk result (λ code. All (IsPatched (places_of self) (buffer_state self).bytes code.items) (links (uses_of (buffer_state self).notices))) }
         ensures others { (i : ℕ) → All (IsOutside i) (links (uses_of (buffer_state self).notices)) → IfOk result (λ code. slice_index code.items i ≡ slice_index (buffer_state self).bytes i) }
+        ensures finished { (readings : List Reading) (n : ℕ) → Filled readings n (buffer_state self) (places_of self) → IfOk result (λ code. Finished readings n (buffer_state self) (places_of self) code.items) }
     {
         let refusal = first_refusal(
             &self.bindings,

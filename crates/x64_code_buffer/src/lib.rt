@@ -6,6 +6,7 @@ mod bindings;
 mod buffer;
 mod errors;
 mod field;
+pub mod laws;
 mod patch;
 mod refusal;
 
