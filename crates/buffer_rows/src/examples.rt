@@ -6,7 +6,7 @@ use crate::making::{
 use cax64_machine_code::row::Row;
 use cax64_reader::{Place, read_inst};
 use cax64_sink::{CodeSink, Constant, DeferredTarget, Label, Notice, SinkError};
-use std::alloc::Global;
+use std::alloc::{Allocator, Global};
 use x64_code_buffer::{BindError, CodeBuffer, FinishError, patched_field};
 
 #[test]
@@ -35,10 +35,38 @@ fn backward(alloc: Global) -> Result<Option<Vec<u8>>, SinkError> {
 
 #[test]
 fn labels_are_bound_before_and_behind(rt: HostRuntime) {
-    let ahead = forward(rt.alloc()).expect(&rt, "memory").expect(&rt, "code");
+    let ahead = forward(rt.alloc())
+        .expect(&rt, "memory")
+        .expect(&rt, "code");
     assert!(rt; ahead.as_slice() == [0x0F, 0xC2, 0x05, 0, 0, 0, 0, 0].as_slice());
-    let back = backward(rt.alloc()).expect(&rt, "memory").expect(&rt, "code");
+    let back = backward(rt.alloc())
+        .expect(&rt, "memory")
+        .expect(&rt, "code");
     assert!(rt; back.as_slice() == [0xFF, 0x15, 0xFA, 0xFF, 0xFF, 0xFF].as_slice());
+}
+
+/// The bytes of a buffer that came back unbound, once its label is bound.
+fn bound_code<A: Allocator>(mut buffer: CodeBuffer<A>, label: Label) -> Option<Vec<u8, A>> {
+    let unbound = buffer.place_of(FIRST).is_none();
+    let told = buffer.notices() == [Notice::Target(2, FIRST)].as_slice();
+    buffer.bind(label).ok()?;
+    let bound = buffer.place_of(FIRST) == Some(6);
+    if unbound && told && bound {
+        code_of(buffer)
+    } else {
+        None
+    }
+}
+
+/// Why a buffer can't be finished, and its bytes once its label is bound.
+fn refused<A: Allocator>(buffer: CodeBuffer<A>, label: Label) -> Option<(FinishError, Vec<u8, A>)> {
+    match buffer.finish() {
+        Ok(_) => None,
+        Err((again, error)) => match bound_code(again, label) {
+            Some(code) => Some((error, code)),
+            None => None,
+        },
+    }
 }
 
 #[test]
@@ -46,17 +74,8 @@ fn an_unbound_label_refuses_and_the_buffer_comes_back(rt: HostRuntime) {
     let mut buffer = CodeBuffer::new(rt.alloc());
     let label = buffer.new_label().expect(&rt, "a label");
     assert!(rt; push(&mut buffer, &call_to(FIRST)).is_ok());
-    let again = match buffer.finish() {
-        Ok(_) => None,
-        Err((buffer, error)) => Some((buffer, error)),
-    };
-    let (mut buffer, error) = again.expect(&rt, "a refusal");
+    let (error, code) = refused(buffer, label).expect(&rt, "a refusal");
     assert!(rt; error == FinishError::Unbound(FIRST));
-    assert!(rt; buffer.place_of(FIRST) == None);
-    assert!(rt; buffer.notices() == [Notice::Target(2, FIRST)].as_slice());
-    assert!(rt; buffer.bind(label) == Ok(()));
-    assert!(rt; buffer.place_of(FIRST) == Some(6));
-    let code = code_of(buffer).expect(&rt, "code");
     assert!(rt; code.as_slice() == [0xFF, 0x15, 0, 0, 0, 0].as_slice());
 }
 

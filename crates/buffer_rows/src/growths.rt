@@ -65,9 +65,7 @@ fn constant_again<A: Allocator + Clone>(
     buffer.bind_constant(Constant(7)).ok()
 }
 
-const CODE: [u8; 14] = [
-    0xFF, 0x15, 8, 0, 0, 0, 0x0F, 0xC2, 0x05, 0, 0, 0, 0, 0,
-];
+const CODE: [u8; 14] = [0xFF, 0x15, 8, 0, 0, 0, 0x0F, 0xC2, 0x05, 0, 0, 0, 0, 0];
 
 /// Whether the bytes are those of an undisturbed run.
 fn is_made<A: Allocator + Copy>(alloc: A, filler: &mut Filler<A>) -> Option<bool> {
