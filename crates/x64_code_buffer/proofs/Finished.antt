@@ -1,11 +1,11 @@
-use Rattle.std.proofs.Common.{◌≡◌, ◌⊎◌, inl, inr, ℕ, suc, zero, ◌+◌, ◌-◌, ◌*◌, ◌<◌, ◌≤◌, arith, refl, ◌∙◌, ap, sym, subst, ℤ, pos, ◌+ℤ◌, ◌-ℤ◌, List, [], ◌∷◌, ◌++◌, Bool, true, false, Option, Some, None, length, take, drop, get_or, All, append-nil}
+use Rattle.std.proofs.Common.{◌≡◌, ◌⊎◌, inl, inr, ℕ, suc, ◌+◌, ◌-◌, ◌<◌, ◌≤◌, arith, refl, ◌∙◌, ap, sym, subst, ℤ, pos, ◌+ℤ◌, ◌-ℤ◌, List, [], ◌∷◌, ◌++◌, Bool, true, false, Option, Some, None, length, take, drop, get_or, All}
 use Rattle.std.specs.Prelude.{option_and_then, if◌then◌else◌}
 use Rattle.std.proofs.Math.ListN.{get_or-append}
 use Rattle.std.proofs.lemmas.Int.{ints}
-use Rattle.std.proofs.lemmas.List.{get_or-take, get_or-drop, get_or-append-add, length-append, length-drop, length-take-le, drop-drop}
+use Rattle.std.proofs.lemmas.List.{get_or-take, get_or-drop, get_or-append-add, length-drop, length-take-le, drop-drop}
 use Rattle.std.proofs.lemmas.List.Elements.{All-cons}
 use Rattle.cax64_address.specs.Offset.{fits_i32}
-use Rattle.cax64_machine_code.specs.Address.{address_of, modulo_64_bits}
+use Rattle.cax64_machine_code.specs.Address.{modulo_64_bits}
 use Rattle.cax64_machine_code.specs.Fields.{s32}
 use Rattle.cax64_machine_code.specs.Reading.{read}
 use Rattle.cax64_machine_code.specs.declared.reading.Place.{Place}
@@ -15,7 +15,7 @@ use Rattle.cax64_machine_code.proofs.Whole.{read_more}
 use Rattle.cax64_sink.specs.declared.DeferredTarget.{DeferredTarget}
 use Rattle.cax64_sink.specs.declared.DeferredTarget.TheVariants as target
 use Rattle.x64_code_buffer.specs.Field.{if_i32, patched, stored_at}
-use Rattle.x64_code_buffer.specs.Filled.{imm_behind, field_place, Unpatched, ReadsEach, EachUnpatched, field_at, fields_from, places_told, HasAddress, Leads, SettledBy, SettledAs, uses_behind, Settled}
+use Rattle.x64_code_buffer.specs.Filled.{imm_behind, field_place, Unpatched, ReadsEach, EachUnpatched, field_at, fields_from, places_told, Leads, SettledAs, uses_behind, Settled}
 use Rattle.x64_code_buffer.specs.Use.{Use, patched_at, links, IsOutside, IsPatched}
 use Rattle.x64_code_buffer.proofs.Fields.{stored_is, four_at}
 use Rattle.x64_code_buffer.proofs.Filling.{one_read}
@@ -41,11 +41,11 @@ front_is n at r old new h =
     let len : length (take f v) ≡ f = length-take-le f v (omega (arith, h.size)) in
     let tail : List ℕ = h.rel.one ∷ h.rel.two ∷ h.rel.three ∷ h.rel.last ∷ h.rel.behind in
     same_list (take f v) h.rel.front (len ∙ sym h.rel.field_is) (λ i below.
-        let b : i < f = omega arith in
-        let l : i < r.length = omega (arith, h.size) in
-        let k : i < length h.rel.front = omega (arith, h.rel.field_is) in
-        get_or-take f v i 0 b ∙ piece_at n at r.length new i h.within l ∙ h.same i l (inl b) ∙ sym (piece_at n at r.length old i h.within l)
-        ∙ ap (λ (z : List ℕ). get_or z i 0) h.rel.bytes_are ∙ get_or-append h.rel.front tail 0 i k)
+    let b : i < f = omega arith in
+    let l : i < r.length = omega (arith, h.size) in
+    let k : i < length h.rel.front = omega (arith, h.rel.field_is) in
+    get_or-take f v i 0 b ∙ piece_at n at r.length new i h.within l ∙ h.same i l (inl b) ∙ sym (piece_at n at r.length old i h.within l)
+    ∙ ap (λ (z : List ℕ). get_or z i 0) h.rel.bytes_are ∙ get_or-append h.rel.front tail 0 i k)
 
 behind_is : (n at : ℕ) (r : Reading) (old new : List ℕ) (h : Moved n at r old new) → drop (field_place r + 4) (piece n at r.length new) ≡ h.rel.behind
 behind_is n at r old new h =
@@ -56,13 +56,13 @@ behind_is n at r old new h =
     let len : length (drop (f + 4) v) ≡ imm_behind r = length-drop (f + 4) v ∙ omega (arith, h.size) in
     let tail : List ℕ = h.rel.one ∷ h.rel.two ∷ h.rel.three ∷ h.rel.last ∷ h.rel.behind in
     same_list (drop (f + 4) v) h.rel.behind (len ∙ sym h.rel.behind_is) (λ i below.
-        let l : f + 4 + i < r.length = omega (arith, h.size) in
-        let back : f + 4 ≤ f + 4 + i = omega arith in
-        let place : f + 4 + i ≡ length h.rel.front + suc (suc (suc (suc i))) = omega (arith, h.rel.field_is) in
-        get_or-drop (f + 4) v i 0 ∙ piece_at n at r.length new (f + 4 + i) h.within l ∙ h.same (f + 4 + i) l (inr back) ∙ sym (piece_at n at r.length old (f + 4 + i) h.within l)
-        ∙ ap (λ (z : List ℕ). get_or z (f + 4 + i) 0) h.rel.bytes_are
-        ∙ ap (λ (k : ℕ). get_or (h.rel.front ++ tail) k 0) place
-        ∙ get_or-append-add h.rel.front tail (suc (suc (suc (suc i)))) 0)
+    let l : f + 4 + i < r.length = omega (arith, h.size) in
+    let back : f + 4 ≤ f + 4 + i = omega arith in
+    let place : f + 4 + i ≡ length h.rel.front + suc (suc (suc (suc i))) = omega (arith, h.rel.field_is) in
+    get_or-drop (f + 4) v i 0 ∙ piece_at n at r.length new (f + 4 + i) h.within l ∙ h.same (f + 4 + i) l (inr back) ∙ sym (piece_at n at r.length old (f + 4 + i) h.within l)
+    ∙ ap (λ (z : List ℕ). get_or z (f + 4 + i) 0) h.rel.bytes_are
+    ∙ ap (λ (k : ℕ). get_or (h.rel.front ++ tail) k 0) place
+    ∙ get_or-append-add h.rel.front tail (suc (suc (suc (suc i)))) 0)
 
 moved_reads : (n at : ℕ) (r : Reading) (old new : List ℕ) (field : ℤ) → Moved n at r old new → stored_at new (at + field_place r) ≡ Some field → read (piece n at r.length new) ≡ Some (record r { place = Some (Rip field) })
 moved_reads n at r old new field h stored =
@@ -168,11 +168,13 @@ settle places n old new ho hn (r ∷ rs) at us within h unpatched told same fiel
   where
     below : (us : List Use) (i : ℕ) → places_told us ≡ fields_from (at + r.length) rs → i < r.length → All (IsOutside (at + i)) (links us)
     below us i t l = outside_below (at + r.length) (at + i) us (omega arith) (subst (Above (at + r.length)) (sym t) (fields_above (at + r.length) rs))
+
     as_before : (o : Option Place) (us later : List Use) → r.place ≡ o → at + r.length ≤ n → 1 ≤ r.length → ((rest : List ℕ) → read (piece n at r.length old ++ rest) ≡ Some r) → links us ≡ links later → uses_behind o us ≡ later → SettledAs places (at + r.length) r o us r → places_told later ≡ fields_from (at + r.length) rs → Later places n old new at r rs → Behind old new at later → All (IsPatched places old new) (links later) → Outcome places n at (r ∷ rs) us new
     as_before o us later e end least reads same_links behind became t next same fields =
         more places n at r r rs us later new o e hn end refl least
         (same_read n at r old new ho hn end (λ i l. same (at + i) (omega arith) (below later i t l)) reads) became behind
         (next later t (λ i low out. same i (omega arith) out) fields)
+
     linked : (t : DeferredTarget) (p : ℕ) (later : List Use) (disp : ℤ) → r.place ≡ Some (Rip disp) → p ≡ at + field_place r → at + r.length ≤ n → 1 ≤ r.length → (read (piece n at r.length old) ≡ Some r) × (r.length ≡ length (piece n at r.length old)) → Unpatched (imm_behind r) (Some (Rip disp)) → places_told later ≡ fields_from (at + r.length) rs → Later places n old new at r rs → ((i : ℕ) → at ≤ i → All (IsOutside i) ((p, t) ∷ links later) → get_or new i 0 ≡ get_or old i 0) → All (IsPatched places old new) ((p, t) ∷ links later) → ((q : Reading) → Leads places t (at + r.length) r q → SettledAs places (at + r.length) r (Some (Rip disp)) ((p, t) ∷ later) q) → Outcome places n at (r ∷ rs) ((p, t) ∷ later) new
     linked t p later disp e ep end least one unpatched told next same fields became =
         let rel = relocated (piece n at r.length old) r one.0 one.1 least (ap is_some_rip e) in
@@ -192,10 +194,12 @@ settle places n old new ho hn (r ∷ rs) at us within h unpatched told same fiel
         (λ rest. read_more (piece n at r.length new) rest q reads)
         (became q (led places t n at p r old new disp e unpatched ep moved one.0 head)) refl
         (next later told (λ i low out. same i (omega arith) (All-cons (IsOutside i) (p, t) (links later) (inr (omega (arith, size, ep, low))) out)) (λ k d l. fields (suc k) d (omega arith)))
+
     by_use : (t : DeferredTarget) (p : ℕ) (later : List Use) (disp : ℤ) → r.place ≡ Some (Rip disp) → p ≡ at + field_place r → at + r.length ≤ n → (read (piece n at r.length old) ≡ Some r) × (r.length ≡ length (piece n at r.length old)) → ((rest : List ℕ) → read (piece n at r.length old ++ rest) ≡ Some r) → 1 ≤ r.length → Unpatched (imm_behind r) (Some (Rip disp)) → Later places n old new at r rs → places_told later ≡ fields_from (at + r.length) rs → Behind old new at ((p, t) ∷ later) → All (IsPatched places old new) (links ((p, t) ∷ later)) → Outcome places n at (r ∷ rs) ((p, t) ∷ later) new
     by_use (target.Label l) p later disp e ep end one reads least unpatched next told same fields = linked (target.Label l) p later disp e ep end least one unpatched told next same fields (λ q z. z)
     by_use (target.Constant c) p later disp e ep end one reads least unpatched next told same fields = linked (target.Constant c) p later disp e ep end least one unpatched told next same fields (λ q z. z)
     by_use target.None p later disp e ep end one reads least unpatched next told same fields = as_before (Some (Rip disp)) ((p, target.None) ∷ later) later e end least reads refl refl refl told next same fields
+
     by_place : (o : Option Place) → r.place ≡ o → (us : List Use) → at + r.length ≤ n → (read (piece n at r.length old) ≡ Some r) × (r.length ≡ length (piece n at r.length old)) → ((rest : List ℕ) → read (piece n at r.length old ++ rest) ≡ Some r) → 1 ≤ r.length → Unpatched (imm_behind r) o → Later places n old new at r rs → places_told us ≡ field_at at r o ++ fields_from (at + r.length) rs → Behind old new at us → All (IsPatched places old new) (links us) → Outcome places n at (r ∷ rs) us new
     by_place None e us end one reads least unpatched next told same fields = as_before None us us e end least reads refl refl refl told next same fields
     by_place (Some (Reg view)) e us end one reads least unpatched next told same fields = as_before (Some (Reg view)) us us e end least reads refl refl refl told next same fields

@@ -1,6 +1,5 @@
-use Rattle.std.proofs.Common.{◌≡◌, ◌⊎◌, inl, inr, ℕ, suc, zero, ◌+◌, ◌-◌, ◌/◌, ◌%◌, ◌<◌, ◌≤◌, arith, refl, ◌∙◌, ap, sym, List, [], ◌∷◌, ◌++◌, Bool, true, false, Option, Some, None, length, append_assoc, append-nil}
-use Rattle.std.specs.Prelude.{◌==◌, ◌&&◌, ◌||◌, not, if◌then◌else◌, option_map, option_and_then}
-use Rattle.std.proofs.lemmas.List.{length-append}
+use Rattle.std.proofs.Common.{◌≡◌, ℕ, ◌/◌, ◌%◌, refl, ◌∙◌, ap, sym, List, [], ◌∷◌, ◌++◌, Bool, true, false, Option, Some, None, append_assoc}
+use Rattle.std.specs.Prelude.{◌==◌, ◌&&◌, ◌||◌, not, if◌then◌else◌}
 use Rattle.cax64_machine_code.specs.Prefix.{no_legacy, legacy_at, Rex, rex_of, rex_at, Vex, vex_two_byte, vex_three_byte, is_vex_map, vex_at, Prefix, legacy_prefix, vex_prefix, begins_vex, is_no_legacy, after_vex, after_legacy, prefix_at}
 use Rattle.cax64_machine_code.specs.declared.line.LegacySet.{LegacySet}
 

@@ -1,10 +1,10 @@
-use Rattle.std.proofs.Common.{◌≡◌, ℕ, suc, zero, ◌+◌, ◌-◌, ◌*◌, ◌/◌, ◌%◌, ◌<◌, ◌≤◌, arith, refl, ◌∙◌, ap, sym, ℤ, pos, List, [], ◌∷◌, ◌++◌, Bool, true, false, Option, Some, None, length, append_assoc, append-nil}
+use Rattle.std.proofs.Common.{◌≡◌, ℕ, suc, zero, ◌+◌, ◌-◌, ◌*◌, ◌≤◌, arith, refl, ◌∙◌, ap, sym, ℤ, pos, List, [], ◌∷◌, ◌++◌, Bool, true, false, Option, Some, None, length, append_assoc}
 use Rattle.std.specs.Prelude.{◌==◌, ◌&&◌, if◌then◌else◌, option_map, option_and_then}
 use Rattle.std.proofs.lemmas.Bool.{eqb-true, eq-eqb}
 use Rattle.std.proofs.lemmas.List.{length-append}
 use Rattle.cax64_machine_code.specs.Fields.{mod_of, rm_of, reg_of, base_of, number_at, s32, signed_of}
 use Rattle.cax64_machine_code.specs.Line.{prefix_matches, after, digit_matches, opcode_at, opcode_bytes, imm_bytes}
-use Rattle.cax64_machine_code.specs.Prefix.{Prefix, prefix_at, x_of, b_of}
+use Rattle.cax64_machine_code.specs.Prefix.{Prefix, x_of, b_of}
 use Rattle.cax64_machine_code.specs.Reading.{Parts, Found, reading_of, read, place_at, reg_place, imm_at, operands_of, operands_at, matched_at, find, vvvv_at, reg_view}
 use Rattle.cax64_machine_code.specs.Rows.{line_of, all_rows}
 use Rattle.cax64_machine_code.specs.Tail.{Tail, read_tail, sib_at, disp_at, disp32_at, displaced, scaled_index}
@@ -23,7 +23,7 @@ use Rattle.cax64_machine_code.specs.declared.reading.Reading.{Reading}
 use Rattle.cax64_machine_code.specs.declared.reading.RegView.TheVariants.{Low, High}
 use Rattle.cax64_machine_code.specs.declared.row.Row.{Row}
 use Rattle.cax64_machine_code.proofs.Matched.{find_is}
-use Rattle.cax64_machine_code.proofs.Uniqueness.{Behind, behind, some_if}
+use Rattle.cax64_machine_code.proofs.Uniqueness.{behind, some_if}
 use Rattle.cax64_machine_code.proofs.Whole.{row_matches, Steps, steps, read_found}
 use Rattle.x64_code_buffer.specs.Filled.{imm_behind, field_place}
 use Rattle.x64_code_buffer.proofs.Fields.{number_of_four}
@@ -128,15 +128,21 @@ rip_tail x b (m ∷ bytes) t h r = by_mode (mod_of m == 3) refl h
     by_rip true e e3 e4 k =
         let f = rip_fields m bytes t k in
         record {
-          m = m; one = f.0; two = f.1; three = f.2; last = f.3;
+          m = m;
+          one = f.0;
+          two = f.1;
+          three = f.2;
+          last = f.3;
           bytes_are = ap (λ (z : List ℕ). m ∷ z) f.4;
           place_is = f.5;
           again = λ c d e' g rest. rw (e3, e4, e, number_of_four c d e' g rest, f.6) refl;
         }
     by_rip false e e3 e4 k = no_true (sym r ∙ reg_displaced (reg_of m) (Some (rm_of m + 8 * b)) None (disp_at (mod_of m) 1 bytes) t k)
+
     by_sib : (q : Bool) → (rm_of m == 4) ≡ q → (mod_of m == 3) ≡ false → (if q then sib_at x b 1 (mod_of m) (reg_of m) bytes else (if (rm_of m == 5) && (mod_of m == 0) then displaced (reg_of m) Rip (disp32_at bytes) else displaced (reg_of m) (Mem (Some (rm_of m + 8 * b)) None) (disp_at (mod_of m) 1 bytes))) ≡ Some t → RipTail x b (m ∷ bytes) t
     by_sib true e e3 k = no_true (sym r ∙ sib_no_rip x b (mod_of m) (reg_of m) bytes t k)
     by_sib false e e3 k = by_rip ((rm_of m == 5) && (mod_of m == 0)) refl e3 e k
+
     by_mode : (q : Bool) → (mod_of m == 3) ≡ q → (if q then Some (record { reg = reg_of m; place = Reg (Low (rm_of m + 8 * b)); rest = bytes }) else (if rm_of m == 4 then sib_at x b 1 (mod_of m) (reg_of m) bytes else (if (rm_of m == 5) && (mod_of m == 0) then displaced (reg_of m) Rip (disp32_at bytes) else displaced (reg_of m) (Mem (Some (rm_of m + 8 * b)) None) (disp_at (mod_of m) 1 bytes)))) ≡ Some t → RipTail x b (m ∷ bytes) t
     by_mode true e k = no_true (sym r ∙ sym (ap (λ (z : Tail). is_rip z.place) (some_same _ _ k)))
     by_mode false e k = by_sib (rm_of m == 4) refl e k
@@ -212,7 +218,12 @@ by_imm reg field row line p bytes t place (Some i) found ei h k =
     let tail : length bytes - length t.rest ≡ 5 = ap (λ (z : List ℕ). length z - length t.rest) h.bytes_are ∙ five h.m h.one h.two h.three h.last t.rest in
     let rest : length i.1 ≡ length found.rest = ap (λ (z : Found). length z.rest) e in
     record {
-      m = h.m; one = h.one; two = h.two; three = h.three; last = h.last; imm = t.rest;
+      m = h.m;
+      one = h.one;
+      two = h.two;
+      three = h.three;
+      last = h.last;
+      imm = t.rest;
       bytes_are = h.bytes_are;
       row_is = sym (ap (λ (z : Found). z.parts.row) e);
       tail_is = sym (ap (λ (z : Found). z.tail) e) ∙ tail;
@@ -309,7 +320,10 @@ by_steps w r found st e len least ops matched =
     let front_length : length ((v ++ op.later) ++ (ops.m ∷ [])) ≡ length v + length op.later + 1 = length-append (v ++ op.later) (ops.m ∷ []) ∙ omega (arith, length-append v op.later) in
     record {
       front = (v ++ op.later) ++ (ops.m ∷ []);
-      one = ops.one; two = ops.two; three = ops.three; last = ops.last;
+      one = ops.one;
+      two = ops.two;
+      three = ops.three;
+      last = ops.last;
       behind = ops.imm;
       bytes_are = whole ∙ sym (regroup v op.later ops.m (ops.one ∷ ops.two ∷ ops.three ∷ ops.last ∷ ops.imm));
       field_is = front_length ∙ omega (arith, size, len, tail, behind);

@@ -1,25 +1,15 @@
-use Rattle.std.proofs.Common.{◌≡◌, ◌≢◌, ◌⊎◌, inl, inr, ℕ, suc, zero, ◌+◌, ◌-◌, ◌*◌, ◌<◌, ◌≤◌, arith, refl, ◌∙◌, ap, sym, subst, ℤ, pos, ◌+ℤ◌, ◌-ℤ◌, List, [], ◌∷◌, ◌++◌, Bool, true, false, Option, Some, None, length, take, drop, get_or, All, append_assoc, append-nil}
-use Rattle.std.specs.Prelude.{option_and_then, if◌then◌else◌}
-use Rattle.std.proofs.Math.ListN.{get_or-append}
-use Rattle.std.proofs.Math.Seq.{take-length}
-use Rattle.std.proofs.lemmas.Int.{ints}
-use Rattle.std.proofs.lemmas.List.{get_or-take, get_or-drop, get_or-append-add, length-append, length-drop, length-take-le, drop-drop}
+use Rattle.std.proofs.Common.{◌≡◌, inl, ℕ, suc, ◌+◌, ◌-◌, ◌<◌, ◌≤◌, arith, refl, ◌∙◌, ap, sym, subst, List, [], ◌∷◌, ◌++◌, true, Option, Some, None, length, take, drop, get_or, All, append-nil}
+use Rattle.std.proofs.lemmas.List.{get_or-take, get_or-drop, length-append, length-drop, length-take-le}
 use Rattle.std.proofs.lemmas.List.Elements.{All-cons}
-use Rattle.cax64_address.specs.Offset.{fits_i32}
-use Rattle.cax64_machine_code.specs.Address.{address_of, modulo_64_bits}
-use Rattle.cax64_machine_code.specs.Fields.{s32}
 use Rattle.cax64_machine_code.specs.Reading.{read}
 use Rattle.cax64_machine_code.specs.declared.reading.Place.{Place}
 use Rattle.cax64_machine_code.specs.declared.reading.Place.TheVariants.{Reg, Mem, Rip}
 use Rattle.cax64_machine_code.specs.declared.reading.Reading.{Reading}
-use Rattle.cax64_machine_code.proofs.Whole.{read_more}
 use Rattle.cax64_sink.specs.declared.DeferredTarget.{DeferredTarget}
 use Rattle.cax64_sink.specs.declared.DeferredTarget.TheVariants as target
-use Rattle.x64_code_buffer.specs.Field.{if_i32, patched, stored_at}
-use Rattle.x64_code_buffer.specs.Filled.{imm_behind, field_place, Unpatched, ReadsEach, EachUnpatched, field_at, fields_from, places_told, HasAddress, Leads, SettledBy, SettledAs, uses_behind, Settled}
-use Rattle.x64_code_buffer.specs.Use.{Use, patched_at, links, IsOutside, AreApart, EachApart, IsPatched}
-use Rattle.x64_code_buffer.proofs.Fields.{stored_is, four_at}
-use Rattle.x64_code_buffer.proofs.Relocated.{four, is_some_rip, Relocated, relocated}
+use Rattle.x64_code_buffer.specs.Filled.{imm_behind, field_place, ReadsEach, field_at, fields_from, places_told}
+use Rattle.x64_code_buffer.specs.Use.{Use, links, IsOutside, AreApart, EachApart}
+use Rattle.x64_code_buffer.proofs.Relocated.{is_some_rip, Relocated, relocated}
 
 pub some_same : {A : Type 0} (a b : A) → ◌≡◌ {A = Option A} (Some a) (Some b) → a ≡ b
 some_same a b e = cc
@@ -109,6 +99,7 @@ each_apart (r ∷ rs) at us a h told =
     by_target p (target.Label l) us fits e later = (apart_below (at + r.length) (p, target.Label l) us fits (subst (Above (at + r.length)) (sym e) (fields_above (at + r.length) rs)), later)
     by_target p (target.Constant c) us fits e later = (apart_below (at + r.length) (p, target.Constant c) us fits (subst (Above (at + r.length)) (sym e) (fields_above (at + r.length) rs)), later)
     by_target p target.None us fits e later = later
+
     by_place : (o : Option Place) (us : List Use) → (is_some_rip o ≡ true → field_place r + 4 ≤ r.length) → ((us' : List Use) → places_told us' ≡ fields_from (at + r.length) rs → EachApart (links us')) → places_told us ≡ field_at at r o ++ fields_from (at + r.length) rs → EachApart (links us)
     by_place None us fits later e = later us e
     by_place (Some (Reg view)) us fits later e = later us e

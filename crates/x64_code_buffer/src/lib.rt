@@ -1,5 +1,5 @@
-//! A code buffer with labels: it takes instructions, knows labels and constants, and patches each relative field once all
-//! is bound.
+//! A code buffer with labels: it takes instructions, knows labels and constants, and patches each relative field once
+//! all is bound.
 #![tactic(auto)]
 
 mod bindings;
