@@ -102,7 +102,7 @@ rest_is f (operand.ReadWriteGprMem p size ∷ later) = gpr_mem_is f.read_write_g
 rest_is f (operand.ReadXmmMem p ∷ later) = xmm_mem_is f.read_xmm.settled f.read_xmm.enc p
 rest_is f (operand.Imm imm ∷ later) = rest_is f later
 
-imm_is : {R A B C D E F : Type 0} (f : Family A B C D E F) (operands : List (Operand R A B C D E F)) → imm_in (roles_of f operands) ≡ shape.imm_in operands
+pub imm_is : {R A B C D E F : Type 0} (f : Family A B C D E F) (operands : List (Operand R A B C D E F)) → imm_in (roles_of f operands) ≡ shape.imm_in operands
 imm_is f [] = refl
 imm_is f (operand.ReadGpr reg size ∷ later) = imm_is f later
 imm_is f (operand.ReadWriteGpr reg size ∷ later) = imm_is f later

@@ -5,6 +5,7 @@ ghost use Rattle.cax64_encoder.specs.Fault.{is_encodable, fault_of_meant};
 ghost use Rattle.cax64_encoder.specs.Instruction.{Meaning, can_encode_in, fault_in, len_in, notices_in, Adds, Leaves};
 ghost use Rattle.cax64_encoder.specs.Meant.{Meant, meant_of};
 ghost use Rattle.cax64_encoder.specs.Notices.{notice_count};
+ghost use Rattle.cax64_encoder.specs.Relative.{ReadsRelative};
 ghost use Rattle.cax64_machine_code.specs.Sequence.{IsFront};
 ghost use Rattle.cax64_machine_code.specs.declared.row.Row.{Row};
 ghost use Rattle.cax64_operand.specs.Visit.{OperandsRun};
@@ -77,7 +78,8 @@ pub trait Instruction {
         ensures room { HasRoom (S.state sink.old).byte_room (len_in (S.state sink.old) (meant self.now)) → HasRoom (S.state sink.old).notice_room (notices_in (S.state sink.old) (meant self.now)) → IsOk result }
         ensures byte_room { FallsBy (S.state sink.old).byte_room (S.state sink.new).byte_room (len_in (S.state sink.old) (meant self.now)) }
         ensures notice_room { FallsBy (S.state sink.old).notice_room (S.state sink.new).notice_room (notices_in (S.state sink.old) (meant self.now)) }
-        ensures most { len_in (S.state sink.old) (meant self.now) ≤ 13 };
+        ensures most { len_in (S.state sink.old) (meant self.now) ≤ 13 }
+        ensures relative { ReadsRelative (meant self.now (S.state sink.old).offsets) };
 }
 
 impl<I: RowAndOperands> Instruction for I {

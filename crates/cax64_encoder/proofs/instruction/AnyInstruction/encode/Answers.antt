@@ -1,5 +1,6 @@
 use Rattle.cax64_sink.proofs.Ends.{ran_keeps}
 use Rattle.cax64_encoder.proofs.Instructions.{run_adds, run_leaves, stays_in_front, run_error, run_enough, run_room, run_bytes_fall, run_notices_fall, len_most}
+use Rattle.cax64_encoder.proofs.Relatives.{meant_relative}
 use Rattle.cax64_encoder.proofs.instruction.AnyInstruction.encode.Goals as goal
 
 pub returns : goal.returns
@@ -16,4 +17,5 @@ returns g c =
       byte_room = run_bytes_fall meant c.put.ensures;
       notice_room = run_notices_fall meant c.put.ensures;
       most = len_most meant;
+      relative = meant_relative _ _ _ _ c.operands.ensures.shape;
     }

@@ -1,0 +1,115 @@
+//! Each growth of a buffer is refused in turn: it is as before, and a second try with memory gives the same bytes.
+
+use crate::making::{FIRST, POOL, call_to, code_of, compare_with, push};
+use cax64_encoder::instruction::Instruction;
+use cax64_sink::{Constant, Label, SinkError};
+use linked_list_allocator::LocalHeap;
+use std::alloc::{AllocError, Allocator, Global};
+use x64_code_buffer::{BindError, CodeBuffer};
+
+/// What takes memory until it is wanted.
+#[derive(Drop)]
+struct Filler<A: Allocator> {
+    held: Option<Vec<u8, A>>,
+    /// How many calls of each kind were refused.
+    labels: usize,
+    pushes: usize,
+    constants: usize,
+}
+
+fn label_again<A: Allocator>(buffer: &mut CodeBuffer<A>, filler: &mut Filler<A>) -> Option<Label> {
+    let error = match buffer.new_label() {
+        Ok(label) => return Some(label),
+        Err(error) => error,
+    };
+    if error != SinkError::NoMemory {
+        return None;
+    }
+    filler.labels = filler.labels.saturating_add(1);
+    filler.held = None;
+    buffer.new_label().ok()
+}
+
+fn push_again<I: Instruction, A: Allocator>(
+    buffer: &mut CodeBuffer<A>,
+    filler: &mut Filler<A>,
+    inst: &I,
+) -> Option<()> {
+    let (bytes, notices) = (buffer.bytes().len(), buffer.notices().len());
+    let error = match push(buffer, inst) {
+        Ok(()) => return Some(()),
+        Err(error) => error,
+    };
+    let stays = buffer.bytes().len() == bytes && buffer.notices().len() == notices;
+    if error != SinkError::NoMemory || !stays {
+        return None;
+    }
+    filler.pushes = filler.pushes.saturating_add(1);
+    filler.held = None;
+    push(buffer, inst).ok()
+}
+
+fn constant_again<A: Allocator + Clone>(
+    buffer: &mut CodeBuffer<A>,
+    filler: &mut Filler<A>,
+) -> Option<()> {
+    let error = match buffer.bind_constant(Constant(7)) {
+        Ok(()) => return Some(()),
+        Err(error) => error,
+    };
+    if error != BindError::NoMemory || buffer.place_of(POOL).is_some() {
+        return None;
+    }
+    filler.constants = filler.constants.saturating_add(1);
+    filler.held = None;
+    buffer.bind_constant(Constant(7)).ok()
+}
+
+const CODE: [u8; 14] = [0xFF, 0x15, 8, 0, 0, 0, 0x0F, 0xC2, 0x05, 0, 0, 0, 0, 0];
+
+/// Whether the bytes are those of an undisturbed run.
+fn is_made<A: Allocator + Copy>(alloc: A, filler: &mut Filler<A>) -> Option<bool> {
+    let mut buffer = CodeBuffer::new(alloc);
+    let label = label_again(&mut buffer, filler)?;
+    push_again(&mut buffer, filler, &call_to(FIRST))?;
+    push_again(&mut buffer, filler, &compare_with(POOL))?;
+    constant_again(&mut buffer, filler)?;
+    buffer.bind(label).ok()?;
+    let code = code_of(buffer)?;
+    Some(code.as_slice() == CODE.as_slice())
+}
+
+/// How many calls of each kind were refused, over heaps that are filled ever less; None where a run gives other bytes.
+fn refusals(alloc: Global) -> Result<Option<(usize, usize, usize)>, AllocError> {
+    let mut labels: usize = 0;
+    let mut pushes: usize = 0;
+    let mut constants: usize = 0;
+    for free in 0..64usize {
+        let heap = LocalHeap::new(alloc, 4096)?;
+        let filled = 4096usize.saturating_sub(free.saturating_mul(16));
+        if let Ok(held) = Vec::with_capacity(&heap, filled) {
+            let mut filler = Filler {
+                held: Some(held),
+                labels: 0,
+                pushes: 0,
+                constants: 0,
+            };
+            if is_made(&heap, &mut filler) != Some(true) {
+                return Ok(None);
+            }
+            labels = labels.saturating_add(filler.labels);
+            pushes = pushes.saturating_add(filler.pushes);
+            constants = constants.saturating_add(filler.constants);
+        }
+    }
+    Ok(Some((labels, pushes, constants)))
+}
+
+#[test]
+fn each_growth_is_refused_in_turn(rt: HostRuntime) {
+    let refused = refusals(rt.alloc()).expect(&rt, "memory");
+    let (labels, pushes, constants) = refused.expect(&rt, "the same bytes");
+    assert!(rt; labels > 0);
+    assert!(rt; pushes > 0);
+    assert!(rt; constants > 0);
+}

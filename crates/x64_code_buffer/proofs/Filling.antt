@@ -1,0 +1,280 @@
+use Rattle.std.proofs.Common.{◌≡◌, ◌≢◌, ◌⊎◌, inl, inr, ℕ, suc, zero, ◌+◌, ◌-◌, ◌≤◌, arith, refl, ◌∙◌, ap, sym, List, [], ◌∷◌, ◌++◌, Option, Some, None, Result, Ok, Err, Bool, true, false, length, take, drop, append_assoc, append-nil}
+use Rattle.std.specs.Prelude.{if◌then◌else◌, is_ok, OnOk, OnErr}
+use Rattle.std.proofs.Math.Seq.{take-length}
+use Rattle.std.proofs.lemmas.Bool.{cases_lt}
+use Rattle.std.proofs.lemmas.List.{length-append, length-drop, take-append-le, drop-append-le}
+use Rattle.cax64_address.specs.declared.amode.Amode.{Amode}
+use Rattle.cax64_address.specs.declared.amode.Amode.TheVariants.{ImmReg, ImmRegRegShift, RipRelative}
+use Rattle.cax64_encoder.specs.Instruction.{AddsInstruction}
+use Rattle.cax64_encoder.specs.Meant.{Meant}
+use Rattle.cax64_encoder.specs.Notices.{notices_of, trap_notice}
+use Rattle.cax64_encoder.specs.Relative.{ReadsRelative, relative_in, unsettled}
+use Rattle.cax64_machine_code.specs.Line.{imm_bytes}
+use Rattle.cax64_machine_code.specs.Reading.{Parts, read}
+use Rattle.cax64_machine_code.specs.Rows.{line_of}
+use Rattle.cax64_machine_code.specs.Sequence.{ReadsAs, read_all, total_length}
+use Rattle.cax64_machine_code.specs.declared.line.ImmField.{ImmField}
+use Rattle.cax64_machine_code.specs.declared.reading.Place.{Place}
+use Rattle.cax64_machine_code.specs.declared.reading.Place.TheVariants.{Reg, Mem, Rip}
+use Rattle.cax64_machine_code.specs.declared.reading.Reading.{Reading}
+use Rattle.cax64_sink.specs.Call.{Action, Step, bytes_of, notice_of}
+use Rattle.cax64_sink.specs.Sink.{State}
+use Rattle.cax64_sink.specs.declared.Constant.{Constant}
+use Rattle.cax64_sink.specs.declared.DeferredTarget.{DeferredTarget}
+use Rattle.cax64_sink.specs.declared.DeferredTarget.TheVariants as target
+use Rattle.cax64_sink.specs.declared.Label.{Label}
+use Rattle.cax64_sink.specs.declared.Notice.{Notice}
+use Rattle.cax64_sink.specs.declared.Notice.TheVariants.{Trap, Target}
+use Rattle.cax64_sink.specs.declared.SinkError.{SinkError}
+use Rattle.cax64_sink.specs.declared.TrapCode.{TrapCode}
+use Rattle.x64_code_buffer.specs.Binding.{AddsBinding}
+use Rattle.x64_code_buffer.specs.Filled.{imm_behind, field_place, Unpatched, ReadsEach, EachUnpatched, field_at, fields_from, Begins, places_told, Filled, FilledOn}
+use Rattle.x64_code_buffer.specs.Use.{Use, uses_of}
+
+-- One reading more.
+
+nothing_left : (b : List ℕ) → drop (length b) b ≡ []
+nothing_left [] = refl
+nothing_left (byte ∷ b) = nothing_left b
+
+last_read : (a b : List ℕ) (r : Reading) → a ≡ [] → ((rest : List ℕ) → read (b ++ rest) ≡ Some r) → r.length ≡ length b → 1 ≤ r.length → ReadsEach (r ∷ []) (a ++ b)
+last_read a b r none reads len least =
+    let whole : take r.length b ≡ b = ap (λ (n : ℕ). take n b) len ∙ take-length b in
+    let left : drop r.length b ≡ [] = ap (λ (n : ℕ). drop n b) len ∙ nothing_left b in
+    rw (none, whole) (reads, least, omega arith, left)
+
+pub reads_more : (rs : List Reading) (a b : List ℕ) (r : Reading) → ReadsEach rs a → ((rest : List ℕ) → read (b ++ rest) ≡ Some r) → r.length ≡ length b → 1 ≤ r.length → ReadsEach (rs ++ r ∷ []) (a ++ b)
+reads_more [] a b r h reads len least = last_read a b r h reads len least
+reads_more (q ∷ rs) a b r h reads len least =
+    let within : q.length ≤ length a = h.2 in
+    let more : ReadsEach (rs ++ r ∷ []) (drop q.length a ++ b) = reads_more rs (drop q.length a) b r h.3 reads len least in
+    rw (take-append-le q.length a b within, drop-append-le q.length a b within) (h.0, h.1, omega (arith, length-append a b), more)
+
+pub reads_total : (rs : List Reading) (a : List ℕ) → ReadsEach rs a → length a ≡ total_length rs
+reads_total [] a h = ap length h
+reads_total (q ∷ rs) a h = omega (arith, h.2, length-drop q.length a, reads_total rs (drop q.length a) h.3)
+
+-- Unpatched places.
+
+unpatched_by : {M : Type 0} (memory : Option (Amode M)) (imm : ImmField) (place : Option Place) → relative_in place ≡ unsettled memory imm → Unpatched (imm_bytes imm) place
+unpatched_by memory imm None h = tt
+unpatched_by memory imm (Some (Reg view)) h = tt
+unpatched_by memory imm (Some (Mem base index disp)) h = tt
+unpatched_by None imm (Some (Rip disp)) h = cc
+unpatched_by (Some (ImmReg base simm32 trap)) imm (Some (Rip disp)) h = cc
+unpatched_by (Some (ImmRegRegShift base index scale simm32 trap)) imm (Some (Rip disp)) h = cc
+unpatched_by (Some (RipRelative target)) imm (Some (Rip disp)) h = cc
+
+unpatched_more : (rs : List Reading) (r : Reading) → EachUnpatched rs → Unpatched (imm_behind r) r.place → EachUnpatched (rs ++ r ∷ [])
+unpatched_more [] r h k = (k, tt)
+unpatched_more (q ∷ rs) r h k = (h.0, unpatched_more rs r h.1 k)
+
+-- Fields.
+
+fields_more : (at : ℕ) (rs : List Reading) (r : Reading) → fields_from at (rs ++ r ∷ []) ≡ fields_from at rs ++ field_at (at + total_length rs) r r.place
+fields_more at [] r =
+    let e : at + 0 ≡ at = omega arith in
+    rw (e, append-nil (field_at at r r.place)) refl
+fields_more at (q ∷ rs) r =
+    let e : at + q.length + total_length rs ≡ at + (q.length + total_length rs) = omega arith in
+    ap (λ (z : List ℕ). field_at at q q.place ++ z) (fields_more (at + q.length) rs r ∙ ap (λ (n : ℕ). fields_from (at + q.length) rs ++ field_at n r r.place) e)
+    ∙ sym (append_assoc (field_at at q q.place) (fields_from (at + q.length) rs) (field_at (at + (q.length + total_length rs)) r r.place))
+
+uses_more : (ns ms : List Notice) → places_told (uses_of (ns ++ ms)) ≡ places_told (uses_of ns) ++ places_told (uses_of ms)
+uses_more [] ms = refl
+uses_more (Trap at code ∷ ns) ms = uses_more ns ms
+uses_more (Target at target ∷ ns) ms = ap (λ (z : List ℕ). at ∷ z) (uses_more ns ms)
+
+no_use : (trap : Option TrapCode) (at : ℕ) → uses_of (trap_notice trap at) ≡ []
+no_use None at = refl
+no_use (Some code) at = refl
+
+told_by : {M : Type 0} (memory : Option (Amode M)) (imm : ImmField) (place : Option Place) (at : ℕ) (r : Reading) → relative_in place ≡ unsettled memory imm → places_told (uses_of (notices_of memory at r)) ≡ field_at at r place
+told_by None imm None at r h = refl
+told_by None imm (Some (Reg view)) at r h = refl
+told_by None imm (Some (Mem base index disp)) at r h = refl
+told_by None imm (Some (Rip disp)) at r h = cc
+told_by (Some (ImmReg base simm32 trap)) imm None at r h = ap places_told (no_use trap at)
+told_by (Some (ImmReg base simm32 trap)) imm (Some (Reg view)) at r h = ap places_told (no_use trap at)
+told_by (Some (ImmReg base simm32 trap)) imm (Some (Mem b i disp)) at r h = ap places_told (no_use trap at)
+told_by (Some (ImmReg base simm32 trap)) imm (Some (Rip disp)) at r h = cc
+told_by (Some (ImmRegRegShift base index scale simm32 trap)) imm None at r h = ap places_told (no_use trap at)
+told_by (Some (ImmRegRegShift base index scale simm32 trap)) imm (Some (Reg view)) at r h = ap places_told (no_use trap at)
+told_by (Some (ImmRegRegShift base index scale simm32 trap)) imm (Some (Mem b i disp)) at r h = ap places_told (no_use trap at)
+told_by (Some (ImmRegRegShift base index scale simm32 trap)) imm (Some (Rip disp)) at r h = cc
+told_by (Some (RipRelative target)) imm None at r h = cc
+told_by (Some (RipRelative target)) imm (Some (Reg view)) at r h = cc
+told_by (Some (RipRelative target)) imm (Some (Mem b i disp)) at r h = cc
+told_by (Some (RipRelative target)) imm (Some (Rip disp)) at r h =
+    let e : at + (r.length - r.tail - imm_behind r) + 1 ≡ at + field_place r = omega arith in
+    ap (λ (n : ℕ). n ∷ []) e
+
+-- Places where a reading begins.
+
+begins_more : (at : ℕ) (rs : List Reading) (r : Reading) (place : ℕ) → Begins at rs place → Begins at (rs ++ r ∷ []) place
+begins_more at [] r place h = absurd h
+begins_more at (q ∷ rs) r place (inl h) = inl h
+begins_more at (q ∷ rs) r place (inr h) = inr (begins_more (at + q.length) rs r place h)
+
+begins_last : (at : ℕ) (rs : List Reading) (r : Reading) (place : ℕ) → place ≡ at + total_length rs → Begins at (rs ++ r ∷ []) place
+begins_last at [] r place h = inl (omega arith)
+begins_last at (q ∷ rs) r place h = inr (begins_last (at + q.length) rs r place (omega arith))
+
+-- A buffer that stays filled.
+
+pub stays : (readings : List Reading) (n : ℕ) (s t : State) (old new : DeferredTarget → Option ℕ) (more : List ℕ) → t.bytes ≡ s.bytes ++ more → places_told (uses_of t.notices) ≡ places_told (uses_of s.notices) → ((target : DeferredTarget) → new target ≡ old target) → Filled readings n s old → Filled readings n t new
+stays readings n s t old new more bytes told same h =
+    let within : n ≤ length s.bytes = h.within in
+    let len : length t.bytes ≡ length s.bytes + length more = ap length bytes ∙ length-append s.bytes more in
+    let front : take n t.bytes ≡ take n s.bytes = ap (take n) bytes ∙ take-append-le n s.bytes more within in
+    record {
+      within = omega arith;
+      reads = rw front h.reads;
+      unpatched = h.unpatched;
+      told = told ∙ h.told;
+      bound = λ target place e. let b = h.bound target place (sym (same target) ∙ e) in (b.0, omega (arith, b.1));
+    }
+
+-- An instruction at the end.
+
+pub filled_on : {M : Type 0} (readings : List Reading) (s t : State) (old new : DeferredTarget → Option ℕ) (added : List ℕ) (meant : Parts) (memory : Option (Amode M)) (reads : ReadsAs meant added) → t.bytes ≡ s.bytes ++ added → t.notices ≡ s.notices ++ notices_of memory (length s.bytes) reads.reading → relative_in meant.place ≡ unsettled memory (line_of meant.row).imm → ((target : DeferredTarget) → new target ≡ old target) → Filled readings (length s.bytes) s old → FilledOn meant readings t new
+filled_on readings s t old new added meant memory reads bytes notices relative same h =
+    let r = reads.reading in
+    let len : length t.bytes ≡ length s.bytes + length added = ap length bytes ∙ length-append s.bytes added in
+    let before : ReadsEach readings s.bytes = rw (take-length s.bytes) at h.reads in
+    let total : length s.bytes ≡ total_length readings = reads_total readings s.bytes before in
+    let whole : take (length t.bytes) t.bytes ≡ s.bytes ++ added = take-length t.bytes ∙ bytes in
+    let row : r.row ≡ meant.row = ap (λ (p : Parts). p.row) reads.same in
+    let place : r.place ≡ meant.place = ap (λ (p : Parts). p.place) reads.same in
+    let is : relative_in r.place ≡ unsettled memory (line_of r.row).imm = ap relative_in place ∙ relative ∙ ap (λ z. unsettled memory (line_of z).imm) (sym row) in
+    let field : places_told (uses_of (notices_of memory (length s.bytes) r)) ≡ field_at (0 + total_length readings) r r.place =
+    told_by memory (line_of r.row).imm r.place (length s.bytes) r is ∙ ap (λ (n : ℕ). field_at n r r.place) (omega arith) in
+    record {
+      reading = r;
+      same = reads.same;
+      filled = record {
+        within = omega arith;
+        reads = rw whole (reads_more readings s.bytes added r before reads.reads reads.length reads.least);
+        unpatched = unpatched_more readings r h.unpatched (unpatched_by memory (line_of r.row).imm r.place is);
+        told = ap (λ z. places_told (uses_of z)) notices ∙ uses_more s.notices (notices_of memory (length s.bytes) r) ∙ ap (λ z. z ++ places_told (uses_of (notices_of memory (length s.bytes) r))) h.told ∙ ap (λ z. fields_from 0 readings ++ z) field ∙ sym (fields_more 0 readings r);
+        bound = λ target p e. let b = h.bound target p (sym (same target) ∙ e) in (inl (begun readings r p (length s.bytes) total b.1 b.0), omega (arith, b.1));
+      };
+    }
+  where
+    begun : (readings : List Reading) (r : Reading) (p n : ℕ) → n ≡ total_length readings → p ≤ n → Begins 0 readings p ⊎ (n ≤ p) → Begins 0 (readings ++ r ∷ []) p
+    begun readings r p n total low (inl h) = begins_more 0 readings r p h
+    begun readings r p n total low (inr h) = begins_last 0 readings r p (omega arith)
+
+-- What is filled reads, and nothing is left.
+
+pub one_read : (b : List ℕ) (n : ℕ) → n ≤ length b → take n b ++ drop n b ≡ b
+one_read b zero h = refl
+one_read [] (suc n) h = refl
+one_read (byte ∷ b) (suc n) h = ap (λ (z : List ℕ). byte ∷ z) (one_read b n (omega arith))
+
+pub all_read : (rs : List Reading) (b : List ℕ) → ReadsEach rs b → read_all b (length rs) ≡ Some (rs, [])
+unfolding read_all
+all_read [] b h = rw h refl
+all_read (r ∷ rs) b h =
+    let first : read b ≡ Some r = ap read (sym (one_read b r.length h.2)) ∙ h.0 (drop r.length b) in
+    rw (first, all_read rs (drop r.length b) h.3) refl
+
+-- A binding more.
+
+same_number : (n m : ℕ) → (n ≡ m) ⊎ (n ≢ m)
+same_number n m = elim (cases_lt n m) as (λ _. (n ≡ m) ⊎ (n ≢ m)) [
+  | inl h ↦ inr (λ e. omega arith)
+  | inr h ↦ elim (cases_lt m n) as (λ _. (n ≡ m) ⊎ (n ≢ m)) [ inl k ↦ inr (λ e. omega arith) | inr k ↦ inl (omega arith) ]
+]
+
+same_label : (a b : Label) → (a.0 ≡ b.0) ⊎ (a.0 ≢ b.0) → ◌≡◌ {A = DeferredTarget} (target.Label a) (target.Label b) ⊎ (◌≡◌ {A = DeferredTarget} (target.Label a) (target.Label b) → ⊥)
+same_label a b (inl h) = let e : a ≡ b = ap (λ (n : ℕ). record { 0 = n }) h in inl (ap target.Label e)
+same_label a b (inr h) = inr (λ e. let f : a ≡ b = cc in h (ap (λ (z : Label). z.0) f))
+
+same_constant : (a b : Constant) → (a.0 ≡ b.0) ⊎ (a.0 ≢ b.0) → ◌≡◌ {A = DeferredTarget} (target.Constant a) (target.Constant b) ⊎ (◌≡◌ {A = DeferredTarget} (target.Constant a) (target.Constant b) → ⊥)
+same_constant a b (inl h) = let e : a ≡ b = ap (λ (n : ℕ). record { 0 = n }) h in inl (ap target.Constant e)
+same_constant a b (inr h) = inr (λ e. let f : a ≡ b = cc in h (ap (λ (z : Constant). z.0) f))
+
+same_target : (a b : DeferredTarget) → (a ≡ b) ⊎ (a ≢ b)
+same_target (target.Label a) (target.Label b) = same_label a b (same_number a.0 b.0)
+same_target (target.Label a) (target.Constant b) = inr (λ e. cc)
+same_target (target.Label a) target.None = inr (λ e. cc)
+same_target (target.Constant a) (target.Label b) = inr (λ e. cc)
+same_target (target.Constant a) (target.Constant b) = same_constant a b (same_number a.0 b.0)
+same_target (target.Constant a) target.None = inr (λ e. cc)
+same_target target.None (target.Label b) = inr (λ e. cc)
+same_target target.None (target.Constant b) = inr (λ e. cc)
+same_target target.None target.None = inl refl
+
+some_same : (a b : ℕ) → ◌≡◌ {A = Option ℕ} (Some a) (Some b) → a ≡ b
+some_same a b e = cc
+
+pub bound_more : (readings : List Reading) (n : ℕ) (s : State) (old new : DeferredTarget → Option ℕ) (t : DeferredTarget) → AddsBinding t (length s.bytes) old new → Filled readings n s old → Filled readings n s new
+bound_more readings n s old new t adds h = record {
+  within = h.within;
+  reads = h.reads;
+  unpatched = h.unpatched;
+  told = h.told;
+  bound = λ other place e. by_target other place e (same_target other t);
+}
+  where
+    by_target : (other : DeferredTarget) (place : ℕ) → new other ≡ Some place → (other ≡ t) ⊎ (other ≢ t) → (Begins 0 readings place ⊎ (n ≤ place)) × (place ≤ length s.bytes)
+    by_target other place e (inl k) =
+        let p : length s.bytes ≡ place = some_same _ _ (sym adds.bound ∙ ap new (sym k) ∙ e) in
+        let within : n ≤ length s.bytes = h.within in
+        (inr (omega arith), omega arith)
+    by_target other place e (inr k) = h.bound other place (sym (adds.others other k) ∙ e)
+
+pub bound_if : {E : Type 0} (readings : List Reading) (n : ℕ) (s : State) (old new : DeferredTarget → Option ℕ) (t : DeferredTarget) (r : Result (Unit {0}) E) → OnOk r (AddsBinding t (length s.bytes) old new) → OnErr r ((other : DeferredTarget) → new other ≡ old other) → Filled readings n s old → Filled readings n s new
+bound_if readings n s old new t (Ok tt) adds same h = bound_more readings n s old new t adds h
+bound_if readings n s old new t (Err e) adds same h = stays readings n s s old new [] (sym (append-nil s.bytes)) refl same h
+
+-- after a put, or a trap that is told
+put_bytes : {E : Type 0} (r : Result (Unit {0}) E) (a b : List ℕ) → (if is_ok r then a ++ b else a) ≡ a ++ (if is_ok r then b else [])
+put_bytes (Ok tt) a b = refl
+put_bytes (Err e) a b = sym (append-nil a)
+
+told_same : {E : Type 0} (r : Result (Unit {0}) E) (records : Bool) (a b : List Notice) → uses_of b ≡ [] → places_told (uses_of (if is_ok r then (if records then a ++ b else a) else a)) ≡ places_told (uses_of a)
+told_same (Ok tt) true a b e = uses_more a b ∙ ap (λ (z : List Use). places_told (uses_of a) ++ places_told z) e ∙ append-nil (places_told (uses_of a))
+told_same (Ok tt) false a b e = refl
+told_same (Err x) records a b e = refl
+
+pub stepped : (act : Action) (readings : List Reading) (n : ℕ) (s t : State) (r : Result (Unit {0}) SinkError) (old new : DeferredTarget → Option ℕ) → ((at : ℕ) → uses_of (notice_of act at) ≡ []) → Step act s t r → ((target : DeferredTarget) → new target ≡ old target) → Filled readings n s old → Filled readings n t new
+stepped act readings n s t r old new none step same h =
+    stays readings n s t old new (if is_ok r then bytes_of act else []) (step.bytes ∙ put_bytes r s.bytes (bytes_of act))
+    (ap (λ z. places_told (uses_of z)) step.notices ∙ told_same r s.records s.notices (notice_of act (length s.bytes)) (none (length s.bytes))) same h
+
+pub stays_as : (readings : List Reading) (n : ℕ) (s t : State) (old new : DeferredTarget → Option ℕ) → t.bytes ≡ s.bytes → t.notices ≡ s.notices → ((target : DeferredTarget) → new target ≡ old target) → Filled readings n s old → Filled readings n t new
+stays_as readings n s t old new bytes notices same h = stays readings n s t old new [] (bytes ∙ sym (append-nil s.bytes)) (ap (λ z. places_told (uses_of z)) notices) same h
+
+-- An instruction that is put once there is room.
+
+pub adds_from : {M : Type 0} {m : Meant M} (s u t : State) → u.bytes ≡ s.bytes → u.notices ≡ s.notices → u.records ≡ s.records → AddsInstruction m u t → AddsInstruction m s t
+adds_from {m = m} s u t bytes notices records h =
+    let told : (if u.records then u.notices ++ notices_of m.memory (length u.bytes) h.reads.reading else u.notices) ≡ (if s.records then s.notices ++ notices_of m.memory (length s.bytes) h.reads.reading else s.notices) =
+    ap (λ (z : List ℕ). if u.records then u.notices ++ notices_of m.memory (length z) h.reads.reading else u.notices) bytes
+    ∙ ap (λ (z : List Notice). if u.records then z ++ notices_of m.memory (length s.bytes) h.reads.reading else z) notices
+    ∙ ap (λ (z : Bool). if z then s.notices ++ notices_of m.memory (length s.bytes) h.reads.reading else s.notices) records in
+    record {
+      added = h.added;
+      bytes = h.bytes ∙ ap (λ (z : List ℕ). z ++ h.added) bytes;
+      are_bytes = h.are_bytes;
+      reads = h.reads;
+      notices = h.notices ∙ told;
+      shortest = h.shortest;
+      length = h.length;
+      exact = h.exact;
+    }
+
+pub if_ok : {E P Q : Type 0} (r : Result (Unit {0}) E) → (P → Q) → OnOk r P → OnOk r Q
+if_ok (Ok tt) f h = f h
+if_ok (Err e) f h = tt
+
+pub pushed : {M : Type 0} (m : Meant M) (readings : List Reading) (s t : State) (old new : DeferredTarget → Option ℕ) → s.records ≡ true → ReadsRelative m → ((target : DeferredTarget) → new target ≡ old target) → Filled readings (length s.bytes) s old → AddsInstruction m s t → FilledOn m.parts readings t new
+pushed m readings s t old new records relative same h adds =
+    let told : t.notices ≡ s.notices ++ notices_of m.memory (length s.bytes) adds.reads.reading = adds.notices ∙ ap (λ (z : Bool). if z then s.notices ++ notices_of m.memory (length s.bytes) adds.reads.reading else s.notices) records in
+    filled_on readings s t old new adds.added m.parts m.memory adds.reads adds.bytes told relative same h
+
+pub on_err : {E P : Type 0} (r : Result (Unit {0}) E) → P → OnErr r P
+on_err (Ok tt) h = tt
+on_err (Err e) h = h

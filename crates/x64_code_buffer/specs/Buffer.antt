@@ -1,0 +1,34 @@
+-- What a contract sees of a `CodeBuffer`.
+use Rattle.std.specs.Prelude.{◌≡◌, ℕ, Option, List, length}
+use Rattle.cax64_machine_code.specs.declared.reading.Reading.{Reading}
+use Rattle.cax64_sink.specs.Recorder.{recorder_state}
+use Rattle.cax64_sink.specs.Room.{FallsBy}
+use Rattle.cax64_sink.specs.Sink.{State}
+use Rattle.cax64_sink.specs.declared.DeferredTarget.{DeferredTarget}
+use Rattle.x64_code_buffer.specs.Binding.{place_bound}
+use Rattle.x64_code_buffer.specs.Filled.{Filled}
+use Rattle.x64_code_buffer.specs.declared.buffer.CodeBuffer.{CodeBuffer}
+
+-- it as a sink
+abbrev pub buffer_state : {A : Type 0} → CodeBuffer A → State
+buffer_state b = recorder_state b.recorder
+
+-- how many labels it gave
+abbrev pub label_count : {A : Type 0} → CodeBuffer A → ℕ
+label_count b = length b.bindings.labels.items
+
+-- the place that a target is bound to
+abbrev pub places_of : {A : Type 0} → CodeBuffer A → DeferredTarget → Option ℕ
+places_of b target = place_bound b.bindings target
+
+-- with whatever the old one was filled, the new one is
+abbrev pub StaysFilled : {A : Type 0} → CodeBuffer A → CodeBuffer A → Type 0
+StaysFilled old new = (readings : List Reading) (n : ℕ) → Filled readings n (buffer_state old) (places_of old) → Filled readings n (buffer_state new) (places_of new)
+
+-- Bytes, notices and offsets are as before, and the rooms no smaller.
+pub record AsBefore (old new : State) : Type 0 where
+  pub bytes : new.bytes ≡ old.bytes
+  pub notices : new.notices ≡ old.notices
+  pub offsets : new.offsets ≡ old.offsets
+  pub byte_room : FallsBy old.byte_room new.byte_room 0
+  pub notice_room : FallsBy old.notice_room new.notice_room 0

@@ -1,0 +1,8 @@
+-- What the clauses of public functions say.
+pub mod Field
+pub mod Binding
+pub mod Use
+pub mod Filled
+pub mod Buffer
+-- Steps of the proofs.
+pub mod Patching

@@ -1,0 +1,106 @@
+//! What labels and constants are bound to.
+
+ghost use Rattle.std.specs.Prelude.{◌≡◌, ◌↔◌, ◌+◌, ◌⊎◌, ◌≤◌, Some, None, Ok, Err, IfOk, OnOk, OnErr, MatchOption, if◌then◌else◌, is_ok, length, vec_len};
+ghost use Rattle.std.below.core.specs.declared.int.u32.TheConstants.{MAX};
+ghost use Rattle.x64_code_buffer.specs.declared.errors.BindError.{BindError};
+ghost use Rattle.cax64_sink.specs.declared.SinkError.{SinkError};
+
+use crate::errors::BindError;
+use cax64_sink::{Constant, DeferredTarget, Label, SinkError};
+use std::alloc::Allocator;
+use std::collections::HashMap;
+use std::hash::{BuildHasherDefault, FoldHasher};
+
+/// The places of the labels that were given, by number, and of the constants that are bound.
+#[derive(Drop)]
+pub struct Bindings<A: Allocator> {
+    labels: Vec<Option<usize>, A>,
+    constants: HashMap<u32, usize, BuildHasherDefault<FoldHasher>, A>,
+    ghost few: { vec_len labels ≤ MAX },
+}
+
+impl<A: Allocator + Copy> Bindings<A> {
+    ghost use Rattle.x64_code_buffer.specs.Binding.{place_bound};
+    ghost use Rattle.cax64_sink.specs.declared.DeferredTarget.{DeferredTarget};
+
+    /// No label and no constant. Takes no memory.
+    pub fn new(alloc: A) -> Self
+        ensures places { (target : DeferredTarget) → place_bound result target ≡ None }
+        ensures labels { length result.labels.items ≡ 0 }
+    {
+        Bindings {
+            labels: Vec::new(alloc),
+            constants: HashMap::new(alloc),
+        }
+    }
+}
+
+impl<A: Allocator> Bindings<A> {
+    ghost use Rattle.x64_code_buffer.specs.Binding.{place_bound, SamePlaces, AddsBinding, bind_answer};
+    ghost use Rattle.cax64_sink.specs.declared.DeferredTarget.{DeferredTarget};
+
+    /// The place that a target is bound to.
+    pub fn place_of(&self, target: DeferredTarget) -> Option<usize>
+        ensures { result ≡ place_bound self.now target }
+    {
+        match target {
+            DeferredTarget::Label(Label(number)) => *self.labels.get(number as usize)?,
+            DeferredTarget::Constant(Constant(key)) => self.constants.get(&key).copied(),
+            DeferredTarget::None => None,
+        }
+    }
+
+    /// The next label, with a place for its binding.
+    pub fn new_label(&mut self) -> Result<Label, SinkError>
+        ensures number { IfOk result (λ label. label.0 ≡ length self.old.labels.items) }
+        ensures count { length self.new.labels.items ≡ length self.old.labels.items + (if is_ok result then 1 else 0) }
+        ensures full { (result ≡ Err SinkError.Full) ↔ (length self.old.labels.items ≡ u32.MAX) }
+        ensures places { SamePlaces (place_bound self.old) (place_bound self.new) }
+    {
+        if self.labels.len() == u32::MAX as usize {
+            return Err(SinkError::Full);
+        }
+        let label = Label(self.labels.len() as u32);
+        self.labels.push(None).map_err(|_| SinkError::NoMemory)?;
+        Ok(label)
+    }
+
+    /// Binds a label that was given to a place.
+    pub fn bind(&mut self, label: Label, place: usize) -> Result<(), BindError>
+        ensures answer { result ≡ bind_answer (length self.old.labels.items) label.0 (place_bound self.old (DeferredTarget.Label label)) }
+        ensures binds { OnOk result (AddsBinding (DeferredTarget.Label label) place (place_bound self.old) (place_bound self.new)) }
+        ensures unchanged { OnErr result (SamePlaces (place_bound self.old) (place_bound self.new)) }
+        ensures labels { length self.new.labels.items ≡ length self.old.labels.items }
+    {
+        let number = label.0 as usize;
+        if number >= self.labels.len() {
+            return Err(BindError::Unknown);
+        }
+        if self.labels[number].is_some() {
+            return Err(BindError::Twice);
+        }
+        self.labels[number] = Some(place);
+        Ok(())
+    }
+}
+
+impl<A: Allocator + Clone> Bindings<A> {
+    ghost use Rattle.x64_code_buffer.specs.Binding.{place_bound, SamePlaces, AddsBinding};
+    ghost use Rattle.cax64_sink.specs.declared.DeferredTarget.{DeferredTarget};
+
+    /// Binds a constant to a place.
+    pub fn bind_constant(&mut self, constant: Constant, place: usize) -> Result<(), BindError>
+        ensures answer { MatchOption (place_bound self.old (DeferredTarget.Constant constant)) ((result ≡ Ok tt) ⊎ (result ≡ Err BindError.NoMemory)) (λ _. result ≡ Err BindError.Twice) }
+        ensures binds { OnOk result (AddsBinding (DeferredTarget.Constant constant) place (place_bound self.old) (place_bound self.new)) }
+        ensures unchanged { OnErr result (SamePlaces (place_bound self.old) (place_bound self.new)) }
+        ensures labels { length self.new.labels.items ≡ length self.old.labels.items }
+    {
+        if self.constants.get(&constant.0).is_some() {
+            return Err(BindError::Twice);
+        }
+        match self.constants.insert(constant.0, place) {
+            Ok(_) => Ok(()),
+            Err(_) => Err(BindError::NoMemory),
+        }
+    }
+}

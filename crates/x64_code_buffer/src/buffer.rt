@@ -1,0 +1,254 @@
+//! The buffer, its labels and constants, and its end.
+
+ghost use Rattle.std.specs.Prelude.{◌≡◌, ◌↔◌, ◌+◌, ◌⊎◌, ◌≤◌, ℕ, [], Some, None, Ok, Err, IsOk, IsTrue, List, ◌∷◌, IfOk, IfErr, OnOk, OnErr, All, MatchOption, if◌then◌else◌, is_ok, length, slice_index};
+ghost use Rattle.std.specs.Int.{to_le_bytes, w16, w32, w64};
+ghost use Rattle.cax64_encoder.specs.Instruction.{can_encode_in, Adds};
+ghost use Rattle.cax64_machine_code.specs.declared.reading.Reading.{Reading};
+ghost use Rattle.cax64_sink.specs.Call.{Step, put, trap, target};
+ghost use Rattle.cax64_sink.specs.Keeps.{Keeps};
+ghost use Rattle.cax64_sink.specs.Recorder.{with_offset};
+ghost use Rattle.cax64_sink.specs.Room.{HasRoom, count};
+ghost use Rattle.cax64_sink.specs.declared.DeferredTarget.{DeferredTarget};
+ghost use Rattle.cax64_sink.specs.declared.SinkError.{SinkError};
+ghost use Rattle.x64_code_buffer.specs.declared.errors.BindError.{BindError};
+
+use crate::bindings::Bindings;
+use crate::errors::{BindError, FinishError};
+use crate::patch::patch_uses;
+use crate::refusal::first_refusal;
+use cax64_encoder::instruction::Instruction;
+use cax64_sink::{
+    CodeSink, Constant, DeferredTarget, KnownOffset, Label, Notice, Recorder, SinkError, TrapCode,
+};
+use std::alloc::Allocator;
+
+/// A recording sink that knows labels and constants.
+#[derive(Drop)]
+pub struct CodeBuffer<A: Allocator> {
+    recorder: Recorder<A>,
+    bindings: Bindings<A>,
+}
+
+impl<A: Allocator + Copy> CodeBuffer<A> {
+    ghost use Rattle.x64_code_buffer.specs.Buffer.{buffer_state, label_count, places_of};
+    ghost use Rattle.x64_code_buffer.specs.Filled.{Filled};
+
+    /// An empty buffer that knows no offset, gave no label and bound nothing. Takes no memory.
+    pub fn new(alloc: A) -> Self
+        ensures bytes { (buffer_state result).bytes ≡ [] }
+        ensures notices { (buffer_state result).notices ≡ [] }
+        ensures offsets { (key : ℕ) → (buffer_state result).offsets key ≡ None }
+        ensures byte_room { (buffer_state result).byte_room ≡ count 0 }
+        ensures notice_room { (buffer_state result).notice_room ≡ count 0 }
+        ensures labels { label_count result ≡ 0 }
+        ensures places { (target : DeferredTarget) → places_of result target ≡ None }
+        ensures filled { Filled [] 0 (buffer_state result) (places_of result) }
+    {
+        CodeBuffer {
+            recorder: Recorder::new(alloc),
+            bindings: Bindings::new(alloc),
+        }
+    }
+}
+
+impl<A: Allocator> CodeBuffer<A> {
+    ghost use Rattle.x64_code_buffer.specs.Binding.{SamePlaces, AddsBinding, bind_answer};
+    ghost use Rattle.x64_code_buffer.specs.Buffer.{AsBefore, StaysFilled, buffer_state, label_count, places_of};
+    ghost use Rattle.x64_code_buffer.specs.Filled.{Filled, FilledOn, Finished};
+    ghost use Rattle.x64_code_buffer.specs.Use.{uses_of, links, first_refusal, EachApart, IsOutside, IsPatched};
+
+    /// Makes `offset` known, or replaces its value. Takes no memory.
+    pub fn set_offset(&mut self, offset: KnownOffset, value: i32)
+        ensures state { buffer_state self.new ≡ with_offset offset value (buffer_state self.old) }
+        ensures labels { label_count self.new ≡ label_count self.old }
+        ensures places { SamePlaces (places_of self.old) (places_of self.new) }
+        ensures filled { StaysFilled self.old self.new }
+    {
+        self.recorder.set_offset(offset, value);
+    }
+
+    /// All bytes that were put, with each field as it was stored.
+    pub fn bytes(&self) -> &[u8]
+        ensures { result.now ≡ (buffer_state self.now).bytes }
+    {
+        self.recorder.bytes()
+    }
+
+    /// The notices in the order in which they were told.
+    pub fn notices(&self) -> &[Notice]
+        ensures { result.now ≡ (buffer_state self.now).notices }
+    {
+        self.recorder.notices()
+    }
+
+    /// The place that a label or a constant is bound to. A label takes constant time, and a constant as long as a hash map
+    /// takes to find a key.
+    pub fn place_of(&self, target: DeferredTarget) -> Option<usize>
+        ensures { result ≡ places_of self.now target }
+    {
+        self.bindings.place_of(target)
+    }
+
+    /// The next label: `Label(0)`, `Label(1)` and so on. Makes room for its place, so that [`bind`](Self::bind) takes no
+    /// memory. Takes constant time, over many labels.
+    pub fn new_label(&mut self) -> Result<Label, SinkError>
+        ensures number { IfOk result (λ label. label.0 ≡ label_count self.old) }
+        ensures labels { label_count self.new ≡ label_count self.old + (if is_ok result then 1 else 0) }
+        ensures full { (result ≡ Err SinkError.Full) ↔ (label_count self.old ≡ u32.MAX) }
+        ensures state { buffer_state self.new ≡ buffer_state self.old }
+        ensures places { SamePlaces (places_of self.old) (places_of self.new) }
+        ensures filled { StaysFilled self.old self.new }
+    {
+        self.bindings.new_label()
+    }
+
+    /// Binds a label to the present number of bytes. Takes no memory, and constant time.
+    pub fn bind(&mut self, label: Label) -> Result<(), BindError>
+        ensures answer { result ≡ bind_answer (label_count self.old) label.0 (places_of self.old (DeferredTarget.Label label)) }
+        ensures binds { OnOk result (AddsBinding (DeferredTarget.Label label) (length (buffer_state self.old).bytes) (places_of self.old) (places_of self.new)) }
+        ensures unchanged { OnErr result (SamePlaces (places_of self.old) (places_of self.new)) }
+        ensures labels { label_count self.new ≡ label_count self.old }
+        ensures state { buffer_state self.new ≡ buffer_state self.old }
+        ensures filled { StaysFilled self.old self.new }
+    {
+        let place = self.recorder.bytes().len();
+        self.bindings.bind(label, place)
+    }
+
+    /// Puts an instruction, and tells of its trap or target.
+    ///
+    /// It makes room for thirteen bytes and a notice first, so a refusal leaves all as it was but the rooms. Takes constant
+    /// time, over many instructions.
+    pub fn push<I: Instruction>(&mut self, inst: &I) -> Result<(), SinkError>
+        requires { IsTrue (can_encode_in (buffer_state self.old) (I.meant inst.now)) }
+        ensures adds { OnOk result (Adds (I.meant inst.now) (buffer_state self.old) (buffer_state self.new)) }
+        ensures unchanged { OnErr result (AsBefore (buffer_state self.old) (buffer_state self.new)) }
+        ensures error { IfErr result (λ e. e ≡ SinkError.NoMemory) }
+        ensures enough { HasRoom (buffer_state self.old).byte_room 13 → HasRoom (buffer_state self.old).notice_room 1 → IsOk result }
+        ensures keeps { Keeps (buffer_state self.old) (buffer_state self.new) }
+        ensures labels { label_count self.new ≡ label_count self.old }
+        ensures places { SamePlaces (places_of self.old) (places_of self.new) }
+        ensures filled { let meant = (I.meant inst.now (buffer_state self.old).offsets).parts in (readings : List Reading) → Filled readings (length (buffer_state self.old).bytes) (buffer_state self.old) (places_of self.old) → OnOk result (FilledOn meant readings (buffer_state self.new) (places_of self.new)) }
+        ensures refused { OnErr result (StaysFilled self.old self.new) }
+    {
+        self.recorder.reserve(13, 1)?;
+        inst.encode(&mut self.recorder)
+    }
+
+    /// Patches the field of each use of a label or a constant, in place, and gives the bytes. Takes no memory.
+    ///
+    /// It looks at all uses before it patches any, and the first, in the order told, that can't be patched decides the
+    /// refusal, which hands the buffer back as it was. Takes time in proportion to the uses, and for each use of a constant
+    /// as long as a hash map takes to find a key.
+    pub fn finish(self) -> Result<Vec<u8, A>, (CodeBuffer<A>, FinishError)>
+        ensures ok { IsOk result ↔ (first_refusal (places_of self) (buffer_state self).bytes (uses_of (buffer_state self).notices) ≡ None) }
+        ensures refused { IfErr result (λ e. first_refusal (places_of self) (buffer_state self).bytes (uses_of (buffer_state self).notices) ≡ Some e.1) }
+        ensures unchanged { IfErr result (λ e. e.0 ≡ self) }
+        ensures length { IfOk result (λ code. length code.items ≡ length (buffer_state self).bytes) }
+        ensures fields { EachApart (links (uses_of (buffer_state self).notices)) → IfOk result (λ code. All (IsPatched (places_of self) (buffer_state self).bytes code.items) (links (uses_of (buffer_state self).notices))) }
+        ensures others { (i : ℕ) → All (IsOutside i) (links (uses_of (buffer_state self).notices)) → IfOk result (λ code. slice_index code.items i ≡ slice_index (buffer_state self).bytes i) }
+        ensures finished { (readings : List Reading) (n : ℕ) → Filled readings n (buffer_state self) (places_of self) → IfOk result (λ code. Finished readings n (buffer_state self) (places_of self) code.items) }
+    {
+        let refusal = first_refusal(
+            &self.bindings,
+            self.recorder.bytes(),
+            self.recorder.notices(),
+        );
+        if let Some(error) = refusal {
+            return Err((self, error));
+        }
+        let CodeBuffer {
+            mut recorder,
+            bindings,
+        } = self;
+        patch_uses(&mut recorder, &bindings);
+        Ok(recorder.into_bytes())
+    }
+}
+
+impl<A: Allocator + Clone> CodeBuffer<A> {
+    ghost use Rattle.x64_code_buffer.specs.Binding.{SamePlaces, AddsBinding};
+    ghost use Rattle.x64_code_buffer.specs.Buffer.{StaysFilled, buffer_state, label_count, places_of};
+
+    /// Binds a constant, a key of the caller's, to the present number of bytes. That it is bound already is found before
+    /// memory is asked for. Takes as long as a hash map takes to insert a key.
+    pub fn bind_constant(&mut self, constant: Constant) -> Result<(), BindError>
+        ensures answer { MatchOption (places_of self.old (DeferredTarget.Constant constant)) ((result ≡ Ok tt) ⊎ (result ≡ Err BindError.NoMemory)) (λ _. result ≡ Err BindError.Twice) }
+        ensures binds { OnOk result (AddsBinding (DeferredTarget.Constant constant) (length (buffer_state self.old).bytes) (places_of self.old) (places_of self.new)) }
+        ensures unchanged { OnErr result (SamePlaces (places_of self.old) (places_of self.new)) }
+        ensures labels { label_count self.new ≡ label_count self.old }
+        ensures state { buffer_state self.new ≡ buffer_state self.old }
+        ensures filled { StaysFilled self.old self.new }
+    {
+        let place = self.recorder.bytes().len();
+        self.bindings.bind_constant(constant, place)
+    }
+}
+
+impl<A: Allocator> CodeSink for CodeBuffer<A> {
+    ghost use Rattle.x64_code_buffer.specs.Binding.{SamePlaces};
+    ghost use Rattle.x64_code_buffer.specs.Buffer.{StaysFilled, buffer_state, label_count, places_of};
+
+    ghost state = { buffer_state };
+
+    fn put1(&mut self, value: u8) -> Result<(), SinkError>
+        ensures step { Step (put (value ∷ [])) (buffer_state self.old) (buffer_state self.new) result }
+        ensures labels { label_count self.new ≡ label_count self.old }
+        ensures places { SamePlaces (places_of self.old) (places_of self.new) }
+        ensures filled { StaysFilled self.old self.new }
+    {
+        self.recorder.put1(value)
+    }
+
+    fn put2(&mut self, value: u16) -> Result<(), SinkError>
+        ensures step { Step (put (to_le_bytes w16 value)) (buffer_state self.old) (buffer_state self.new) result }
+        ensures labels { label_count self.new ≡ label_count self.old }
+        ensures places { SamePlaces (places_of self.old) (places_of self.new) }
+        ensures filled { StaysFilled self.old self.new }
+    {
+        self.recorder.put2(value)
+    }
+
+    fn put4(&mut self, value: u32) -> Result<(), SinkError>
+        ensures step { Step (put (to_le_bytes w32 value)) (buffer_state self.old) (buffer_state self.new) result }
+        ensures labels { label_count self.new ≡ label_count self.old }
+        ensures places { SamePlaces (places_of self.old) (places_of self.new) }
+        ensures filled { StaysFilled self.old self.new }
+    {
+        self.recorder.put4(value)
+    }
+
+    fn put8(&mut self, value: u64) -> Result<(), SinkError>
+        ensures step { Step (put (to_le_bytes w64 value)) (buffer_state self.old) (buffer_state self.new) result }
+        ensures labels { label_count self.new ≡ label_count self.old }
+        ensures places { SamePlaces (places_of self.old) (places_of self.new) }
+        ensures filled { StaysFilled self.old self.new }
+    {
+        self.recorder.put8(value)
+    }
+
+    fn add_trap(&mut self, code: TrapCode) -> Result<(), SinkError>
+        ensures step { Step (trap code) (buffer_state self.old) (buffer_state self.new) result }
+        ensures labels { label_count self.new ≡ label_count self.old }
+        ensures places { SamePlaces (places_of self.old) (places_of self.new) }
+        ensures filled { StaysFilled self.old self.new }
+    {
+        self.recorder.add_trap(code)
+    }
+
+    fn use_target(&mut self, place: DeferredTarget) -> Result<(), SinkError>
+        ensures step { Step (target place) (buffer_state self.old) (buffer_state self.new) result }
+        ensures labels { label_count self.new ≡ label_count self.old }
+        ensures places { SamePlaces (places_of self.old) (places_of self.new) }
+    {
+        self.recorder.use_target(place)
+    }
+
+    fn knows_offset(&self, offset: KnownOffset) -> bool {
+        self.recorder.knows_offset(offset)
+    }
+
+    fn known_offset(&self, offset: KnownOffset) -> i32 {
+        self.recorder.known_offset(offset)
+    }
+}

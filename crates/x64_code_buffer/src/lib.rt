@@ -1,0 +1,15 @@
+//! A code buffer with labels: it takes instructions, knows labels and constants, and patches each relative field once
+//! all is bound.
+#![tactic(auto)]
+
+mod bindings;
+mod buffer;
+mod errors;
+mod field;
+pub mod laws;
+mod patch;
+mod refusal;
+
+pub use buffer::CodeBuffer;
+pub use errors::{BindError, FinishError};
+pub use field::patched_field;
