@@ -5,12 +5,9 @@ use Rattle.std.specs.Int.{cast_unsigned, w8, w16, w32, w64}
 use Rattle.cax64_immediate.specs.declared.extension.Extension.{Extension}
 use Rattle.cax64_immediate.specs.declared.extension.Extension.TheVariants.{None, SignExtendQuad, SignExtendLong, SignExtendWord}
 
--- `0x` and the hexadecimal digits, in lower case and without leading zeros
-abbrev pub hexadecimal : ℕ → List ℕ
-hexadecimal n = codes "0x" ++ digits 16 false n
-
+-- `$0x` and the hexadecimal digits, in lower case and without leading zeros
 abbrev pub imm_text : ℕ → List ℕ
-imm_text n = codes "$" ++ hexadecimal n
+imm_text n = codes "$0x" ++ digits 16 false n
 
 -- an extension is none, or wider than an immediate of so many bits
 abbrev pub fits_extension : ℕ → Extension → Bool
