@@ -1,0 +1,6 @@
+-- What the clauses of public functions say.
+pub mod Names
+pub mod Mnemonic
+pub mod Style
+pub mod Operand
+pub mod Text
