@@ -4,3 +4,4 @@ pub mod Mnemonic
 pub mod Style
 pub mod Operand
 pub mod Text
+pub mod PrintedAlike

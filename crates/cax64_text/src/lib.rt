@@ -5,6 +5,7 @@
 
 pub mod head;
 pub mod instruction;
+pub mod laws;
 pub mod list;
 pub mod mnemonic;
 pub mod names;
