@@ -5,6 +5,7 @@ use crate::parts::{Plain, base, gpr, gpr_at, xmm, xmm_at};
 use arith::{mulxl_rvm, shlb_m1};
 use cax64_address::amode::Amode;
 use cax64_address::offset::{AmodeOffset, AmodeOffsetPlusKnownOffset};
+use cax64_address::operand::{GprMem, XmmMem};
 use cax64_address::text::Dialect;
 use cax64_immediate::{Extension, Imm8, Simm8, Simm16, Simm32};
 use cax64_operand::RowAndOperands;
@@ -67,6 +68,52 @@ fn stack() -> Amode<u8> {
     base(4, 9)
 }
 
+fn amode_text<A: Allocator + Copy>(alloc: A, amode: Amode<u8>) -> Result<String<A>, AllocError> {
+    if amode.nameable() {
+        amode.to_string_in(alloc, Dialect::Att)
+    } else {
+        Ok(String::new(alloc))
+    }
+}
+
+fn gpr_text<A: Allocator + Copy>(alloc: A, place: GprMem<u8, u8>) -> Result<String<A>, AllocError> {
+    if place.nameable() {
+        place.to_string(alloc, Size::Byte)
+    } else {
+        Ok(String::new(alloc))
+    }
+}
+
+fn gpr_text_xed<A: Allocator + Copy>(
+    alloc: A,
+    place: GprMem<u8, u8>,
+) -> Result<String<A>, AllocError> {
+    if place.nameable() {
+        place.to_string_xed(alloc, Size::Byte)
+    } else {
+        Ok(String::new(alloc))
+    }
+}
+
+fn xmm_text<A: Allocator + Copy>(alloc: A, place: XmmMem<u8, u8>) -> Result<String<A>, AllocError> {
+    if place.nameable() {
+        place.to_string(alloc)
+    } else {
+        Ok(String::new(alloc))
+    }
+}
+
+fn xmm_text_xed<A: Allocator + Copy>(
+    alloc: A,
+    place: XmmMem<u8, u8>,
+) -> Result<String<A>, AllocError> {
+    if place.nameable() {
+        place.to_string_xed(alloc)
+    } else {
+        Ok(String::new(alloc))
+    }
+}
+
 fn instruction_text<I: RowAndOperands, A: Allocator + Copy>(
     alloc: A,
     inst: &I,
@@ -108,16 +155,16 @@ impl Made {
             Made::Simm32 => Simm32::new(-2).to_string(alloc, Extension::SignExtendQuad),
             Made::Offset => AmodeOffset::new(-9).to_string_in(alloc, att),
             Made::LateOffset => LATE.to_string_in(alloc, xed),
-            _ => stack().to_string_in(alloc, att),
+            _ => amode_text(alloc, stack()),
         }
     }
 
     fn place<A: Allocator + Copy>(self, alloc: A) -> Result<String<A>, AllocError> {
         match self {
-            Made::GprMem => gpr(8).to_string(alloc, Size::Byte),
-            Made::GprMemXed => gpr_at(4, 9).to_string_xed(alloc, Size::Byte),
-            Made::XmmMem => xmm(8).to_string(alloc),
-            _ => xmm_at(4, 9).to_string_xed(alloc),
+            Made::GprMem => gpr_text(alloc, gpr(8)),
+            Made::GprMemXed => gpr_text_xed(alloc, gpr_at(4, 9)),
+            Made::XmmMem => xmm_text(alloc, xmm(8)),
+            _ => xmm_text_xed(alloc, xmm_at(4, 9)),
         }
     }
 
