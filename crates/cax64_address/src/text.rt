@@ -190,7 +190,13 @@ impl<R: AsReg> Amode<R> {
                 base.push_to(out, alloc, Some(Size::Quadword))?;
                 out.push_str(")")
             }
-            Amode::ImmRegRegShift { base, index, scale, simm32, .. } => {
+            Amode::ImmRegRegShift {
+                base,
+                index,
+                scale,
+                simm32,
+                ..
+            } => {
                 simm32.push_to(out, dialect)?;
                 push_indexed(out, alloc, dialect, base, *index.as_ref(), scale)
             }

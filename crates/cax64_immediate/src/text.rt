@@ -3,7 +3,7 @@
 ghost use Rattle.std.specs.Prelude.{◌≡◌, IsTrue, IfOk, Some, string_bytes};
 ghost use Rattle.cax64_immediate.specs.Text.{imm_text, fits_extension, extended8, extended16, extended32};
 
-use crate::{Extension, Imm16, Imm32, Imm64, Imm8, Simm16, Simm32, Simm8};
+use crate::{Extension, Imm8, Imm16, Imm32, Imm64, Simm8, Simm16, Simm32};
 use std::alloc::{AllocError, Allocator};
 use std::fmt;
 

@@ -15,7 +15,7 @@ use Rattle.cax64_address.specs.declared.amode.Scale.{Scale}
 use Rattle.cax64_address.specs.declared.amode.Scale.TheVariants.{One, Two, Four, Eight}
 use Rattle.cax64_address.specs.declared.text.Dialect.{Dialect}
 use Rattle.cax64_address.specs.declared.text.Dialect.TheVariants.{Att, Xed}
-use Rattle.cax64_register.specs.Names.{gpr_name, gpr_names, register_name}
+use Rattle.cax64_register.specs.Names.{gpr_name, gpr_names}
 use Rattle.cax64_register.specs.declared.gpr.Size.TheVariants.{Quadword}
 
 first : (x y : ℕ) (xs ys : List ℕ) → (x ∷ xs) ≡ (y ∷ ys) → x ≡ y
@@ -77,26 +77,26 @@ split_at (suc n) (suc k) = elim (split_at n k) [ inl h ↦ inl (omega (arith, h)
 
 short_cut : (n k : ℕ) (r s : List ℕ) → n < 16 ^ 64 → k < 16 ^ 64 → short_number n ++ (40 ∷ r) ≡ short_number k ++ (40 ∷ s) → (n ≡ k) × (r ≡ s)
 short_cut n k r s hn hk e = elim (split_at n 10) [
-    inl a ↦ elim (split_at k 10) [
-        inl b ↦
-            let f : (48 + n) ∷ (40 ∷ r) ≡ (48 + k) ∷ (40 ∷ s) = ap (λ z. z ++ (40 ∷ r)) (sym (short_below n a)) ∙ (e ∙ ap (λ z. z ++ (40 ∷ s)) (short_below k b)) in
-            let h : 48 + n ≡ 48 + k = first _ _ _ _ f in
-            (omega (arith, h), later _ _ _ _ (later _ _ _ _ f))
-      | inr b ↦
-            let f : (48 + n) ∷ (40 ∷ r) ≡ hexadecimal k ++ (40 ∷ s) = ap (λ z. z ++ (40 ∷ r)) (sym (short_below n a)) ∙ (e ∙ ap (λ z. z ++ (40 ∷ s)) (short_above k b)) in
-            let h : 40 ≡ 120 = first _ _ _ _ (later _ _ _ _ f) in
-            absurd (omega (arith, h))
-      ]
-  | inr a ↦ elim (split_at k 10) [
-        inl b ↦
-            let f : hexadecimal n ++ (40 ∷ r) ≡ (48 + k) ∷ (40 ∷ s) = ap (λ z. z ++ (40 ∷ r)) (sym (short_above n a)) ∙ (e ∙ ap (λ z. z ++ (40 ∷ s)) (short_below k b)) in
-            let h : 120 ≡ 40 = first _ _ _ _ (later _ _ _ _ f) in
-            absurd (omega (arith, h))
-      | inr b ↦
-            let f : hexadecimal n ++ (40 ∷ r) ≡ hexadecimal k ++ (40 ∷ s) = ap (λ z. z ++ (40 ∷ r)) (sym (short_above n a)) ∙ (e ∙ ap (λ z. z ++ (40 ∷ s)) (short_above k b)) in
-            hex_cut n k 40 r s hn hk (omega arith) (later _ _ _ _ (later _ _ _ _ f))
-      ]
+  | inl a ↦ elim (split_at k 10) [
+    | inl b ↦
+        let f : (48 + n) ∷ (40 ∷ r) ≡ (48 + k) ∷ (40 ∷ s) = ap (λ z. z ++ (40 ∷ r)) (sym (short_below n a)) ∙ (e ∙ ap (λ z. z ++ (40 ∷ s)) (short_below k b)) in
+        let h : 48 + n ≡ 48 + k = first _ _ _ _ f in
+        (omega (arith, h), later _ _ _ _ (later _ _ _ _ f))
+    | inr b ↦
+        let f : (48 + n) ∷ (40 ∷ r) ≡ hexadecimal k ++ (40 ∷ s) = ap (λ z. z ++ (40 ∷ r)) (sym (short_below n a)) ∙ (e ∙ ap (λ z. z ++ (40 ∷ s)) (short_above k b)) in
+        let h : 40 ≡ 120 = first _ _ _ _ (later _ _ _ _ f) in
+        absurd (omega (arith, h))
   ]
+  | inr a ↦ elim (split_at k 10) [
+    | inl b ↦
+        let f : hexadecimal n ++ (40 ∷ r) ≡ (48 + k) ∷ (40 ∷ s) = ap (λ z. z ++ (40 ∷ r)) (sym (short_above n a)) ∙ (e ∙ ap (λ z. z ++ (40 ∷ s)) (short_below k b)) in
+        let h : 120 ≡ 40 = first _ _ _ _ (later _ _ _ _ f) in
+        absurd (omega (arith, h))
+    | inr b ↦
+        let f : hexadecimal n ++ (40 ∷ r) ≡ hexadecimal k ++ (40 ∷ s) = ap (λ z. z ++ (40 ∷ r)) (sym (short_above n a)) ∙ (e ∙ ap (λ z. z ++ (40 ∷ s)) (short_above k b)) in
+        hex_cut n k 40 r s hn hk (omega arith) (later _ _ _ _ (later _ _ _ _ f))
+  ]
+]
 
 magnitude_cut : (d : Dialect) (n k : ℕ) (r s : List ℕ) → n < 16 ^ 64 → k < 16 ^ 64 → magnitude_text d n ++ (40 ∷ r) ≡ magnitude_text d k ++ (40 ∷ s) → (n ≡ k) × (r ≡ s)
 magnitude_cut Att n k r s hn hk e = short_cut n k r s hn hk e
@@ -105,13 +105,13 @@ magnitude_cut Xed n k r s hn hk e = hex_cut n k 40 r s hn hk (omega arith) (late
 -- a magnitude begins with a digit
 magnitude_head : (d : Dialect) (n c : ℕ) (r s : List ℕ) → magnitude_text d n ++ r ≡ c ∷ s → (48 ≤ c) × (c ≤ 57)
 magnitude_head Att n c r s e = elim (split_at n 10) [
-    inl a ↦
-        let h : 48 + n ≡ c = first _ _ _ _ (ap (λ z. z ++ r) (sym (short_below n a)) ∙ e) in
-        (omega (arith, h), omega (arith, h))
+  | inl a ↦
+      let h : 48 + n ≡ c = first _ _ _ _ (ap (λ z. z ++ r) (sym (short_below n a)) ∙ e) in
+      (omega (arith, h), omega (arith, h))
   | inr a ↦
-        let h : 48 ≡ c = first _ _ _ _ (ap (λ z. z ++ r) (sym (short_above n a)) ∙ e) in
-        (omega (arith, h), omega (arith, h))
-  ]
+      let h : 48 ≡ c = first _ _ _ _ (ap (λ z. z ++ r) (sym (short_above n a)) ∙ e) in
+      (omega (arith, h), omega (arith, h))
+]
 magnitude_head Xed n c r s e = let h : 48 ≡ c = first _ _ _ _ e in (omega (arith, h), omega (arith, h))
 
 small : (n : ℕ) → nat_lt n (2 ^ 31) ≡ true → n < 2 ^ 31
