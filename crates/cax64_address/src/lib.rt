@@ -7,3 +7,4 @@ pub mod laws;
 pub mod offset;
 pub mod operand;
 pub mod tail;
+pub mod text;

@@ -1,0 +1,2 @@
+-- What the clauses of public functions say.
+pub mod Text

@@ -10,6 +10,7 @@ pub mod laws;
 pub mod simm16;
 pub mod simm32;
 pub mod simm8;
+pub mod text;
 
 pub use extension::Extension;
 pub use imm8::Imm8;

@@ -1,5 +1,5 @@
 //! What the assembler asks of a register type.
-ghost use Rattle.std.specs.Prelude.{◌≡◌, ◌<◌, ℕ, Bool, true, IsTrue, IfOk, List, Option, nat_lt, string_bytes};
+ghost use Rattle.std.specs.Prelude.{◌≡◌, ◌<◌, ◌++◌, ℕ, Bool, true, IsTrue, IfOk, OnOk, List, Option, nat_lt, string_bytes};
 ghost use Rattle.std.proofs.Common.{rules};
 ghost use Rattle.cax64_register.specs.declared.gpr.Size.{Size};
 ghost use Rattle.cax64_register.specs.Real.{is_real};
@@ -63,6 +63,22 @@ pub trait AsReg: Copy + Clone + PartialEq {
         requires { IsTrue (nameable self.now) }
         ensures { IfOk result (λ t. string_bytes t ≡ text self.now size) };
 
+    /// Adds that text to `out`. A family whose names need no String of their own can say so here.
+    ///
+    /// Fails where there is no memory.
+    fn push_to<A: Allocator + Copy>(
+        &self,
+        out: &mut String<A>,
+        alloc: A,
+        size: Option<Size>,
+    ) -> Result<(), AllocError>
+        requires { IsTrue (nameable self.now) }
+        ensures { OnOk result (string_bytes out.new ≡ string_bytes out.old ++ text self.now size) }
+    {
+        let name = self.to_string(alloc, size)?;
+        out.push_str(name.as_str())
+    }
+
     /// Whether an instruction can hold the register.
     final fn is_real(&self) -> bool
         ensures { result ≡ is_real settled enc self.now }
@@ -86,11 +102,17 @@ pub fn register_name<A: Allocator + Copy>(
     requires { number < 16 }
     ensures { IfOk result (λ t. string_bytes t ≡ register_name number size) }
 {
-    let name = match size {
+    String::from_str(alloc, static_name(number, size))
+}
+
+fn static_name(number: u8, size: Option<Size>) -> &'static str
+    requires { number < 16 }
+    ensures { result.now ≡ register_name number size }
+{
+    match size {
         Some(size) => gpr::enc::to_string(number, size),
         None => xmm::enc::to_string(number),
-    };
-    String::from_str(alloc, name)
+    }
 }
 
 /// The register types of one user of the assembler, by what an instruction does with a register.
@@ -153,5 +175,14 @@ impl AsReg for u8 {
         size: Option<Size>,
     ) -> Result<String<A>, AllocError> {
         register_name(alloc, *self, size)
+    }
+
+    fn push_to<A: Allocator + Copy>(
+        &self,
+        out: &mut String<A>,
+        _alloc: A,
+        size: Option<Size>,
+    ) -> Result<(), AllocError> {
+        out.push_str(static_name(*self, size))
     }
 }

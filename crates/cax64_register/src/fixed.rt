@@ -75,4 +75,13 @@ impl<R: AsReg, const E: u8> AsReg for Fixed<R, E> {
     ) -> Result<String<A>, AllocError> {
         self.0.to_string(alloc, size)
     }
+
+    fn push_to<A: Allocator + Copy>(
+        &self,
+        out: &mut String<A>,
+        alloc: A,
+        size: Option<Size>,
+    ) -> Result<(), AllocError> {
+        self.0.push_to(out, alloc, size)
+    }
 }

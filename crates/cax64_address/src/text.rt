@@ -1,0 +1,335 @@
+//! Texts of displacements and of memory operands.
+
+ghost use Rattle.std.specs.Prelude.{◌≡◌, ◌++◌, IsTrue, IfOk, OnOk, Some, codes, string_bytes};
+ghost use Rattle.cax64_register.specs.declared.gpr.Size.TheVariants.{Quadword};
+ghost use Rattle.cax64_address.specs.Text.{magnitude_text, offset_text, late_text, comma, scale_text, amode_text, amode_nameable, gpr_mem_text, gpr_mem_nameable, xmm_mem_text, xmm_mem_nameable};
+ghost use Rattle.cax64_address.specs.declared.text.Dialect.TheVariants.{Att, Xed};
+
+use crate::amode::{Amode, Scale};
+use crate::offset::{AmodeOffset, AmodeOffsetPlusKnownOffset};
+use crate::operand::{GprMem, XmmMem};
+use cax64_register::{AsReg, Size};
+use std::alloc::{AllocError, Allocator};
+
+/// How addresses and numbers are written.
+#[derive(Clone, Copy, Debug, PartialEq)]
+pub enum Dialect {
+    /// As in AT&T's assembler, with small numbers in decimal.
+    Att,
+    /// As Intel's XED prints AT&T's syntax.
+    Xed,
+}
+
+/// Room for the text of any address of the hardware's registers.
+const ROOM: usize = 64;
+
+fn push_magnitude<A: Allocator>(
+    out: &mut String<A>,
+    dialect: Dialect,
+    magnitude: u32,
+) -> Result<(), AllocError>
+    ensures { OnOk result (string_bytes out.new ≡ string_bytes out.old ++ magnitude_text dialect magnitude) }
+{
+    match dialect {
+        Dialect::Att => {
+            if magnitude < 10 {
+                write!(out, "{magnitude}")
+            } else {
+                write!(out, "0x{magnitude:x}")
+            }
+        }
+        Dialect::Xed => write!(out, "0x{magnitude:x}"),
+    }
+}
+
+impl AmodeOffset {
+    /// Adds the text to `out`.
+    pub fn push_to<A: Allocator>(
+        &self,
+        out: &mut String<A>,
+        dialect: Dialect,
+    ) -> Result<(), AllocError>
+        ensures { OnOk result (string_bytes out.new ≡ string_bytes out.old ++ offset_text dialect self.now) }
+    {
+        let value = self.value();
+        if value == 0 {
+            return Ok(());
+        }
+        if value < 0 {
+            out.push_str("-")?;
+        }
+        push_magnitude(out, dialect, value.unsigned_abs())
+    }
+
+    /// The text: nothing for no displacement.
+    ///
+    /// Fails where there is no memory.
+    pub fn to_string_in<A: Allocator + Copy>(
+        &self,
+        alloc: A,
+        dialect: Dialect,
+    ) -> Result<String<A>, AllocError>
+        ensures { IfOk result (λ t. string_bytes t ≡ offset_text dialect self.now) }
+    {
+        let mut out = String::with_capacity(alloc, ROOM)?;
+        self.push_to(&mut out, dialect)?;
+        Ok(out)
+    }
+}
+
+impl AmodeOffsetPlusKnownOffset {
+    /// Adds the text to `out`.
+    pub fn push_to<A: Allocator>(
+        &self,
+        out: &mut String<A>,
+        dialect: Dialect,
+    ) -> Result<(), AllocError>
+        ensures { OnOk result (string_bytes out.new ≡ string_bytes out.old ++ late_text self.now.offset ++ offset_text dialect self.now.simm32) }
+    {
+        if let Some(key) = self.offset {
+            write!(out, "<offset:{key}>+")?;
+        }
+        self.simm32.push_to(out, dialect)
+    }
+
+    /// The text: the key of the late offset, and the displacement.
+    ///
+    /// Fails where there is no memory.
+    pub fn to_string_in<A: Allocator + Copy>(
+        &self,
+        alloc: A,
+        dialect: Dialect,
+    ) -> Result<String<A>, AllocError>
+        ensures { IfOk result (λ t. string_bytes t ≡ late_text self.now.offset ++ offset_text dialect self.now.simm32) }
+    {
+        let mut out = String::with_capacity(alloc, ROOM)?;
+        self.push_to(&mut out, dialect)?;
+        Ok(out)
+    }
+}
+
+fn scale_text(dialect: Dialect, scale: Scale) -> &'static str
+    ensures { result.now ≡ scale_text dialect scale }
+{
+    match dialect {
+        Dialect::Att => match scale {
+            Scale::One => "",
+            Scale::Two => ", 2",
+            Scale::Four => ", 4",
+            Scale::Eight => ", 8",
+        },
+        Dialect::Xed => match scale {
+            Scale::One => ",1",
+            Scale::Two => ",2",
+            Scale::Four => ",4",
+            Scale::Eight => ",8",
+        },
+    }
+}
+
+fn comma(dialect: Dialect) -> &'static str
+    ensures { result.now ≡ comma dialect }
+{
+    match dialect {
+        Dialect::Att => ", ",
+        Dialect::Xed => ",",
+    }
+}
+
+/// Adds what stands in parentheses where there is an index.
+fn push_indexed<R: AsReg, A: Allocator + Copy>(
+    out: &mut String<A>,
+    alloc: A,
+    dialect: Dialect,
+    base: R,
+    index: R,
+    scale: Scale,
+) -> Result<(), AllocError>
+    requires base { IsTrue (R.nameable base) }
+    requires index { IsTrue (R.nameable index) }
+    ensures { OnOk result (string_bytes out.new ≡ string_bytes out.old ++ codes "(" ++ R.text base (Some Quadword) ++ comma dialect ++ R.text index (Some Quadword) ++ scale_text dialect scale ++ codes ")") }
+{
+    out.push_str("(")?;
+    base.push_to(out, alloc, Some(Size::Quadword))?;
+    out.push_str(comma(dialect))?;
+    index.push_to(out, alloc, Some(Size::Quadword))?;
+    out.push_str(scale_text(dialect, scale))?;
+    out.push_str(")")
+}
+
+impl<R: AsReg> Amode<R> {
+    /// Whether the registers have texts: the condition of `to_string_in`.
+    pub fn nameable(&self) -> bool
+        ensures { result ≡ amode_nameable R.nameable self.now }
+    {
+        match *self {
+            Amode::ImmReg { base, .. } => base.nameable(),
+            Amode::ImmRegRegShift { base, index, .. } => {
+                base.nameable() && index.as_ref().nameable()
+            }
+            Amode::RipRelative { .. } => true,
+        }
+    }
+
+    /// Adds the text to `out`.
+    ///
+    /// Fails where there is no memory.
+    pub fn push_to<A: Allocator + Copy>(
+        &self,
+        out: &mut String<A>,
+        alloc: A,
+        dialect: Dialect,
+    ) -> Result<(), AllocError>
+        requires { IsTrue (amode_nameable R.nameable self.now) }
+        ensures { OnOk result (string_bytes out.new ≡ string_bytes out.old ++ amode_text R.text dialect self.now) }
+    {
+        match *self {
+            Amode::ImmReg { base, simm32, .. } => {
+                simm32.push_to(out, dialect)?;
+                out.push_str("(")?;
+                base.push_to(out, alloc, Some(Size::Quadword))?;
+                out.push_str(")")
+            }
+            Amode::ImmRegRegShift {
+                base,
+                index,
+                scale,
+                simm32,
+                ..
+            } => {
+                simm32.push_to(out, dialect)?;
+                push_indexed(out, alloc, dialect, base, *index.as_ref(), scale)
+            }
+            Amode::RipRelative { .. } => out.push_str("(%rip)"),
+        }
+    }
+
+    /// The text, with base and index at 64 bits.
+    ///
+    /// Fails where there is no memory.
+    pub fn to_string_in<A: Allocator + Copy>(
+        &self,
+        alloc: A,
+        dialect: Dialect,
+    ) -> Result<String<A>, AllocError>
+        requires { IsTrue (amode_nameable R.nameable self.now) }
+        ensures { IfOk result (λ t. string_bytes t ≡ amode_text R.text dialect self.now) }
+    {
+        let mut out = String::with_capacity(alloc, ROOM)?;
+        self.push_to(&mut out, alloc, dialect)?;
+        Ok(out)
+    }
+}
+
+impl<R: AsReg, M: AsReg> GprMem<R, M> {
+    /// Whether the registers have texts: the condition of `to_string`.
+    pub fn nameable(&self) -> bool
+        ensures { result ≡ gpr_mem_nameable R.nameable M.nameable self.now }
+    {
+        match self {
+            GprMem::Gpr(reg) => reg.nameable(),
+            GprMem::Mem(amode) => amode.nameable(),
+        }
+    }
+
+    /// Adds the text to `out`.
+    pub fn push_to<A: Allocator + Copy>(
+        &self,
+        out: &mut String<A>,
+        alloc: A,
+        dialect: Dialect,
+        size: Size,
+    ) -> Result<(), AllocError>
+        requires { IsTrue (gpr_mem_nameable R.nameable M.nameable self.now) }
+        ensures { OnOk result (string_bytes out.new ≡ string_bytes out.old ++ gpr_mem_text R.text M.text dialect self.now size) }
+    {
+        match self {
+            GprMem::Gpr(reg) => reg.push_to(out, alloc, Some(size)),
+            GprMem::Mem(amode) => amode.push_to(out, alloc, dialect),
+        }
+    }
+
+    /// The text: the register at this size, or the memory.
+    ///
+    /// Fails where there is no memory.
+    pub fn to_string<A: Allocator + Copy>(
+        &self,
+        alloc: A,
+        size: Size,
+    ) -> Result<String<A>, AllocError>
+        requires { IsTrue (gpr_mem_nameable R.nameable M.nameable self.now) }
+        ensures { IfOk result (λ t. string_bytes t ≡ gpr_mem_text R.text M.text Att self.now size) }
+    {
+        let mut out = String::with_capacity(alloc, ROOM)?;
+        self.push_to(&mut out, alloc, Dialect::Att, size)?;
+        Ok(out)
+    }
+
+    /// The text as XED prints it.
+    ///
+    /// Fails where there is no memory.
+    pub fn to_string_xed<A: Allocator + Copy>(
+        &self,
+        alloc: A,
+        size: Size,
+    ) -> Result<String<A>, AllocError>
+        requires { IsTrue (gpr_mem_nameable R.nameable M.nameable self.now) }
+        ensures { IfOk result (λ t. string_bytes t ≡ gpr_mem_text R.text M.text Xed self.now size) }
+    {
+        let mut out = String::with_capacity(alloc, ROOM)?;
+        self.push_to(&mut out, alloc, Dialect::Xed, size)?;
+        Ok(out)
+    }
+}
+
+impl<R: AsReg, M: AsReg> XmmMem<R, M> {
+    /// Whether the registers have texts: the condition of `to_string`.
+    pub fn nameable(&self) -> bool
+        ensures { result ≡ xmm_mem_nameable R.nameable M.nameable self.now }
+    {
+        match self {
+            XmmMem::Xmm(reg) => reg.nameable(),
+            XmmMem::Mem(amode) => amode.nameable(),
+        }
+    }
+
+    /// Adds the text to `out`.
+    pub fn push_to<A: Allocator + Copy>(
+        &self,
+        out: &mut String<A>,
+        alloc: A,
+        dialect: Dialect,
+    ) -> Result<(), AllocError>
+        requires { IsTrue (xmm_mem_nameable R.nameable M.nameable self.now) }
+        ensures { OnOk result (string_bytes out.new ≡ string_bytes out.old ++ xmm_mem_text R.text M.text dialect self.now) }
+    {
+        match self {
+            XmmMem::Xmm(reg) => reg.push_to(out, alloc, None),
+            XmmMem::Mem(amode) => amode.push_to(out, alloc, dialect),
+        }
+    }
+
+    /// The text: the register, or the memory.
+    ///
+    /// Fails where there is no memory.
+    pub fn to_string<A: Allocator + Copy>(&self, alloc: A) -> Result<String<A>, AllocError>
+        requires { IsTrue (xmm_mem_nameable R.nameable M.nameable self.now) }
+        ensures { IfOk result (λ t. string_bytes t ≡ xmm_mem_text R.text M.text Att self.now) }
+    {
+        let mut out = String::with_capacity(alloc, ROOM)?;
+        self.push_to(&mut out, alloc, Dialect::Att)?;
+        Ok(out)
+    }
+
+    /// The text as XED prints it.
+    ///
+    /// Fails where there is no memory.
+    pub fn to_string_xed<A: Allocator + Copy>(&self, alloc: A) -> Result<String<A>, AllocError>
+        requires { IsTrue (xmm_mem_nameable R.nameable M.nameable self.now) }
+        ensures { IfOk result (λ t. string_bytes t ≡ xmm_mem_text R.text M.text Xed self.now) }
+    {
+        let mut out = String::with_capacity(alloc, ROOM)?;
+        self.push_to(&mut out, alloc, Dialect::Xed)?;
+        Ok(out)
+    }
+}

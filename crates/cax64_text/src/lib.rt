@@ -1,0 +1,16 @@
+//! Texts, mnemonics and features of instructions.
+//!
+//! They follow from an instruction's row and its operands, by functions that are written once.
+#![tactic(auto)]
+
+pub mod head;
+pub mod instruction;
+pub mod laws;
+pub mod list;
+pub mod mnemonic;
+pub mod names;
+pub mod operand;
+pub mod style;
+
+pub use instruction::InstructionText;
+pub use names::RegisterNames;

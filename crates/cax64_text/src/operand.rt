@@ -1,0 +1,201 @@
+//! Texts of operands.
+
+ghost use Rattle.std.specs.Prelude.{◌≡◌, ◌++◌, ◌<◌, IsTrue, IfSome, OnOk, Some, codes, string_bytes};
+ghost use Rattle.cax64_immediate.specs.Text as immediate_text;
+ghost use Rattle.cax64_text.specs.Operand.{target_text, imm_text, named_imm, imm_is_shown, is_shown, operand_text, operand_nameable, is_register, named_operand};
+
+use crate::names::RegisterNames;
+use crate::style::branch_length;
+use cax64_address::operand::{GprMem, XmmMem};
+use cax64_address::text::Dialect;
+use cax64_immediate::{Simm8, Simm32};
+use cax64_machine_code::row::Row;
+use cax64_operand::{Immediate, Operand};
+use cax64_register::{AsReg, Registers, Size};
+use std::alloc::{AllocError, Allocator};
+
+fn push_target<A: Allocator>(
+    out: &mut String<A>,
+    dialect: Dialect,
+    target: i64,
+) -> Result<(), AllocError>
+    ensures { OnOk result (string_bytes out.new ≡ string_bytes out.old ++ target_text dialect target) }
+{
+    let bits = target.cast_unsigned();
+    match dialect {
+        Dialect::Att if bits < 10 => write!(out, "{bits}"),
+        _ => write!(out, "0x{bits:x}"),
+    }
+}
+
+fn push_number<A: Allocator>(out: &mut String<A>, bits: u64) -> Result<(), AllocError>
+    ensures { OnOk result (string_bytes out.new ≡ string_bytes out.old ++ immediate_text.imm_text bits) }
+{
+    write!(out, "$0x{bits:x}")
+}
+
+/// Adds the text of an immediate.
+pub fn push_imm<A: Allocator>(
+    out: &mut String<A>,
+    dialect: Dialect,
+    row: Row,
+    imm: Immediate,
+) -> Result<(), AllocError>
+    ensures { OnOk result (string_bytes out.new ≡ string_bytes out.old ++ imm_text dialect row imm) }
+{
+    match imm {
+        Immediate::Imm8(value) => push_number(out, u64::from(value)),
+        Immediate::Imm16(value) => push_number(out, u64::from(value)),
+        Immediate::Imm32(value) => push_number(out, u64::from(value)),
+        Immediate::Simm8(value, extension) => {
+            push_number(out, Simm8::new(value).extended(extension))
+        }
+        Immediate::Simm32(value, extension) => {
+            push_number(out, Simm32::new(value).extended(extension))
+        }
+        Immediate::Distance8(value) => {
+            push_target(
+                out,
+                dialect,
+                i64::from(value) + i64::from(branch_length(row)),
+            )
+        }
+        Immediate::Distance32(value) => {
+            push_target(
+                out,
+                dialect,
+                i64::from(value) + i64::from(branch_length(row)),
+            )
+        }
+        Immediate::Predicate(value) => push_number(out, u64::from(value)),
+        Immediate::VexPredicate(value) => push_number(out, u64::from(value)),
+    }
+}
+
+fn named_imm(imm: Immediate) -> Option<u8>
+    ensures value { result ≡ named_imm imm }
+    ensures known { IfSome result (λ v. v < 32) }
+{
+    match imm {
+        Immediate::Predicate(value) if value < 8 => Some(value),
+        Immediate::VexPredicate(value) if value < 32 => Some(value),
+        _ => None,
+    }
+}
+
+fn imm_is_shown(dialect: Dialect, imm: Immediate) -> bool
+    ensures { result ≡ imm_is_shown dialect imm }
+{
+    match (dialect, imm) {
+        (Dialect::Att, Immediate::Predicate(value)) => value >= 8,
+        (Dialect::Att, Immediate::VexPredicate(value)) => value >= 32,
+        _ => true,
+    }
+}
+
+/// Whether the operand is printed.
+pub fn is_shown<R: Registers>(dialect: Dialect, operand: &Operand<R>) -> bool
+    ensures { result ≡ is_shown dialect operand.now }
+{
+    match operand {
+        Operand::FixedReadGpr(_, _, size) => size.is_some(),
+        Operand::FixedReadWriteGpr(_, _, size) => size.is_some(),
+        Operand::Imm(imm) => imm_is_shown(dialect, *imm),
+        _ => true,
+    }
+}
+
+/// The operand's predicate, where it has a name.
+pub fn named_operand<R: Registers>(operand: &Operand<R>) -> Option<u8>
+    ensures value { result ≡ named_operand operand.now }
+    ensures known { IfSome result (λ v. v < 32) }
+{
+    match operand {
+        Operand::Imm(imm) => named_imm(*imm),
+        _ => None,
+    }
+}
+
+/// Whether the operand may be memory and is a register.
+pub fn is_register<R: Registers>(operand: &Operand<R>) -> bool
+    ensures { result ≡ is_register operand.now }
+{
+    match operand {
+        Operand::ReadGprMem(GprMem::Gpr(_), _) => true,
+        Operand::ReadWriteGprMem(GprMem::Gpr(_), _) => true,
+        Operand::ReadXmmMem(XmmMem::Xmm(_)) => true,
+        _ => false,
+    }
+}
+
+/// Whether the registers that are printed have texts.
+pub fn operand_nameable<R: Registers>(operand: &Operand<R>) -> bool
+    ensures { result ≡ operand_nameable ⟦<R as RegisterNames>⟧.names operand.now }
+{
+    match operand {
+        Operand::ReadGpr(reg, _) => reg.nameable(),
+        Operand::ReadWriteGpr(reg, _) => reg.nameable(),
+        Operand::WriteGpr(reg, _) => reg.nameable(),
+        Operand::WriteTwoGprs(a, b, _) => a.nameable() && b.nameable(),
+        Operand::FixedReadGpr(reg, _, Some(_)) => reg.nameable(),
+        Operand::FixedReadWriteGpr(reg, _, Some(_)) => reg.nameable(),
+        Operand::FixedReadGpr(_, _, None) => true,
+        Operand::FixedReadWriteGpr(_, _, None) => true,
+        Operand::ReadXmm(reg) => reg.nameable(),
+        Operand::ReadWriteXmm(reg) => reg.nameable(),
+        Operand::WriteXmm(reg) => reg.nameable(),
+        Operand::ReadAmode(amode) => amode.nameable(),
+        Operand::ReadGprMem(operand, _) => operand.nameable(),
+        Operand::ReadWriteGprMem(operand, _) => operand.nameable(),
+        Operand::ReadXmmMem(operand) => operand.nameable(),
+        Operand::Imm(_) => true,
+    }
+}
+
+fn push_two_registers<R: AsReg, A: Allocator + Copy>(
+    out: &mut String<A>,
+    alloc: A,
+    first: R,
+    second: R,
+    size: Size,
+) -> Result<(), AllocError>
+    requires first { IsTrue (R.nameable first) }
+    requires second { IsTrue (R.nameable second) }
+    ensures { OnOk result (string_bytes out.new ≡ string_bytes out.old ++ R.text first (Some size) ++ codes ", " ++ R.text second (Some size)) }
+{
+    first.push_to(out, alloc, Some(size))?;
+    out.push_str(", ")?;
+    second.push_to(out, alloc, Some(size))
+}
+
+/// Adds the text of an operand that is printed.
+pub fn push_operand<R: Registers, A: Allocator + Copy>(
+    out: &mut String<A>,
+    alloc: A,
+    dialect: Dialect,
+    row: Row,
+    operand: &Operand<R>,
+) -> Result<(), AllocError>
+    requires nameable { IsTrue (operand_nameable ⟦<R as RegisterNames>⟧.names operand.now) }
+    requires shown { IsTrue (is_shown dialect operand.now) }
+    ensures { OnOk result (string_bytes out.new ≡ string_bytes out.old ++ operand_text ⟦<R as RegisterNames>⟧.names dialect row operand.now) }
+{
+    match operand {
+        Operand::ReadGpr(reg, size) => reg.push_to(out, alloc, Some(*size)),
+        Operand::ReadWriteGpr(reg, size) => reg.push_to(out, alloc, Some(*size)),
+        Operand::WriteGpr(reg, size) => reg.push_to(out, alloc, Some(*size)),
+        Operand::WriteTwoGprs(a, b, size) => push_two_registers(out, alloc, *b, *a, *size),
+        Operand::FixedReadGpr(reg, _, Some(size)) => reg.push_to(out, alloc, Some(*size)),
+        Operand::FixedReadWriteGpr(reg, _, Some(size)) => reg.push_to(out, alloc, Some(*size)),
+        Operand::FixedReadGpr(_, _, None) => Ok(()),
+        Operand::FixedReadWriteGpr(_, _, None) => Ok(()),
+        Operand::ReadXmm(reg) => reg.push_to(out, alloc, None),
+        Operand::ReadWriteXmm(reg) => reg.push_to(out, alloc, None),
+        Operand::WriteXmm(reg) => reg.push_to(out, alloc, None),
+        Operand::ReadAmode(amode) => amode.push_to(out, alloc, dialect),
+        Operand::ReadGprMem(operand, size) => operand.push_to(out, alloc, dialect, *size),
+        Operand::ReadWriteGprMem(operand, size) => operand.push_to(out, alloc, dialect, *size),
+        Operand::ReadXmmMem(operand) => operand.push_to(out, alloc, dialect),
+        Operand::Imm(imm) => push_imm(out, dialect, row, *imm),
+    }
+}
