@@ -22,6 +22,7 @@ pub struct Form<M: AsReg> {
 }
 
 impl<M: AsReg> Form<M> {
+    #[inline(always)]
     fn none() -> Form<M>
         ensures { result ≡ no_form }
     {
@@ -34,6 +35,7 @@ impl<M: AsReg> Form<M> {
     }
 
     /// The form with one more operand before the others. Of two registers the first stands in reg, the second in vvvv.
+    #[inline(always)]
     fn with(self, role: Role<M>) -> Form<M>
         ensures { result ≡ with_role role self }
     {
@@ -59,6 +61,7 @@ impl<M: AsReg> Form<M> {
 }
 
 /// The form of an instruction that has these operands.
+#[inline(always)]
 pub fn form_of<R: Registers>(operands: &Operands<R>) -> Form<R::ReadGpr>
     ensures { result ≡ form_of ⟦<R as RegisterFamily>⟧.family (list_of operands.now) }
 {
