@@ -226,6 +226,7 @@ pub mod laws {
     pub use cax64_encode_all::encode_all_to_fixed_sink;
     pub use cax64_encoder::laws::encode_to_fixed_sink;
     pub use cax64_sequence::laws::{encode_each_to_fixed_sink, first_of_a_list};
+    pub use cax64_shortest::laws::{len_is_least, whole_instruction_is_shortest};
 }
 
 /// The reading of machine code.

@@ -17,7 +17,7 @@ vcvtpd2ps_a: c5 f9 5a c1: vcvtpd2ps_a 4 1\n\
 cmpps_a: 0f c2 05 ff ff ff ff 00: cmpps_a 8 5\n\
 jmp_d8: eb fe: jmp_d8 2 0\n\
 je_d32: 0f 84 f6 ff ff ff: je_d32 6 0\n\
-shlb_m1: 40 d0 e0: shlb_m1 3 1\n\
+shlb_m1: d0 e0: shlb_m1 2 1\n\
 nop_9b: 66 0f 1f 84 00 00 00 00 00: nopw_rm 9 6\n\
 ";
 

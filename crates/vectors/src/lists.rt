@@ -172,7 +172,10 @@ fn write_refusal(
     }
 }
 
-/// The second of two stages tells of machine code that isn't made yet.
+/// The instructions whose digit asked for a REX byte in the first of two stages, and doesn't now.
+const CHANGED: [&str; 3] = ["shlb_m1", "shrb_m1", "sarb_m1"];
+
+/// Cases of the first stage hold of lists without these.
 pub(crate) fn answer_refusal(
     alloc: Global,
     fields: &mut Fields<'_>,
@@ -180,7 +183,7 @@ pub(crate) fn answer_refusal(
 ) -> Result<(), Fault> {
     let list = fields.text()?;
     let recorder = recorder_of(alloc, fields.text()?)?;
-    if fields.text()? == "2" {
+    if fields.text()? == "1" && CHANGED.iter().any(|name| list.contains(*name)) {
         return Err(Fault::PassedOver);
     }
     let limit = fields.text()?;

@@ -66,9 +66,10 @@ const KINDS: [Kind; 17] = [
     Kind::Program,
 ];
 
-/// The columns of `instructions` that nothing answers yet.
+/// The columns of `instructions` that nothing answers: those of the first of two stages, in which an 8-bit form with a
+/// digit of 4 to 7 had a REX byte for the digit, and those of texts, which nothing answers yet.
 const UNANSWERED_OF_INSTRUCTIONS: [&str; 8] = [
-    "bytes2", "calls2", "notices2", "len2", "text", "xed", "mnemonic", "features",
+    "bytes1", "calls1", "notices1", "len1", "text", "xed", "mnemonic", "features",
 ];
 
 /// The columns of `immediates` that nothing answers yet.
