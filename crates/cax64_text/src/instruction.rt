@@ -132,15 +132,18 @@ impl<I: RowAndOperands> InstructionText for I {
     ghost names = { ⟦<I::Family as RegisterNames>⟧.names };
 
     fn mnemonic(&self) -> &'static str {
-        mnemonic(self.row(), has_register(&self.operands()))
+        let operands: Operands<_> = self.operands();
+        mnemonic(self.row(), has_register(&operands))
     }
 
     fn nameable(&self) -> bool {
-        all_nameable(&self.operands())
+        let operands: Operands<_> = self.operands();
+        all_nameable(&operands)
     }
 
     fn to_string<A: Allocator + Copy>(&self, alloc: A) -> Result<String<A>, AllocError> {
-        text(alloc, Dialect::Att, self.row(), &self.operands())
+        let operands: Operands<_> = self.operands();
+        text(alloc, Dialect::Att, self.row(), &operands)
     }
 
     fn to_string_xed<A: Allocator + Copy>(
@@ -148,7 +151,7 @@ impl<I: RowAndOperands> InstructionText for I {
         alloc: A,
     ) -> Result<Option<String<A>>, AllocError> {
         let row = self.row();
-        let operands = self.operands();
+        let operands: Operands<_> = self.operands();
         if has_xed(row, &operands) {
             Ok(Some(text(alloc, Dialect::Xed, row, &operands)?))
         } else {
