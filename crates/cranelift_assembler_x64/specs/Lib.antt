@@ -61,3 +61,14 @@ pub use Rattle.cax64_encoder.specs.Instruction
 pub use Rattle.cax64_inst.specs.Inst
 pub use Rattle.cax64_sequence.specs.List
 pub use Rattle.cax64_renaming.specs.Renamed
+-- Texts and features.
+pub use Rattle.cax64_immediate.specs.Text as ImmediateText
+pub use Rattle.cax64_address.specs.Text as AddressText
+pub use Rattle.cax64_feature.specs.Term
+pub use Rattle.cax64_feature.specs.Row as FeatureRow
+pub use Rattle.cax64_text.specs.Names as PrintedNames
+pub use Rattle.cax64_text.specs.Mnemonic
+pub use Rattle.cax64_text.specs.Style
+pub use Rattle.cax64_text.specs.Operand as OperandText
+pub use Rattle.cax64_text.specs.Text
+pub use Rattle.cax64_text.specs.PrintedAlike

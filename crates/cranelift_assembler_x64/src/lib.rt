@@ -7,8 +7,10 @@ pub use cax64_address::amode::{Amode, Scale};
 pub use cax64_address::offset::{AmodeOffset, AmodeOffsetPlusKnownOffset};
 pub use cax64_address::operand::{GprMem, XmmMem};
 pub use cax64_address::tail::emit_modrm_sib_disp;
+pub use cax64_address::text::Dialect;
 pub use cax64_encode_all::{encode_all, encode_all_whole};
 pub use cax64_encoder::{Fault, Instruction};
+pub use cax64_feature::{AvailableFeatures, Feature, Features};
 pub use cax64_immediate::{
     Extension, Imm8, Imm16, Imm32, Imm64, OutOfRange, Simm8, Simm16, Simm32,
 };
@@ -23,6 +25,7 @@ pub use cax64_sink::{
     CodeSink, Constant, DeferredTarget, FixedSink, KnownOffset, Label, Notice, Recorder, SinkError,
     TrapCode,
 };
+pub use cax64_text::InstructionText;
 
 /// General registers and their hardware numbers.
 pub mod gpr {
@@ -220,13 +223,15 @@ pub mod evex {
     pub use cax64_prefix::evex::EvexPrefix;
 }
 
-/// Over a sink of fixed size calls succeed exactly where their bytes fit.
+/// Laws: over a sink of fixed size calls succeed exactly where their bytes fit; no string of bytes that is read as an
+/// instruction is shorter than it; operands print alike exactly where their numbers agree.
 pub mod laws {
     pub use cax64_address::laws::emit_to_fixed_sink;
     pub use cax64_encode_all::encode_all_to_fixed_sink;
     pub use cax64_encoder::laws::encode_to_fixed_sink;
     pub use cax64_sequence::laws::{encode_each_to_fixed_sink, first_of_a_list};
     pub use cax64_shortest::laws::{len_is_least, whole_instruction_is_shortest};
+    pub use cax64_text::laws::laws_of_texts;
 }
 
 /// The reading of machine code.

@@ -10,11 +10,11 @@ mod vector;
 use crate::fields::Fault;
 use crate::names::locked::take_add;
 use crate::values::Values;
-use cranelift_assembler_x64::{Instruction, Numbers};
+use cranelift_assembler_x64::{Numbers, RowAndOperands};
 
 /// What takes an instruction, whichever it is.
 pub trait Takes {
-    fn take<I: Instruction<Family = Numbers> + Drop>(&mut self, inst: I) -> Result<(), Fault>;
+    fn take<I: RowAndOperands<Family = Numbers> + Drop>(&mut self, inst: I) -> Result<(), Fault>;
 }
 
 /// Gives the instruction of a name and its fields to what takes it.

@@ -17,7 +17,7 @@ pub(crate) fn write_bytes(came: &mut String, bytes: &[u8]) -> Result<(), Fault> 
     Ok(())
 }
 
-fn write_target(came: &mut String, target: DeferredTarget) -> Result<(), Fault> {
+pub(crate) fn write_target(came: &mut String, target: DeferredTarget) -> Result<(), Fault> {
     match target {
         DeferredTarget::None => came.push_str("none")?,
         DeferredTarget::Label(label) => {

@@ -2,11 +2,12 @@
 
 use crate::columns::{write_bytes, write_calls, write_fault, write_notices};
 use crate::reading::note_front;
+use crate::texts::{Texts, texts_of};
 use crate::visits::VisitText;
 use cax64_test_support::CallRecorder;
 use cranelift_assembler_x64 as assembler;
 use cranelift_assembler_x64::reader::read_inst;
-use cranelift_assembler_x64::{Instruction, Numbers, Recorder, Row};
+use cranelift_assembler_x64::{Instruction, Numbers, Recorder, Row, RowAndOperands};
 use named_instructions::fields::{Fault, Fields, parsed};
 use named_instructions::{Takes, take_named};
 use std::alloc::Global;
@@ -42,29 +43,37 @@ fn write_row(came: &mut String, bytes: &[u8], row: Row) -> Result<(), Fault> {
 /// What comes of an instruction in a sink.
 #[derive(Drop)]
 struct Encoded {
+    alloc: Global,
     sink: CallRecorder<Global>,
     /// The length that it is said to have, and its row.
     length_and_row: Option<(u8, Row)>,
+    texts: Option<Texts>,
     visits: VisitText,
 }
 
 impl Encoded {
     fn new(alloc: Global, offsets: &str) -> Result<Encoded, Fault> {
         Ok(Encoded {
+            alloc,
             sink: CallRecorder::new(alloc, recorder_of(alloc, offsets)?),
             length_and_row: None,
+            texts: None,
             visits: VisitText::new(alloc),
         })
     }
 }
 
 impl Takes for Encoded {
-    fn take<I: Instruction<Family = Numbers> + Drop>(&mut self, mut inst: I) -> Result<(), Fault> {
+    fn take<I: RowAndOperands<Family = Numbers> + Drop>(
+        &mut self,
+        mut inst: I,
+    ) -> Result<(), Fault> {
         if !inst.is_encodable(&self.sink) {
             return Err(Fault::Malformed);
         }
         self.length_and_row = Some((inst.encoded_len(&self.sink), inst.row()));
         inst.encode(&mut self.sink).map_err(|_| Fault::NoMemory)?;
+        self.texts = Some(texts_of(self.alloc, &inst)?);
         inst.visit(&mut self.visits);
         Ok(())
     }
@@ -88,8 +97,11 @@ pub(crate) fn answer_instruction(
     let (encoded, length, row) = encode_line(alloc, fields)?;
     write_calls(came, &encoded.sink)?;
     write!(came, "\t{length}\t")?;
+    let texts = encoded.texts.as_ref().ok_or(Fault::Malformed)?;
+    texts.write(came)?;
     write_row(came, encoded.sink.bytes(), row)?;
-    came.push('\t')?;
+    let features = texts.features.as_str();
+    write!(came, "\t{features}\t")?;
     encoded.visits.write(came)?;
     note_front(came, encoded.sink.bytes())
 }
@@ -122,7 +134,10 @@ struct Faulty {
 }
 
 impl Takes for Faulty {
-    fn take<I: Instruction<Family = Numbers> + Drop>(&mut self, mut inst: I) -> Result<(), Fault> {
+    fn take<I: RowAndOperands<Family = Numbers> + Drop>(
+        &mut self,
+        mut inst: I,
+    ) -> Result<(), Fault> {
         self.fault = inst.first_fault(&self.sink);
         self.is_encodable = inst.is_encodable(&self.sink);
         inst.visit(&mut self.visits);

@@ -2,9 +2,10 @@
 
 use crate::columns::write_bytes;
 use cranelift_assembler_x64::{
-    FixedSink, Imm8, Imm16, Imm32, Imm64, OutOfRange, Simm8, Simm16, Simm32, SinkError,
+    Extension, FixedSink, Imm8, Imm16, Imm32, Imm64, OutOfRange, Simm8, Simm16, Simm32, SinkError,
 };
 use named_instructions::fields::{Fault, Fields, parsed};
+use std::alloc::Global;
 use std::str::FromStr;
 
 /// The immediate of a number, made and cloned through the traits.
@@ -34,9 +35,66 @@ fn put(kind: &str, text: &str, sink: &mut FixedSink<8>) -> Result<Result<(), Sin
     })
 }
 
-pub(crate) fn answer_immediate(fields: &mut Fields<'_>, came: &mut String) -> Result<(), Fault> {
+fn extension_of(text: &str) -> Result<Extension, Fault> {
+    Ok(match text {
+        "None" => Extension::None,
+        "SignExtendQuad" => Extension::SignExtendQuad,
+        "SignExtendLong" => Extension::SignExtendLong,
+        "SignExtendWord" => Extension::SignExtendWord,
+        _ => return Err(Fault::Malformed),
+    })
+}
+
+/// The text of a signed immediate, which has to fit its extension.
+fn signed_text(alloc: Global, kind: &str, text: &str, by: Extension) -> Result<String, Fault> {
+    match kind {
+        "Simm8" => {
+            let imm = immediate::<i8, Simm8>(text)?;
+            if imm.fits_extension(by) {
+                return Ok(imm.to_string(alloc, by)?);
+            }
+        }
+        "Simm16" => {
+            let imm = immediate::<i16, Simm16>(text)?;
+            if imm.fits_extension(by) {
+                return Ok(imm.to_string(alloc, by)?);
+            }
+        }
+        "Simm32" => {
+            let imm = immediate::<i32, Simm32>(text)?;
+            if imm.fits_extension(by) {
+                return Ok(imm.to_string(alloc, by)?);
+            }
+        }
+        _ => {}
+    }
+    Err(Fault::Malformed)
+}
+
+/// The text of an immediate, unsigned ones without an extension.
+fn text_of(alloc: Global, kind: &str, text: &str, by: &str) -> Result<String, Fault> {
+    if by != "-" {
+        return signed_text(alloc, kind, text, extension_of(by)?);
+    }
+    Ok(match kind {
+        "Imm8" => immediate::<u8, Imm8>(text)?.to_string(alloc)?,
+        "Imm16" => immediate::<u16, Imm16>(text)?.to_string(alloc)?,
+        "Imm32" => immediate::<u32, Imm32>(text)?.to_string(alloc)?,
+        "Imm64" => immediate_of_64_bits(text)?.to_string(alloc)?,
+        _ => return Err(Fault::Malformed),
+    })
+}
+
+pub(crate) fn answer_immediate(
+    alloc: Global,
+    fields: &mut Fields<'_>,
+    came: &mut String,
+) -> Result<(), Fault> {
     let kind = fields.text()?;
     let value = fields.text()?;
+    let text = text_of(alloc, kind, value, fields.text()?)?;
+    came.push_str(text.as_str())?;
+    came.push('\t')?;
     let mut sink = FixedSink::new();
     if put(kind, value, &mut sink)? != Ok(()) {
         came.push_str("refused ")?;

@@ -4,8 +4,8 @@ use crate::columns::{write_bytes, write_notices};
 use crate::encoding::recorder_of;
 use cax64_test_support::RefusingSink;
 use cranelift_assembler_x64::{
-    CodeSink, FixedSink, Instruction, Numbers, Recorder, Refused, all_encodable, encode_each,
-    encode_each_whole,
+    CodeSink, FixedSink, Instruction, Numbers, Recorder, Refused, RowAndOperands, all_encodable,
+    encode_each, encode_each_whole,
 };
 use named_instructions::fields::{Fault, Fields, parsed};
 use named_instructions::{Takes, take_named};
@@ -51,7 +51,7 @@ struct Listing<S> {
 }
 
 impl<S: CodeSink> Takes for Listing<S> {
-    fn take<I: Instruction<Family = Numbers> + Drop>(&mut self, inst: I) -> Result<(), Fault> {
+    fn take<I: RowAndOperands<Family = Numbers> + Drop>(&mut self, inst: I) -> Result<(), Fault> {
         if self.is_refused {
             return Ok(());
         }
@@ -74,7 +74,7 @@ struct Whole {
 }
 
 impl Takes for Whole {
-    fn take<I: Instruction<Family = Numbers> + Drop>(&mut self, inst: I) -> Result<(), Fault> {
+    fn take<I: RowAndOperands<Family = Numbers> + Drop>(&mut self, inst: I) -> Result<(), Fault> {
         put_whole(&list_of(self.alloc, inst)?, &mut self.recorder)
     }
 }
@@ -175,6 +175,11 @@ fn write_refusal(
 /// The instructions whose digit asked for a REX byte in the first of two stages, and doesn't now.
 const CHANGED: [&str; 3] = ["shlb_m1", "shrb_m1", "sarb_m1"];
 
+/// Whether one of them stands in a list.
+pub(crate) fn has_changed(list: &str) -> bool {
+    CHANGED.iter().any(|name| list.contains(*name))
+}
+
 /// Cases of the first stage hold of lists without these.
 pub(crate) fn answer_refusal(
     alloc: Global,
@@ -183,7 +188,7 @@ pub(crate) fn answer_refusal(
 ) -> Result<(), Fault> {
     let list = fields.text()?;
     let recorder = recorder_of(alloc, fields.text()?)?;
-    if fields.text()? == "1" && CHANGED.iter().any(|name| list.contains(*name)) {
+    if fields.text()? == "1" && has_changed(list) {
         return Err(Fault::PassedOver);
     }
     let limit = fields.text()?;

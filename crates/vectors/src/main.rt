@@ -5,6 +5,7 @@
 //! names the columns. A column is never empty: `-` stands for nothing. Numbers are decimal, bytes hexadecimal pairs.
 #![tactic(auto)]
 
+mod buffers;
 mod columns;
 mod encoding;
 mod immediates;
@@ -15,6 +16,7 @@ mod program;
 mod reading;
 mod report;
 mod tails;
+mod texts;
 mod visits;
 
 use crate::report::{Difference, Report, report_of};
@@ -44,9 +46,12 @@ pub enum Kind {
     Refusals,
     Reader,
     Program,
+    Addresses,
+    Patched,
+    Buffers,
 }
 
-const KINDS: [Kind; 17] = [
+const KINDS: [Kind; 20] = [
     Kind::Tails,
     Kind::Relative,
     Kind::Operands,
@@ -64,16 +69,14 @@ const KINDS: [Kind; 17] = [
     Kind::Refusals,
     Kind::Reader,
     Kind::Program,
+    Kind::Addresses,
+    Kind::Patched,
+    Kind::Buffers,
 ];
 
 /// The columns of `instructions` that nothing answers: those of the first of two stages, in which an 8-bit form with a
-/// digit of 4 to 7 had a REX byte for the digit, and those of texts, which nothing answers yet.
-const UNANSWERED_OF_INSTRUCTIONS: [&str; 8] = [
-    "bytes1", "calls1", "notices1", "len1", "text", "xed", "mnemonic", "features",
-];
-
-/// The columns of `immediates` that nothing answers yet.
-const UNANSWERED_OF_IMMEDIATES: [&str; 2] = ["extension", "text"];
+/// digit of 4 to 7 had a REX byte for the digit.
+const UNANSWERED_OF_INSTRUCTIONS: [&str; 4] = ["bytes1", "calls1", "notices1", "len1"];
 
 impl Kind {
     /// The file's name before `.tsv`.
@@ -96,6 +99,9 @@ impl Kind {
             Kind::Refusals => "refusals",
             Kind::Reader => "reader",
             Kind::Program => "program",
+            Kind::Addresses => "addresses",
+            Kind::Patched => "patched",
+            Kind::Buffers => "buffers",
         }
     }
 
@@ -104,15 +110,21 @@ impl Kind {
     fn has_worked_rows(self) -> bool {
         !matches!(
             self,
-            Kind::Operands | Kind::Ranges | Kind::Names | Kind::Instructions | Kind::Worked
+            Kind::Operands
+                | Kind::Ranges
+                | Kind::Names
+                | Kind::Instructions
+                | Kind::Worked
+                | Kind::Addresses
+                | Kind::Patched
+                | Kind::Buffers
         )
     }
 
-    /// The columns that nothing answers yet. They are left out of each line before it is read.
+    /// The columns that nothing answers. They are left out of each line before it is read.
     fn unanswered(self) -> &'static [&'static str] {
         match self {
             Kind::Instructions => &UNANSWERED_OF_INSTRUCTIONS,
-            Kind::Immediates => &UNANSWERED_OF_IMMEDIATES,
             _ => &[],
         }
     }
@@ -144,7 +156,7 @@ impl Kind {
             Kind::Vex => prefixes::answer_vex(fields, came),
             Kind::Evex => prefixes::answer_evex(fields, came),
             Kind::Apx => prefixes::answer_apx(fields, came),
-            Kind::Immediates => immediates::answer_immediate(fields, came),
+            Kind::Immediates => immediates::answer_immediate(alloc, fields, came),
             Kind::Ranges => immediates::answer_range(fields, came),
             Kind::Names => names::answer_name(fields, came),
             Kind::Instructions => encoding::answer_instruction(alloc, fields, came),
@@ -153,6 +165,9 @@ impl Kind {
             Kind::Refusals => lists::answer_refusal(alloc, fields, came),
             Kind::Reader => reading::answer_reading(alloc, fields, came),
             Kind::Program => program::answer_program(alloc, fields, came),
+            Kind::Addresses => texts::answer_address(alloc, fields, came),
+            Kind::Patched => buffers::answer_patched(fields, came),
+            Kind::Buffers => buffers::answer_buffer(alloc, fields, came),
         }
     }
 }

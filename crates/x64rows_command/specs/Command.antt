@@ -8,10 +8,15 @@ AsksForRows [] = Unit {0}
 AsksForRows (command ∷ []) = command ≡ codes "rows"
 AsksForRows words = ⊥
 
+-- `buffer`
+abbrev pub AsksForBuffer : List (List ℕ) → Type 0
+AsksForBuffer (command ∷ []) = command ≡ codes "buffer"
+AsksForBuffer words = ⊥
+
 -- `tail`, and six words that write an operand
 abbrev pub AsksForTail : List (List ℕ) → Type 0
 AsksForTail (command ∷ reg ∷ base ∷ index ∷ scale ∷ disp ∷ factor ∷ []) = (command ≡ codes "tail") × HasOperand reg base index scale disp factor
 AsksForTail words = ⊥
 
 abbrev pub IsCommand : List (List ℕ) → Type 0
-IsCommand words = AsksForRows words ⊎ AsksForTail words
+IsCommand words = AsksForRows words ⊎ (AsksForBuffer words ⊎ AsksForTail words)

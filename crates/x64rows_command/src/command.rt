@@ -1,7 +1,7 @@
 //! What the words ask for.
 
 ghost use Rattle.std.specs.Prelude.{◌↔◌, map, IsTrue, OnSome, IfNone};
-ghost use Rattle.x64rows_command.specs.Command.{AsksForRows, AsksForTail};
+ghost use Rattle.x64rows_command.specs.Command.{AsksForBuffer, AsksForRows, AsksForTail};
 
 use crate::tail::tail;
 use cax64_sink::FixedSink;
@@ -11,6 +11,13 @@ pub fn asks_for_rows(words: &[&str]) -> bool
     ensures { IsTrue result ↔ AsksForRows (map (λ word. word.now) words.now) }
 {
     matches!(words, [] | ["rows"])
+}
+
+/// Whether the words are those of `buffer`.
+pub fn asks_for_buffer(words: &[&str]) -> bool
+    ensures { IsTrue result ↔ AsksForBuffer (map (λ word. word.now) words.now) }
+{
+    matches!(words, ["buffer"])
 }
 
 /// The bytes that the words of `tail` ask for.

@@ -7,6 +7,6 @@ mod operand;
 mod tail;
 mod words;
 
-pub use command::{asked_tail, asks_for_rows};
+pub use command::{asked_tail, asks_for_buffer, asks_for_rows};
 pub use fault::Fault;
 pub use operand::{base_and_displacement, base_and_index};

@@ -1,6 +1,7 @@
 //! The program `x64rows` as a function over words and two writers.
 #![tactic(auto)]
 
+mod buffer;
 mod line;
 mod rows;
 
@@ -8,13 +9,15 @@ ghost use Rattle.std.specs.Prelude.{◌≡◌, ◌⊎◌, ◌≢◌, IfErr, map}
 ghost use Rattle.x64rows_command.specs.Command.{IsCommand};
 ghost use Rattle.x64rows_run.specs.Status.{IsStatus};
 
+use crate::buffer::{backward, forward};
 use crate::line::push_bytes;
 use crate::rows::ROW_LINES;
 use std::alloc::Allocator;
 use std::io::Write;
-use x64rows_command::{Fault, asked_tail, asks_for_rows};
+use x64rows_command::{Fault, asked_tail, asks_for_buffer, asks_for_rows};
 
-fn print_tail<A: Allocator>(alloc: A, bytes: &[u8], out: &mut impl Write) -> Result<(), Fault>
+/// Prints bytes as a line.
+fn print_bytes<A: Allocator>(alloc: A, bytes: &[u8], out: &mut impl Write) -> Result<(), Fault>
     ensures { IfErr result (λ fault. fault ≢ Fault.Usage) }
 {
     let mut line = String::new(alloc);
@@ -34,6 +37,15 @@ fn print_rows<A: Allocator>(alloc: A, out: &mut impl Write) -> Result<(), Fault>
     Ok(())
 }
 
+fn print_buffer<A: Allocator>(alloc: A, out: &mut impl Write) -> Result<(), Fault>
+    ensures { IfErr result (λ fault. fault ≢ Fault.Usage) }
+{
+    let ahead = forward(&alloc)?;
+    print_bytes(&alloc, ahead.as_slice(), out)?;
+    let back = backward(&alloc)?;
+    print_bytes(&alloc, back.as_slice(), out)
+}
+
 fn print_command<A: Allocator>(alloc: A, words: &[&str], out: &mut impl Write) -> Result<(), Fault>
     ensures command { (result ≢ Err Fault.Usage) → IsCommand (map (λ word. word.now) words.now) }
     ensures usage { result ≡ Err Fault.Usage → ¬ IsCommand (map (λ word. word.now) words.now) }
@@ -42,8 +54,11 @@ fn print_command<A: Allocator>(alloc: A, words: &[&str], out: &mut impl Write) -
     if asks_for_rows(words) {
         return print_rows(alloc, out);
     }
+    if asks_for_buffer(words) {
+        return print_buffer(alloc, out);
+    }
     match asked_tail(words) {
-        Some(sink) => print_tail(alloc, sink.bytes(), out),
+        Some(sink) => print_bytes(alloc, sink.bytes(), out),
         None => Err(Fault::Usage),
     }
 }

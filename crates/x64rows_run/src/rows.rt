@@ -56,30 +56,32 @@ pub const ROW_LINES: [RowLine; 14] = [
     RowLine::Nop9b,
 ];
 
-/// The line of an instruction: the name, the instruction's bytes, and what these read as: a row, the number of bytes and
-/// that of the tail's.
-fn text_of<I: Instruction + Drop, A: Allocator>(
+/// The line of an instruction: the name, the instruction's bytes, its text, and what the bytes read as: a row, the number
+/// of bytes and that of the tail's.
+fn text_of<I: RowAndOperands + Drop, A: Allocator + Copy>(
     alloc: A,
     name: &str,
     inst: I,
 ) -> Result<String<A>, AllocError>
-    requires { (offsets : ℕ → Option ℤ) → IsTrue (is_encodable offsets (I.meant inst offsets)) }
+    requires encodable { (offsets : ℕ → Option ℤ) → IsTrue (is_encodable offsets (I.Instruction.meant inst offsets)) }
+    requires nameable { IsTrue (nameable I.InstructionText.names (I.operands_of inst)) }
 {
     let mut sink = FixedSink::<MOST>::new();
     inst.encode(&mut sink).unwrap();
     let reading = read_inst(sink.bytes()).unwrap();
     let mut text = format!(in alloc; "{name}: ")?;
     push_bytes(&mut text, sink.bytes())?;
+    let written = inst.to_string(alloc)?;
     let row = reading.row.name();
     let length = reading.length;
     let tail = reading.tail;
-    writeln!(text, ": {row} {length} {tail}")?;
+    writeln!(text, ": {written}: {row} {length} {tail}")?;
     Ok(text)
 }
 
 impl RowLine {
     /// The whole line.
-    pub fn text<A: Allocator>(self, alloc: A) -> Result<String<A>, AllocError> {
+    pub fn text<A: Allocator + Copy>(self, alloc: A) -> Result<String<A>, AllocError> {
         match self {
             RowLine::AndbI => {
                 let mask: andb_i<Numbers> = andb_i::new(Fixed(0), Imm8::new(0xAA));

@@ -1,0 +1,163 @@
+//! The code buffer.
+
+use crate::columns::{write_bytes, write_notices, write_target};
+use crate::lists::has_changed;
+use cranelift_assembler_x64::{
+    CodeSink, Constant, DeferredTarget, Label, Numbers, RowAndOperands, SinkError,
+};
+use named_instructions::address::target_of;
+use named_instructions::fields::{Fault, Fields, parsed};
+use named_instructions::{Takes, take_named};
+use std::alloc::Global;
+use x64_code_buffer::{BindError, CodeBuffer, FinishError, patched_field};
+
+/// A field of four bytes, once its target is known.
+pub(crate) fn answer_patched(fields: &mut Fields<'_>, came: &mut String) -> Result<(), Fault> {
+    let place = parsed::<u64>(fields.text()?)?;
+    let target = parsed::<u64>(fields.text()?)?;
+    let stored = parsed::<i32>(fields.text()?)?;
+    match patched_field(place, target, stored) {
+        Some(field) => write!(came, "{field}")?,
+        None => came.push('-')?,
+    }
+    Ok(())
+}
+
+/// A buffer that takes instructions.
+#[derive(Drop)]
+struct Pushing {
+    buffer: CodeBuffer<Global>,
+}
+
+impl Takes for Pushing {
+    fn take<I: RowAndOperands<Family = Numbers> + Drop>(&mut self, inst: I) -> Result<(), Fault> {
+        if !inst.is_encodable(&self.buffer) {
+            return Err(Fault::Malformed);
+        }
+        self.buffer.push(&inst).map_err(|_| Fault::NoMemory)
+    }
+}
+
+fn label_of(text: &str) -> Result<Label, Fault> {
+    match target_of(text)? {
+        DeferredTarget::Label(label) => Ok(label),
+        _ => Err(Fault::Malformed),
+    }
+}
+
+fn constant_of(text: &str) -> Result<Constant, Fault> {
+    match target_of(text)? {
+        DeferredTarget::Constant(constant) => Ok(constant),
+        _ => Err(Fault::Malformed),
+    }
+}
+
+fn new_label(buffer: &mut CodeBuffer<Global>, came: &mut String) -> Result<(), Fault> {
+    let label = buffer.new_label().map_err(|_| Fault::NoMemory)?;
+    write_target(came, DeferredTarget::Label(label))
+}
+
+fn write_bound(came: &mut String, bound: Result<(), BindError>) -> Result<(), Fault> {
+    came.push_str(match bound {
+        Ok(()) => "Ok",
+        Err(BindError::Unknown) => "Unknown",
+        Err(BindError::Twice) => "Twice",
+        Err(BindError::NoMemory) => return Err(Fault::NoMemory),
+    })?;
+    Ok(())
+}
+
+/// Puts a number of so many bytes.
+fn put(buffer: &mut CodeBuffer<Global>, call: &str, value: &str) -> Result<(), Fault> {
+    let done: Result<(), SinkError> = match call {
+        "put1" => buffer.put1(parsed(value)?),
+        "put2" => buffer.put2(parsed(value)?),
+        "put4" => buffer.put4(parsed(value)?),
+        "put8" => buffer.put8(parsed(value)?),
+        "use_target" => buffer.use_target(target_of(value)?),
+        _ => return Err(Fault::Malformed),
+    };
+    done.map_err(|_| Fault::NoMemory)
+}
+
+/// Makes a call that has an argument, and writes its answer.
+fn make_call(
+    pushing: &mut Pushing,
+    call: &str,
+    argument: &str,
+    came: &mut String,
+) -> Result<(), Fault> {
+    match call {
+        "bind" => {
+            let bound = pushing.buffer.bind(label_of(argument)?);
+            write_bound(came, bound)
+        }
+        "bind_constant" => {
+            let bound = pushing.buffer.bind_constant(constant_of(argument)?);
+            write_bound(came, bound)
+        }
+        "push" => {
+            let (name, values) = argument.split_once(' ').ok_or(Fault::Malformed)?;
+            take_named(pushing, name, values)?;
+            write_bound(came, Ok(()))
+        }
+        _ => {
+            put(&mut pushing.buffer, call, argument)?;
+            write_bound(came, Ok(()))
+        }
+    }
+}
+
+/// Makes the calls of a script, and writes the answer of each.
+fn run_script(pushing: &mut Pushing, script: &str, came: &mut String) -> Result<(), Fault> {
+    let mut separator = "";
+    for step in script.split(" | ") {
+        came.push_str(separator)?;
+        separator = " | ";
+        match step.split_once(' ') {
+            Some((call, argument)) => make_call(pushing, call, argument, came)?,
+            None if step == "new_label" => new_label(&mut pushing.buffer, came)?,
+            None => return Err(Fault::Malformed),
+        }
+    }
+    Ok(())
+}
+
+fn write_finished(came: &mut String, buffer: CodeBuffer<Global>) -> Result<(), Fault> {
+    match buffer.finish() {
+        Ok(code) => {
+            came.push_str("ok:")?;
+            write_bytes(came, code.as_slice())
+        }
+        Err((_, FinishError::Unbound(target))) => {
+            came.push_str("Unbound:")?;
+            write_target(came, target)
+        }
+        Err((_, FinishError::TooFar(place))) => {
+            write!(came, "TooFar:{place}")?;
+            Ok(())
+        }
+    }
+}
+
+/// A buffer from its making to its end. The first of two stages, in which an 8-bit form with a digit of 4 to 7 had a REX
+/// byte for the digit, is passed over where such a form is pushed.
+pub(crate) fn answer_buffer(
+    alloc: Global,
+    fields: &mut Fields<'_>,
+    came: &mut String,
+) -> Result<(), Fault> {
+    let stage = fields.text()?;
+    let script = fields.text()?;
+    if stage == "1" && has_changed(script) {
+        return Err(Fault::PassedOver);
+    }
+    let mut pushing = Pushing {
+        buffer: CodeBuffer::new(alloc),
+    };
+    run_script(&mut pushing, script, came)?;
+    came.push('\t')?;
+    write_notices(came, pushing.buffer.notices())?;
+    came.push('\t')?;
+    write_finished(came, pushing.buffer)
+}

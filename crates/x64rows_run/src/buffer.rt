@@ -1,0 +1,66 @@
+//! The command `buffer`.
+
+ghost use Rattle.std.specs.Prelude.{◌≢◌, ℕ, ℤ, Option, IsTrue, IfErr};
+ghost use Rattle.cranelift_assembler_x64.specs.Fault.{is_encodable};
+
+use cranelift_assembler_x64::inst::{callq_m, cmpps_a};
+use cranelift_assembler_x64::{
+    Amode, DeferredTarget, GprMem, Imm8, Instruction, Label, Numbers, Xmm, XmmMem,
+};
+use std::alloc::Allocator;
+use x64_code_buffer::CodeBuffer;
+use x64rows_command::Fault;
+
+/// A place that is a label's.
+fn place_of(label: Label) -> Amode<u8> {
+    Amode::RipRelative {
+        target: DeferredTarget::Label(label),
+    }
+}
+
+/// The next label of a buffer.
+fn label_of<A: Allocator>(buffer: &mut CodeBuffer<A>) -> Result<Label, Fault>
+    ensures { IfErr result (λ fault. fault ≢ Fault.Usage) }
+{
+    buffer.new_label().map_err(|_| Fault::NoMemory)
+}
+
+/// Puts an instruction.
+fn push<I: Instruction, A: Allocator>(buffer: &mut CodeBuffer<A>, inst: &I) -> Result<(), Fault>
+    requires { (offsets : ℕ → Option ℤ) → IsTrue (is_encodable offsets (I.meant inst.now offsets)) }
+    ensures { IfErr result (λ fault. fault ≢ Fault.Usage) }
+{
+    buffer.push(inst).map_err(|_| Fault::NoMemory)
+}
+
+/// A comparison with what is behind it.
+pub fn forward<A: Allocator + Copy>(alloc: A) -> Result<Vec<u8, A>, Fault>
+    ensures { IfErr result (λ fault. fault ≢ Fault.Usage) }
+{
+    let mut buffer = CodeBuffer::new(alloc);
+    let label = label_of(&mut buffer)?;
+    let place = XmmMem::Mem(place_of(label));
+    let compare: cmpps_a<Numbers> = cmpps_a::new(Xmm::new(0), place, Imm8::new(0));
+    push(&mut buffer, &compare)?;
+    let _ = buffer.bind(label);
+    finished(buffer)
+}
+
+/// A call through what is before it.
+pub fn backward<A: Allocator + Copy>(alloc: A) -> Result<Vec<u8, A>, Fault>
+    ensures { IfErr result (λ fault. fault ≢ Fault.Usage) }
+{
+    let mut buffer = CodeBuffer::new(alloc);
+    let label = label_of(&mut buffer)?;
+    let _ = buffer.bind(label);
+    let call: callq_m<Numbers> = callq_m::new(GprMem::Mem(place_of(label)));
+    push(&mut buffer, &call)?;
+    finished(buffer)
+}
+
+/// The bytes of a buffer. Nothing is refused: its label was given and is bound once, and is near.
+fn finished<A: Allocator>(buffer: CodeBuffer<A>) -> Result<Vec<u8, A>, Fault>
+    ensures { IfErr result (λ fault. fault ≢ Fault.Usage) }
+{
+    buffer.finish().map_err(|(_, _)| Fault::NoMemory)
+}
