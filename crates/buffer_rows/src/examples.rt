@@ -140,7 +140,7 @@ fn a_label_stands_behind_a_later_instruction(rt: HostRuntime) {
     assert!(rt; push(&mut buffer, &shift()).is_ok());
     assert!(rt; buffer.bind(label) == Ok(()));
     let code = code_of(buffer).expect(&rt, "code");
-    assert!(rt; code.as_slice() == [0xFF, 0x15, 3, 0, 0, 0, 0x40, 0xD0, 0xE0].as_slice());
+    assert!(rt; code.as_slice() == [0xFF, 0x15, 2, 0, 0, 0, 0xD0, 0xE0].as_slice());
 }
 
 /// A loop: a comparison with a constant, a call through what comes behind, and a jump through the beginning.

@@ -57,6 +57,7 @@ pub use Rattle.cax64_encoder.specs.Meant
 pub use Rattle.cax64_encoder.specs.Nop
 pub use Rattle.cax64_encoder.specs.Fault
 pub use Rattle.cax64_encoder.specs.Notices
+pub use Rattle.cax64_encoder.specs.Relative
 pub use Rattle.cax64_encoder.specs.Instruction
 pub use Rattle.cax64_inst.specs.Inst
 pub use Rattle.cax64_sequence.specs.List
