@@ -115,7 +115,6 @@ impl Kind {
                 | Kind::Names
                 | Kind::Instructions
                 | Kind::Worked
-                | Kind::Addresses
                 | Kind::Patched
                 | Kind::Buffers
         )

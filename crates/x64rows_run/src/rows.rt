@@ -2,6 +2,7 @@
 
 ghost use Rattle.std.specs.Prelude.{ℕ, ℤ, Option, IsTrue};
 ghost use Rattle.cranelift_assembler_x64.specs.Fault.{is_encodable};
+ghost use Rattle.cranelift_assembler_x64.specs.OperandText.{nameable};
 
 use crate::line::push_bytes;
 use cranelift_assembler_x64::inst::{
@@ -10,8 +11,8 @@ use cranelift_assembler_x64::inst::{
 };
 use cranelift_assembler_x64::reader::read_inst;
 use cranelift_assembler_x64::{
-    Amode, Constant, DeferredTarget, Fixed, FixedSink, Gpr, GprMem, Imm8, Instruction, Numbers,
-    Scale, Simm8, Simm32, Xmm, XmmMem,
+    Amode, Constant, DeferredTarget, Fixed, FixedSink, Gpr, GprMem, Imm8, Instruction,
+    InstructionText, Numbers, RowAndOperands, Scale, Simm8, Simm32, Xmm, XmmMem,
 };
 use std::alloc::{AllocError, Allocator};
 use x64rows_command::{base_and_displacement, base_and_index};
@@ -63,8 +64,8 @@ fn text_of<I: RowAndOperands + Drop, A: Allocator + Copy>(
     name: &str,
     inst: I,
 ) -> Result<String<A>, AllocError>
-    requires encodable { (offsets : ℕ → Option ℤ) → IsTrue (is_encodable offsets (I.Instruction.meant inst offsets)) }
-    requires nameable { IsTrue (nameable I.InstructionText.names (I.operands_of inst)) }
+    requires encodable { (offsets : ℕ → Option ℤ) → IsTrue (is_encodable offsets (⟦<I as Instruction>⟧.meant inst offsets)) }
+    requires nameable { IsTrue (nameable ⟦<I as InstructionText>⟧.names (I.operands_of inst)) }
 {
     let mut sink = FixedSink::<MOST>::new();
     inst.encode(&mut sink).unwrap();
