@@ -2,7 +2,7 @@
 
 ghost use Rattle.std.specs.Prelude.{ℕ, ℤ, Option, IsTrue};
 ghost use Rattle.cranelift_assembler_x64.specs.Fault.{is_encodable};
-ghost use Rattle.cranelift_assembler_x64.specs.OperandText.{nameable};
+ghost use Rattle.cranelift_assembler_x64.specs.Text.{nameable};
 
 use crate::line::push_bytes;
 use cranelift_assembler_x64::inst::{
