@@ -3,7 +3,7 @@
 use crate::columns::{write_bytes, write_notices, write_target};
 use crate::lists::has_changed;
 use cranelift_assembler_x64::{
-    CodeSink, Constant, DeferredTarget, Label, Numbers, RowAndOperands, SinkError,
+    CodeSink, Constant, DeferredTarget, Instruction, Label, Numbers, RowAndOperands, SinkError,
 };
 use named_instructions::address::target_of;
 use named_instructions::fields::{Fault, Fields, parsed};
