@@ -11,13 +11,6 @@ use std::alloc::Allocator;
 use x64_code_buffer::CodeBuffer;
 use x64rows_command::Fault;
 
-/// A place that is a label's.
-fn place_of(label: Label) -> Amode<u8> {
-    Amode::RipRelative {
-        target: DeferredTarget::Label(label),
-    }
-}
-
 /// The next label of a buffer.
 fn label_of<A: Allocator>(buffer: &mut CodeBuffer<A>) -> Result<Label, Fault>
     ensures { IfErr result (λ fault. fault ≢ Fault.Usage) }
@@ -39,7 +32,8 @@ pub fn forward<A: Allocator + Copy>(alloc: A) -> Result<Vec<u8, A>, Fault>
 {
     let mut buffer = CodeBuffer::new(alloc);
     let label = label_of(&mut buffer)?;
-    let place = XmmMem::Mem(place_of(label));
+    let target = DeferredTarget::Label(label);
+    let place = XmmMem::Mem(Amode::RipRelative { target });
     let compare: cmpps_a<Numbers> = cmpps_a::new(Xmm::new(0), place, Imm8::new(0));
     push(&mut buffer, &compare)?;
     let _ = buffer.bind(label);
@@ -53,7 +47,8 @@ pub fn backward<A: Allocator + Copy>(alloc: A) -> Result<Vec<u8, A>, Fault>
     let mut buffer = CodeBuffer::new(alloc);
     let label = label_of(&mut buffer)?;
     let _ = buffer.bind(label);
-    let call: callq_m<Numbers> = callq_m::new(GprMem::Mem(place_of(label)));
+    let target = DeferredTarget::Label(label);
+    let call: callq_m<Numbers> = callq_m::new(GprMem::Mem(Amode::RipRelative { target }));
     push(&mut buffer, &call)?;
     finished(buffer)
 }
