@@ -18,11 +18,11 @@ ghost use Rattle.cax64_machine_code.specs.Line.{w_matches};
 ghost use Rattle.cax64_machine_code.specs.Prefix.{rex_bits};
 ghost use Rattle.cax64_machine_code.specs.Rows.{line_of};
 ghost use Rattle.cax64_operand.specs.Immediate.{imm_size};
-ghost use Rattle.cax64_operand.specs.Shape.{HasShape};
 ghost use Rattle.cax64_sink.specs.Run.{all_bytes};
 
 use crate::code::{Code, LineCode, PrefixCode, TailPart};
-use crate::form::{Form, form_of};
+use crate::content::Content;
+use crate::form::Form;
 use crate::imm::imm_size;
 use crate::number::Number;
 use crate::role::PlaceOperand;
@@ -31,10 +31,10 @@ use cax64_address::disp::encode_modrm;
 use cax64_address::tail::tail_of;
 use cax64_machine_code::line::{Line, PlaceField, PrefixField, RegField, TailField};
 use cax64_machine_code::row::Row;
-use cax64_operand::{Operands, RegisterFamily};
+use cax64_operand::{RegisterFamily, RowAndOperands};
 use cax64_prefix::rex::RexPrefix;
 use cax64_prefix::vex::VexPrefix;
-use cax64_register::{AsReg, Registers};
+use cax64_register::AsReg;
 use cax64_sink::{CodeSink, TrapCode};
 use cax64_table::line;
 
@@ -216,16 +216,17 @@ fn code_of<M: AsReg>(line: Line, form: &Form<M>, displacement: i32) -> LineCode
     }
 }
 
-/// The sink calls that write the instruction of a row with these operands.
-pub fn code_in<R: Registers, S: CodeSink>(row: Row, operands: &Operands<R>, sink: &S) -> Code
-    requires shape { HasShape row operands.now }
-    requires encodable { IsTrue (is_encodable (S.state sink.now).offsets (meant_of ⟦<R as RegisterFamily>⟧.family row operands.now (S.state sink.now).offsets)) }
-    ensures { EncodesAs (meant_of ⟦<R as RegisterFamily>⟧.family row operands.now (S.state sink.now).offsets) (code_actions result) }
+/// The sink calls that write an instruction.
+pub fn code_in<I: RowAndOperands, S: CodeSink>(inst: &I, sink: &S) -> Code
+    requires { IsTrue (is_encodable (S.state sink.now).offsets (meant_of ⟦<I::Family as RegisterFamily>⟧.family (I.row_of inst.now) (I.operands_of inst.now) (S.state sink.now).offsets)) }
+    ensures { EncodesAs (meant_of ⟦<I::Family as RegisterFamily>⟧.family (I.row_of inst.now) (I.operands_of inst.now) (S.state sink.now).offsets) (code_actions result) }
 {
-    if let Operands::Nop(nop) = operands {
-        return Code::Nop(*nop);
+    let content: Content<I::Family> = inst.operands();
+    match content {
+        Content::Nop(nop) => Code::Nop(nop),
+        Content::Operands(form) => {
+            let displacement = form.place.displacement(sink);
+            Code::Line(code_of(line(inst.row()), &form, displacement))
+        }
     }
-    let form = form_of(operands);
-    let displacement = form.place.displacement(sink);
-    Code::Line(code_of(line(row), &form, displacement))
 }

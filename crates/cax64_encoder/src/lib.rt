@@ -4,7 +4,9 @@
 //! get, and only then makes them.
 #![tactic(auto)]
 
+pub mod checked;
 pub mod code;
+pub mod content;
 pub mod encoder;
 pub mod fault;
 pub mod form;

@@ -7,7 +7,7 @@ ghost use Rattle.cax64_inst.specs.Inst.{row_of, operands_of, without_registers};
 ghost use Rattle.cax64_operand.specs.Shape.{HasShape};
 
 use crate::Inst;
-use cax64_operand::{Operand, Operands, RowAndOperands};
+use cax64_operand::{FromOperands, Operand, Operands, RowAndOperands};
 use cax64_register::Registers;
 
 /// The operands of an instruction without registers, for any family. Others would be left out.
@@ -24,8 +24,8 @@ fn without_registers<R: Registers, S: Registers>(operands: Operands<R>) -> Opera
 impl<R: Registers> Inst<R> {
     /// The operands of what is within, if it is locked, and else of the others.
     #[tactic(auto, unfolding(crate::specs::Inst::row_of, crate::specs::Inst::operands_of, crate::specs::Group::group_of))]
-    pub(crate) fn operands_locked(&self) -> Operands<R>
-        ensures value { result ≡ operands_of self.now }
+    pub(crate) fn operands_locked<T: FromOperands<R>>(&self) -> T
+        ensures value { result ≡ T.made (operands_of self.now) }
         ensures shape { HasShape (row_of self.now) (operands_of self.now) }
     {
         match self {
@@ -113,21 +113,21 @@ impl<R: Registers> Inst<R> {
     }
 
     #[tactic(auto, unfolding(crate::specs::Inst::row_of, crate::specs::Inst::operands_of, crate::specs::Group::group_of))]
-    fn operands_unlocked(&self) -> Operands<R>
+    fn operands_unlocked<T: FromOperands<R>>(&self) -> T
         requires { 4 ≤ group_of self.now }
-        ensures value { result ≡ operands_of self.now }
+        ensures value { result ≡ T.made (operands_of self.now) }
         ensures shape { HasShape (row_of self.now) (operands_of self.now) }
     {
         match self {
-            Inst::nop_1b(i) => without_registers(i.operands()),
-            Inst::nop_2b(i) => without_registers(i.operands()),
-            Inst::nop_3b(i) => without_registers(i.operands()),
-            Inst::nop_4b(i) => without_registers(i.operands()),
-            Inst::nop_5b(i) => without_registers(i.operands()),
-            Inst::nop_6b(i) => without_registers(i.operands()),
-            Inst::nop_7b(i) => without_registers(i.operands()),
-            Inst::nop_8b(i) => without_registers(i.operands()),
-            Inst::nop_9b(i) => without_registers(i.operands()),
+            Inst::nop_1b(i) => T::from_operands(without_registers(i.operands())),
+            Inst::nop_2b(i) => T::from_operands(without_registers(i.operands())),
+            Inst::nop_3b(i) => T::from_operands(without_registers(i.operands())),
+            Inst::nop_4b(i) => T::from_operands(without_registers(i.operands())),
+            Inst::nop_5b(i) => T::from_operands(without_registers(i.operands())),
+            Inst::nop_6b(i) => T::from_operands(without_registers(i.operands())),
+            Inst::nop_7b(i) => T::from_operands(without_registers(i.operands())),
+            Inst::nop_8b(i) => T::from_operands(without_registers(i.operands())),
+            Inst::nop_9b(i) => T::from_operands(without_registers(i.operands())),
             Inst::andb_i(i) => i.operands(),
             Inst::mulxl_rvm(i) => i.operands(),
             Inst::mulxq_rvm(i) => i.operands(),
@@ -168,42 +168,42 @@ impl<R: Registers> Inst<R> {
             Inst::vcvttpd2dq_a(i) => i.operands(),
             Inst::callq_m(i) => i.operands(),
             Inst::jmpq_m(i) => i.operands(),
-            Inst::jmp_d8(i) => without_registers(i.operands()),
-            Inst::jo_d8(i) => without_registers(i.operands()),
-            Inst::jno_d8(i) => without_registers(i.operands()),
-            Inst::jb_d8(i) => without_registers(i.operands()),
-            Inst::jae_d8(i) => without_registers(i.operands()),
-            Inst::je_d8(i) => without_registers(i.operands()),
-            Inst::jne_d8(i) => without_registers(i.operands()),
-            Inst::jbe_d8(i) => without_registers(i.operands()),
-            Inst::ja_d8(i) => without_registers(i.operands()),
-            Inst::js_d8(i) => without_registers(i.operands()),
-            Inst::jns_d8(i) => without_registers(i.operands()),
-            Inst::jp_d8(i) => without_registers(i.operands()),
-            Inst::jnp_d8(i) => without_registers(i.operands()),
-            Inst::jl_d8(i) => without_registers(i.operands()),
-            Inst::jge_d8(i) => without_registers(i.operands()),
-            Inst::jle_d8(i) => without_registers(i.operands()),
-            Inst::jg_d8(i) => without_registers(i.operands()),
-            Inst::callq_d(i) => without_registers(i.operands()),
-            Inst::jmp_d32(i) => without_registers(i.operands()),
-            Inst::jo_d32(i) => without_registers(i.operands()),
-            Inst::jno_d32(i) => without_registers(i.operands()),
-            Inst::jb_d32(i) => without_registers(i.operands()),
-            Inst::jae_d32(i) => without_registers(i.operands()),
-            Inst::je_d32(i) => without_registers(i.operands()),
-            Inst::jne_d32(i) => without_registers(i.operands()),
-            Inst::jbe_d32(i) => without_registers(i.operands()),
-            Inst::ja_d32(i) => without_registers(i.operands()),
-            Inst::js_d32(i) => without_registers(i.operands()),
-            Inst::jns_d32(i) => without_registers(i.operands()),
-            Inst::jp_d32(i) => without_registers(i.operands()),
-            Inst::jnp_d32(i) => without_registers(i.operands()),
-            Inst::jl_d32(i) => without_registers(i.operands()),
-            Inst::jge_d32(i) => without_registers(i.operands()),
-            Inst::jle_d32(i) => without_registers(i.operands()),
-            Inst::jg_d32(i) => without_registers(i.operands()),
-            _ => Operands::Zero,
+            Inst::jmp_d8(i) => T::from_operands(without_registers(i.operands())),
+            Inst::jo_d8(i) => T::from_operands(without_registers(i.operands())),
+            Inst::jno_d8(i) => T::from_operands(without_registers(i.operands())),
+            Inst::jb_d8(i) => T::from_operands(without_registers(i.operands())),
+            Inst::jae_d8(i) => T::from_operands(without_registers(i.operands())),
+            Inst::je_d8(i) => T::from_operands(without_registers(i.operands())),
+            Inst::jne_d8(i) => T::from_operands(without_registers(i.operands())),
+            Inst::jbe_d8(i) => T::from_operands(without_registers(i.operands())),
+            Inst::ja_d8(i) => T::from_operands(without_registers(i.operands())),
+            Inst::js_d8(i) => T::from_operands(without_registers(i.operands())),
+            Inst::jns_d8(i) => T::from_operands(without_registers(i.operands())),
+            Inst::jp_d8(i) => T::from_operands(without_registers(i.operands())),
+            Inst::jnp_d8(i) => T::from_operands(without_registers(i.operands())),
+            Inst::jl_d8(i) => T::from_operands(without_registers(i.operands())),
+            Inst::jge_d8(i) => T::from_operands(without_registers(i.operands())),
+            Inst::jle_d8(i) => T::from_operands(without_registers(i.operands())),
+            Inst::jg_d8(i) => T::from_operands(without_registers(i.operands())),
+            Inst::callq_d(i) => T::from_operands(without_registers(i.operands())),
+            Inst::jmp_d32(i) => T::from_operands(without_registers(i.operands())),
+            Inst::jo_d32(i) => T::from_operands(without_registers(i.operands())),
+            Inst::jno_d32(i) => T::from_operands(without_registers(i.operands())),
+            Inst::jb_d32(i) => T::from_operands(without_registers(i.operands())),
+            Inst::jae_d32(i) => T::from_operands(without_registers(i.operands())),
+            Inst::je_d32(i) => T::from_operands(without_registers(i.operands())),
+            Inst::jne_d32(i) => T::from_operands(without_registers(i.operands())),
+            Inst::jbe_d32(i) => T::from_operands(without_registers(i.operands())),
+            Inst::ja_d32(i) => T::from_operands(without_registers(i.operands())),
+            Inst::js_d32(i) => T::from_operands(without_registers(i.operands())),
+            Inst::jns_d32(i) => T::from_operands(without_registers(i.operands())),
+            Inst::jp_d32(i) => T::from_operands(without_registers(i.operands())),
+            Inst::jnp_d32(i) => T::from_operands(without_registers(i.operands())),
+            Inst::jl_d32(i) => T::from_operands(without_registers(i.operands())),
+            Inst::jge_d32(i) => T::from_operands(without_registers(i.operands())),
+            Inst::jle_d32(i) => T::from_operands(without_registers(i.operands())),
+            Inst::jg_d32(i) => T::from_operands(without_registers(i.operands())),
+            _ => T::from_operands(Operands::Zero),
         }
     }
 }

@@ -11,6 +11,25 @@ use crate::visitor::RegisterVisitor;
 use cax64_machine_code::row::Row;
 use cax64_register::Registers;
 
+/// What is made of the operands of an instruction where they are listed, so that the list itself need not be kept.
+pub trait FromOperands<R: Registers> {
+    ghost made: { Operands R R.ReadGpr R.ReadWriteGpr R.WriteGpr R.ReadXmm R.ReadWriteXmm R.WriteXmm → Self };
+
+    fn from_operands(operands: Operands<R>) -> Self
+        ensures { result ≡ made operands };
+}
+
+/// The list itself.
+impl<R: Registers> FromOperands<R> for Operands<R> {
+    ghost made = { λ operands. operands };
+
+    fn from_operands(operands: Operands<R>) -> Self
+        ensures { result ≡ operands }
+    {
+        operands
+    }
+}
+
 /// An instruction is a row of the table and the operands in the order of visits. All that it means follows from these.
 pub trait RowAndOperands {
     /// The registers; plain numbers where it has none.
@@ -23,8 +42,9 @@ pub trait RowAndOperands {
     fn row(&self) -> Row
         ensures { result ≡ row_of self.now };
 
-    fn operands(&self) -> Operands<Self::Family>
-        ensures value { result ≡ operands_of self.now }
+    /// The operands, as what is wanted of them.
+    fn operands<T: FromOperands<Self::Family>>(&self) -> T
+        ensures value { result ≡ T.made (operands_of self.now) }
         ensures shape { HasShape (row_of self.now) (operands_of self.now) };
 
     /// Goes over the registers, and puts what the visitor gives in their place. All else stays.

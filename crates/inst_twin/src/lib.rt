@@ -6,7 +6,7 @@ ghost use Rattle.std.specs.Prelude.{◌≡◌};
 ghost use Rattle.inst_twin.specs.Twin.{row_of, operands_of, without_registers};
 
 use cax64_machine_code::row::Row;
-use cax64_operand::{Operand, Operands, RegisterVisitor, RowAndOperands};
+use cax64_operand::{FromOperands, Operand, Operands, RegisterVisitor, RowAndOperands};
 use cax64_register::Registers;
 use lock_x::lock_xaddb_mr;
 use nop::nop_1b;
@@ -45,9 +45,9 @@ impl<R: Registers> RowAndOperands for Twin<R> {
     }
 
     #[tactic(auto, unfolding(crate::specs::Twin::row_of, crate::specs::Twin::operands_of))]
-    fn operands(&self) -> Operands<R> {
+    fn operands<T: FromOperands<R>>(&self) -> T {
         match self {
-            Twin::nop_1b(i) => without_registers(i.operands()),
+            Twin::nop_1b(i) => T::from_operands(without_registers(i.operands())),
             Twin::lock_xaddb_mr(i) => i.operands(),
         }
     }

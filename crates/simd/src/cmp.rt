@@ -10,7 +10,7 @@ ghost use Rattle.cax64_operand.specs.declared.operand.Operands.TheVariants.{Thre
 use cax64_address::operand::XmmMem;
 use cax64_immediate::Imm8;
 use cax64_machine_code::row::Row;
-use cax64_operand::{Immediate, Operand, Operands, RegisterVisitor, RowAndOperands};
+use cax64_operand::{FromOperands, Immediate, Operand, Operands, RegisterVisitor, RowAndOperands};
 use cax64_register::{Registers, Xmm};
 use std::marker::Model;
 
@@ -57,12 +57,12 @@ impl<R: Registers> RowAndOperands for cmpps_a<R> {
     }
 
     #[tactic(auto, unfolding(cax64_machine_code::specs::Rows::line_of))]
-    fn operands(&self) -> Operands<R> {
-        Operands::Three(
+    fn operands<T: FromOperands<R>>(&self) -> T {
+        T::from_operands(Operands::Three(
             Operand::ReadWriteXmm(*self.xmm1.as_ref()),
             Operand::ReadXmmMem(self.xmm_m128),
             Operand::Imm(Immediate::Predicate(self.imm8.value())),
-        )
+        ))
     }
 
     fn visit<V: RegisterVisitor<R>>(&mut self, visitor: &mut V) {
@@ -114,12 +114,12 @@ impl<R: Registers> RowAndOperands for cmppd_a<R> {
     }
 
     #[tactic(auto, unfolding(cax64_machine_code::specs::Rows::line_of))]
-    fn operands(&self) -> Operands<R> {
-        Operands::Three(
+    fn operands<T: FromOperands<R>>(&self) -> T {
+        T::from_operands(Operands::Three(
             Operand::ReadWriteXmm(*self.xmm1.as_ref()),
             Operand::ReadXmmMem(self.xmm_m128),
             Operand::Imm(Immediate::Predicate(self.imm8.value())),
-        )
+        ))
     }
 
     fn visit<V: RegisterVisitor<R>>(&mut self, visitor: &mut V) {
@@ -171,12 +171,12 @@ impl<R: Registers> RowAndOperands for cmpss_a<R> {
     }
 
     #[tactic(auto, unfolding(cax64_machine_code::specs::Rows::line_of))]
-    fn operands(&self) -> Operands<R> {
-        Operands::Three(
+    fn operands<T: FromOperands<R>>(&self) -> T {
+        T::from_operands(Operands::Three(
             Operand::ReadWriteXmm(*self.xmm1.as_ref()),
             Operand::ReadXmmMem(self.xmm_m32),
             Operand::Imm(Immediate::Predicate(self.imm8.value())),
-        )
+        ))
     }
 
     fn visit<V: RegisterVisitor<R>>(&mut self, visitor: &mut V) {
@@ -228,12 +228,12 @@ impl<R: Registers> RowAndOperands for cmpsd_a<R> {
     }
 
     #[tactic(auto, unfolding(cax64_machine_code::specs::Rows::line_of))]
-    fn operands(&self) -> Operands<R> {
-        Operands::Three(
+    fn operands<T: FromOperands<R>>(&self) -> T {
+        T::from_operands(Operands::Three(
             Operand::ReadWriteXmm(*self.xmm1.as_ref()),
             Operand::ReadXmmMem(self.xmm_m64),
             Operand::Imm(Immediate::Predicate(self.imm8.value())),
-        )
+        ))
     }
 
     fn visit<V: RegisterVisitor<R>>(&mut self, visitor: &mut V) {

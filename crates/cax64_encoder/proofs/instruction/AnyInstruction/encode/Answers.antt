@@ -4,7 +4,7 @@ use Rattle.cax64_encoder.proofs.instruction.AnyInstruction.encode.Goals as goal
 
 pub returns : goal.returns
 returns g c =
-    let meant = rw (c.row.ensures, c.operands.ensures.value) at c.code_in-code.ensures in
+    let meant = c.code_in.ensures in
     record {
       adds = run_adds c.put.result meant c.put.ensures;
       leaves = run_leaves c.put.result meant c.put.ensures;

@@ -1,0 +1,67 @@
+use Rattle.std.proofs.Common.{◌≡◌, ℕ, Bool, true, false, refl, ◌∙◌, ap, Option, Some, None, List, [], ◌∷◌, ◌++◌, ℤ}
+use Rattle.std.specs.Prelude.{◌&&◌}
+use Rattle.cax64_address.specs.declared.amode.Amode.{Amode}
+use Rattle.cax64_address.specs.declared.amode.Amode.TheVariants.{ImmReg, ImmRegRegShift, RipRelative}
+use Rattle.cax64_address.specs.declared.offset.AmodeOffsetPlusKnownOffset.{AmodeOffsetPlusKnownOffset}
+use Rattle.cax64_operand.specs.Family.{Family, Numbering}
+use Rattle.cax64_operand.specs.OperandList.{list_of}
+use Rattle.cax64_operand.specs.declared.operand.Operands.{Operands}
+use Rattle.cax64_operand.specs.declared.operand.Operands.TheVariants as operands
+use Rattle.cax64_machine_code.specs.declared.row.Row.{Row}
+use Rattle.cax64_encoder.specs.Checked.{checked_of, holds, offset_of, offset_fits}
+use Rattle.cax64_encoder.specs.Fault.{is_met, all_met, late_offset_fits, is_encodable}
+use Rattle.cax64_encoder.specs.Meant.{meant_of, place_in}
+use Rattle.cax64_encoder.specs.Place.{memory_in}
+use Rattle.cax64_encoder.specs.Role.{roles_of}
+use Rattle.cax64_encoder.specs.Visits.{visits_of}
+use Rattle.cax64_encoder.specs.declared.checked.Checked.{Checked}
+use Rattle.cax64_encoder.specs.declared.fault.Visited.{Visited}
+use Rattle.cax64_encoder.specs.declared.form.Form.{Form}
+use Rattle.cax64_encoder.specs.Form.{form_of}
+use Rattle.cax64_encoder.specs.declared.role.Role.{Role}
+use Rattle.cax64_encoder.proofs.Forms.{direct, with_all}
+use Rattle.cax64_encoder.proofs.Walk.{role_before}
+
+-- The conjunction is what can be encoded.
+
+all_before : (first later : List Visited) → all_met (first ++ later) ≡ (all_met first && all_met later)
+all_before [] later = refl
+all_before (v ∷ first) later = by_test (is_met v) (all_before first later)
+  where
+    by_test : (met : Bool) → all_met (first ++ later) ≡ (all_met first && all_met later) → (met && all_met (first ++ later)) ≡ ((met && all_met first) && all_met later)
+    by_test true e = e
+    by_test false e = refl
+
+-- the registers of an operand, and those of the later ones
+pub met_before : {M : Type 0} (n : Numbering M) (r role : Role M) (later : List (Role M)) (a b : Bool) → r ≡ role → a ≡ all_met (visits_of n (r ∷ [])) → b ≡ all_met (visits_of n later) → (a && b) ≡ all_met (visits_of n (role ∷ later))
+met_before n r role later a b is e h =
+    let k : a ≡ all_met (visits_of n (role ∷ [])) = rw is at e in
+    ap (λ (x : Bool). x && b) k ∙ ap (λ (x : Bool). all_met (visits_of n (role ∷ [])) && x) h ∙ sym_of (all_before (visits_of n (role ∷ [])) (visits_of n later)) ∙ ap all_met (role_before n role later)
+  where
+    sym_of : {x y : Bool} → x ≡ y → y ≡ x
+    sym_of e = rw e refl
+
+late_same : {M : Type 0} (offsets : ℕ → Option ℤ) (memory : Option (Amode M)) → offset_fits offsets (offset_of memory) ≡ late_offset_fits offsets memory
+late_same offsets None = refl
+late_same offsets (Some (ImmReg base simm32 trap)) = refl
+late_same offsets (Some (ImmRegRegShift base index scale simm32 trap)) = refl
+late_same offsets (Some (RipRelative target)) = refl
+
+-- what is kept of operands is what they come to
+pub checked_is : {R A B C D E F : Type 0} (f : Family A B C D E F) (o : Operands R A B C D E F) (form : Form A) (met : Bool) (displacement : Option AmodeOffsetPlusKnownOffset) → form ≡ form_of f (list_of o) → met ≡ all_met (visits_of f.read_gpr (roles_of f (list_of o))) → displacement ≡ offset_of (memory_in form.place) → record { met = met; displacement = displacement } ≡ checked_of f o
+checked_is f o form met displacement e h k =
+    let is : form ≡ direct (roles_of f (list_of o)) = e ∙ with_all (roles_of f (list_of o)) in
+    let d : displacement ≡ offset_of (memory_in (place_in (roles_of f (list_of o)))) = rw is at k in
+    rw (h, d) refl
+
+holds_list : {R A B C D E F : Type 0} (f : Family A B C D E F) (o : Operands R A B C D E F) (offsets : ℕ → Option ℤ) → holds offsets (checked_of f o) ≡ (all_met (visits_of f.read_gpr (roles_of f (list_of o))) && late_offset_fits offsets (memory_in (place_in (roles_of f (list_of o)))))
+holds_list f o offsets = ap (λ (x : Bool). all_met (visits_of f.read_gpr (roles_of f (list_of o))) && x) (late_same offsets (memory_in (place_in (roles_of f (list_of o)))))
+
+pub holds_is : {R A B C D E F : Type 0} (f : Family A B C D E F) (row : Row) (o : Operands R A B C D E F) (offsets : ℕ → Option ℤ) → holds offsets (checked_of f o) ≡ is_encodable offsets (meant_of f row o offsets)
+holds_is {R = R} f row operands.Zero offsets = holds_list {R = R} f operands.Zero offsets
+holds_is {R = R} f row (operands.One a) offsets = holds_list {R = R} f (operands.One a) offsets
+holds_is {R = R} f row (operands.Two a b) offsets = holds_list {R = R} f (operands.Two a b) offsets
+holds_is {R = R} f row (operands.Three a b c) offsets = holds_list {R = R} f (operands.Three a b c) offsets
+holds_is {R = R} f row (operands.Four a b c d) offsets = holds_list {R = R} f (operands.Four a b c d) offsets
+holds_is {R = R} f row (operands.Five a b c d e) offsets = holds_list {R = R} f (operands.Five a b c d e) offsets
+holds_is {R = R} f row (operands.Nop nop) offsets = refl
