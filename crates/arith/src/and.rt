@@ -10,7 +10,7 @@ ghost use Rattle.cax64_register.specs.declared.gpr.Size.TheVariants.{Byte};
 
 use cax64_immediate::Imm8;
 use cax64_machine_code::row::Row;
-use cax64_operand::{FromOperands, Immediate, Operand, Operands, RegisterVisitor, RowAndOperands};
+use cax64_operand::{FromOperands, Immediate, Operand, RegisterVisitor, RowAndOperands};
 use cax64_register::{Fixed, Registers, Size};
 use std::marker::Model;
 
@@ -48,10 +48,10 @@ impl<R: Registers> RowAndOperands for andb_i<R> {
 
     #[tactic(auto, unfolding(cax64_machine_code::specs::Rows::line_of))]
     fn operands<T: FromOperands<R>>(&self) -> T {
-        T::from_operands(Operands::Two(
+        T::two(
             Operand::FixedReadWriteGpr(self.al.0, 0, Some(Size::Byte)),
             Operand::Imm(Immediate::Imm8(self.imm8.value())),
-        ))
+        )
     }
 
     fn visit<V: RegisterVisitor<R>>(&mut self, visitor: &mut V) {

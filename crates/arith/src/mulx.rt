@@ -9,7 +9,7 @@ ghost use Rattle.cax64_register.specs.declared.gpr.Size.TheVariants.{Doubleword,
 
 use cax64_address::operand::GprMem;
 use cax64_machine_code::row::Row;
-use cax64_operand::{FromOperands, Operand, Operands, RegisterVisitor, RowAndOperands, visit_two_gprs};
+use cax64_operand::{FromOperands, Operand, RegisterVisitor, RowAndOperands, visit_two_gprs};
 use cax64_register::{Fixed, Gpr, Registers, Size};
 use std::marker::Model;
 
@@ -59,11 +59,11 @@ impl<R: Registers> RowAndOperands for mulxl_rvm<R> {
 
     #[tactic(auto, unfolding(cax64_machine_code::specs::Rows::line_of))]
     fn operands<T: FromOperands<R>>(&self) -> T {
-        T::from_operands(Operands::Three(
+        T::three(
             Operand::WriteTwoGprs(*self.r32a.as_ref(), *self.r32b.as_ref(), Size::Doubleword),
             Operand::ReadGprMem(self.rm32, Size::Doubleword),
             Operand::FixedReadGpr(self.edx.0, 2, None),
-        ))
+        )
     }
 
     fn visit<V: RegisterVisitor<R>>(&mut self, visitor: &mut V) {
@@ -119,11 +119,11 @@ impl<R: Registers> RowAndOperands for mulxq_rvm<R> {
 
     #[tactic(auto, unfolding(cax64_machine_code::specs::Rows::line_of))]
     fn operands<T: FromOperands<R>>(&self) -> T {
-        T::from_operands(Operands::Three(
+        T::three(
             Operand::WriteTwoGprs(*self.r64a.as_ref(), *self.r64b.as_ref(), Size::Quadword),
             Operand::ReadGprMem(self.rm64, Size::Quadword),
             Operand::FixedReadGpr(self.rdx.0, 2, None),
-        ))
+        )
     }
 
     fn visit<V: RegisterVisitor<R>>(&mut self, visitor: &mut V) {

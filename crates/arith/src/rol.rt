@@ -9,7 +9,7 @@ ghost use Rattle.cax64_register.specs.declared.gpr.Size.TheVariants.{Byte, Doubl
 
 use cax64_address::operand::GprMem;
 use cax64_machine_code::row::Row;
-use cax64_operand::{FromOperands, Operand, Operands, RegisterVisitor, RowAndOperands};
+use cax64_operand::{FromOperands, Operand, RegisterVisitor, RowAndOperands};
 use cax64_register::{Registers, Size};
 use std::marker::Model;
 
@@ -46,7 +46,7 @@ impl<R: Registers> RowAndOperands for rolb_m1<R> {
 
     #[tactic(auto, unfolding(cax64_machine_code::specs::Rows::line_of))]
     fn operands<T: FromOperands<R>>(&self) -> T {
-        T::from_operands(Operands::One(Operand::ReadWriteGprMem(self.rm8, Size::Byte)))
+        T::one(Operand::ReadWriteGprMem(self.rm8, Size::Byte))
     }
 
     fn visit<V: RegisterVisitor<R>>(&mut self, visitor: &mut V) {
@@ -87,7 +87,7 @@ impl<R: Registers> RowAndOperands for rolw_m1<R> {
 
     #[tactic(auto, unfolding(cax64_machine_code::specs::Rows::line_of))]
     fn operands<T: FromOperands<R>>(&self) -> T {
-        T::from_operands(Operands::One(Operand::ReadWriteGprMem(self.rm16, Size::Word)))
+        T::one(Operand::ReadWriteGprMem(self.rm16, Size::Word))
     }
 
     fn visit<V: RegisterVisitor<R>>(&mut self, visitor: &mut V) {
@@ -128,7 +128,7 @@ impl<R: Registers> RowAndOperands for roll_m1<R> {
 
     #[tactic(auto, unfolding(cax64_machine_code::specs::Rows::line_of))]
     fn operands<T: FromOperands<R>>(&self) -> T {
-        T::from_operands(Operands::One(Operand::ReadWriteGprMem(self.rm32, Size::Doubleword)))
+        T::one(Operand::ReadWriteGprMem(self.rm32, Size::Doubleword))
     }
 
     fn visit<V: RegisterVisitor<R>>(&mut self, visitor: &mut V) {
@@ -169,7 +169,7 @@ impl<R: Registers> RowAndOperands for rolq_m1<R> {
 
     #[tactic(auto, unfolding(cax64_machine_code::specs::Rows::line_of))]
     fn operands<T: FromOperands<R>>(&self) -> T {
-        T::from_operands(Operands::One(Operand::ReadWriteGprMem(self.rm64, Size::Quadword)))
+        T::one(Operand::ReadWriteGprMem(self.rm64, Size::Quadword))
     }
 
     fn visit<V: RegisterVisitor<R>>(&mut self, visitor: &mut V) {

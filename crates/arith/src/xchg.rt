@@ -9,7 +9,7 @@ ghost use Rattle.cax64_register.specs.declared.gpr.Size.TheVariants.{Byte, Doubl
 
 use cax64_address::amode::Amode;
 use cax64_machine_code::row::Row;
-use cax64_operand::{FromOperands, Operand, Operands, RegisterVisitor, RowAndOperands};
+use cax64_operand::{FromOperands, Operand, RegisterVisitor, RowAndOperands};
 use cax64_register::{Gpr, Registers, Size};
 use std::marker::Model;
 
@@ -47,10 +47,10 @@ impl<R: Registers> RowAndOperands for xchgb_rm<R> {
 
     #[tactic(auto, unfolding(cax64_machine_code::specs::Rows::line_of))]
     fn operands<T: FromOperands<R>>(&self) -> T {
-        T::from_operands(Operands::Two(
+        T::two(
             Operand::ReadWriteGpr(*self.r8.as_ref(), Size::Byte),
             Operand::ReadAmode(self.m8),
-        ))
+        )
     }
 
     fn visit<V: RegisterVisitor<R>>(&mut self, visitor: &mut V) {
@@ -93,10 +93,10 @@ impl<R: Registers> RowAndOperands for xchgw_rm<R> {
 
     #[tactic(auto, unfolding(cax64_machine_code::specs::Rows::line_of))]
     fn operands<T: FromOperands<R>>(&self) -> T {
-        T::from_operands(Operands::Two(
+        T::two(
             Operand::ReadWriteGpr(*self.r16.as_ref(), Size::Word),
             Operand::ReadAmode(self.m16),
-        ))
+        )
     }
 
     fn visit<V: RegisterVisitor<R>>(&mut self, visitor: &mut V) {
@@ -139,10 +139,10 @@ impl<R: Registers> RowAndOperands for xchgl_rm<R> {
 
     #[tactic(auto, unfolding(cax64_machine_code::specs::Rows::line_of))]
     fn operands<T: FromOperands<R>>(&self) -> T {
-        T::from_operands(Operands::Two(
+        T::two(
             Operand::ReadWriteGpr(*self.r32.as_ref(), Size::Doubleword),
             Operand::ReadAmode(self.m32),
-        ))
+        )
     }
 
     fn visit<V: RegisterVisitor<R>>(&mut self, visitor: &mut V) {
@@ -185,10 +185,10 @@ impl<R: Registers> RowAndOperands for xchgq_rm<R> {
 
     #[tactic(auto, unfolding(cax64_machine_code::specs::Rows::line_of))]
     fn operands<T: FromOperands<R>>(&self) -> T {
-        T::from_operands(Operands::Two(
+        T::two(
             Operand::ReadWriteGpr(*self.r64.as_ref(), Size::Quadword),
             Operand::ReadAmode(self.m64),
-        ))
+        )
     }
 
     fn visit<V: RegisterVisitor<R>>(&mut self, visitor: &mut V) {

@@ -2,24 +2,21 @@ use Rattle.std.proofs.Common.{◌≡◌, ℕ, Bool, true, false, refl, ◌∙◌
 use Rattle.std.specs.Prelude.{◌&&◌}
 use Rattle.cax64_address.specs.declared.amode.Amode.{Amode}
 use Rattle.cax64_address.specs.declared.amode.Amode.TheVariants.{ImmReg, ImmRegRegShift, RipRelative}
-use Rattle.cax64_address.specs.declared.offset.AmodeOffsetPlusKnownOffset.{AmodeOffsetPlusKnownOffset}
+use Rattle.cax64_operand.specs.declared.operand.Operand.{Operand}
 use Rattle.cax64_operand.specs.Family.{Family, Numbering}
 use Rattle.cax64_operand.specs.OperandList.{list_of}
 use Rattle.cax64_operand.specs.declared.operand.Operands.{Operands}
 use Rattle.cax64_operand.specs.declared.operand.Operands.TheVariants as operands
 use Rattle.cax64_machine_code.specs.declared.row.Row.{Row}
-use Rattle.cax64_encoder.specs.Checked.{checked_of, holds, offset_of, offset_fits}
+use Rattle.cax64_encoder.specs.Checked.{checked_of, checked_roles, with_checked, holds, offset_of, offset_fits}
 use Rattle.cax64_encoder.specs.Fault.{is_met, all_met, late_offset_fits, is_encodable}
 use Rattle.cax64_encoder.specs.Meant.{meant_of, place_in}
 use Rattle.cax64_encoder.specs.Place.{memory_in}
 use Rattle.cax64_encoder.specs.Role.{roles_of}
 use Rattle.cax64_encoder.specs.Visits.{visits_of}
-use Rattle.cax64_encoder.specs.declared.checked.Checked.{Checked}
+use Rattle.cax64_encoder.specs.declared.role.Role.TheVariants.{Register, TwoRegisters, FixedRegister, Place, Immediate}
 use Rattle.cax64_encoder.specs.declared.fault.Visited.{Visited}
-use Rattle.cax64_encoder.specs.declared.form.Form.{Form}
-use Rattle.cax64_encoder.specs.Form.{form_of}
 use Rattle.cax64_encoder.specs.declared.role.Role.{Role}
-use Rattle.cax64_encoder.proofs.Forms.{direct, with_all}
 use Rattle.cax64_encoder.proofs.Walk.{role_before}
 
 -- The conjunction is what can be encoded.
@@ -48,20 +45,22 @@ late_same offsets (Some (ImmRegRegShift base index scale simm32 trap)) = refl
 late_same offsets (Some (RipRelative target)) = refl
 
 -- what is kept of operands is what they come to
-pub checked_is : {R A B C D E F : Type 0} (f : Family A B C D E F) (o : Operands R A B C D E F) (form : Form A) (met : Bool) (displacement : Option AmodeOffsetPlusKnownOffset) → form ≡ form_of f (list_of o) → met ≡ all_met (visits_of f.read_gpr (roles_of f (list_of o))) → displacement ≡ offset_of (memory_in form.place) → record { met = met; displacement = displacement } ≡ checked_of f o
-checked_is f o form met displacement e h k =
-    let is : form ≡ direct (roles_of f (list_of o)) = e ∙ with_all (roles_of f (list_of o)) in
-    let d : displacement ≡ offset_of (memory_in (place_in (roles_of f (list_of o)))) = rw is at k in
-    rw (h, d) refl
+checked_is : {M : Type 0} (n : Numbering M) (roles : List (Role M)) → checked_roles n roles ≡ record { met = all_met (visits_of n roles); displacement = offset_of (memory_in (place_in roles)) }
+checked_is n [] = refl
+checked_is n (Register number ∷ later) = ap (with_checked n (Register number)) (checked_is n later) ∙ ap (λ (b : Bool). record { met = b; displacement = offset_of (memory_in (place_in later)) }) (met_before n (Register number) (Register number) later _ _ refl refl refl)
+checked_is n (TwoRegisters high low same ∷ later) = ap (with_checked n (TwoRegisters high low same)) (checked_is n later) ∙ ap (λ (b : Bool). record { met = b; displacement = offset_of (memory_in (place_in later)) }) (met_before n (TwoRegisters high low same) (TwoRegisters high low same) later _ _ refl refl refl)
+checked_is n (FixedRegister fixed ∷ later) = ap (with_checked n (FixedRegister fixed)) (checked_is n later) ∙ ap (λ (b : Bool). record { met = b; displacement = offset_of (memory_in (place_in later)) }) (met_before n (FixedRegister fixed) (FixedRegister fixed) later _ _ refl refl refl)
+checked_is n (Place operand ∷ later) = ap (with_checked n (Place operand)) (checked_is n later) ∙ ap (λ (b : Bool). record { met = b; displacement = offset_of (memory_in operand) }) (met_before n (Place operand) (Place operand) later _ _ refl refl refl)
+checked_is n (Immediate imm ∷ later) = ap (with_checked n (Immediate imm)) (checked_is n later) ∙ ap (λ (b : Bool). record { met = b; displacement = offset_of (memory_in (place_in later)) }) (met_before n (Immediate imm) (Immediate imm) later _ _ refl refl refl)
 
-holds_list : {R A B C D E F : Type 0} (f : Family A B C D E F) (o : Operands R A B C D E F) (offsets : ℕ → Option ℤ) → holds offsets (checked_of f o) ≡ (all_met (visits_of f.read_gpr (roles_of f (list_of o))) && late_offset_fits offsets (memory_in (place_in (roles_of f (list_of o)))))
-holds_list f o offsets = ap (λ (x : Bool). all_met (visits_of f.read_gpr (roles_of f (list_of o))) && x) (late_same offsets (memory_in (place_in (roles_of f (list_of o)))))
+holds_list : {R A B C D E F : Type 0} (f : Family A B C D E F) (list : List (Operand R A B C D E F)) (offsets : ℕ → Option ℤ) → holds offsets (checked_of f list) ≡ (all_met (visits_of f.read_gpr (roles_of f list)) && late_offset_fits offsets (memory_in (place_in (roles_of f list))))
+holds_list f list offsets = ap (holds offsets) (checked_is f.read_gpr (roles_of f list)) ∙ ap (λ (x : Bool). all_met (visits_of f.read_gpr (roles_of f list)) && x) (late_same offsets (memory_in (place_in (roles_of f list))))
 
-pub holds_is : {R A B C D E F : Type 0} (f : Family A B C D E F) (row : Row) (o : Operands R A B C D E F) (offsets : ℕ → Option ℤ) → holds offsets (checked_of f o) ≡ is_encodable offsets (meant_of f row o offsets)
-holds_is {R = R} f row operands.Zero offsets = holds_list {R = R} f operands.Zero offsets
-holds_is {R = R} f row (operands.One a) offsets = holds_list {R = R} f (operands.One a) offsets
-holds_is {R = R} f row (operands.Two a b) offsets = holds_list {R = R} f (operands.Two a b) offsets
-holds_is {R = R} f row (operands.Three a b c) offsets = holds_list {R = R} f (operands.Three a b c) offsets
-holds_is {R = R} f row (operands.Four a b c d) offsets = holds_list {R = R} f (operands.Four a b c d) offsets
-holds_is {R = R} f row (operands.Five a b c d e) offsets = holds_list {R = R} f (operands.Five a b c d e) offsets
+pub holds_is : {R A B C D E F : Type 0} (f : Family A B C D E F) (row : Row) (o : Operands R A B C D E F) (offsets : ℕ → Option ℤ) → holds offsets (checked_of f (list_of o)) ≡ is_encodable offsets (meant_of f row o offsets)
+holds_is {R = R} f row operands.Zero offsets = holds_list {R = R} f (list_of operands.Zero) offsets
+holds_is {R = R} f row (operands.One a) offsets = holds_list {R = R} f (list_of (operands.One a)) offsets
+holds_is {R = R} f row (operands.Two a b) offsets = holds_list {R = R} f (list_of (operands.Two a b)) offsets
+holds_is {R = R} f row (operands.Three a b c) offsets = holds_list {R = R} f (list_of (operands.Three a b c)) offsets
+holds_is {R = R} f row (operands.Four a b c d) offsets = holds_list {R = R} f (list_of (operands.Four a b c d)) offsets
+holds_is {R = R} f row (operands.Five a b c d e) offsets = holds_list {R = R} f (list_of (operands.Five a b c d e)) offsets
 holds_is {R = R} f row (operands.Nop nop) offsets = refl

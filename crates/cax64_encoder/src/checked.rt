@@ -1,26 +1,24 @@
 //! Whether operands can be encoded: a conjunction, whatever the order of visits.
 
 ghost use Rattle.std.specs.Prelude.{◌≡◌, [], ◌∷◌};
-ghost use Rattle.cax64_encoder.specs.Checked.{checked_of, holds, offset_of};
+ghost use Rattle.cax64_encoder.specs.Checked.{checked_of, holds, none_checked, offset_of, with_checked};
 ghost use Rattle.cax64_encoder.specs.Fault.{all_met};
 ghost use Rattle.cax64_encoder.specs.Place.{memory_in};
-ghost use Rattle.cax64_encoder.specs.Role.{roles_of};
 ghost use Rattle.cax64_encoder.specs.Visits.{place_visits, visits_of};
 ghost use Rattle.cax64_operand.specs.Family.{numbering};
 ghost use Rattle.cax64_operand.specs.OperandList.{list_of};
 
 use crate::fault::Visited;
-use crate::form::form_of;
 use crate::number::Number;
 use crate::role::{PlaceOperand, Role, role_of};
 use cax64_address::amode::Amode;
 use cax64_address::offset::AmodeOffsetPlusKnownOffset;
-use cax64_operand::{FromOperands, Operands, RegisterFamily};
+use cax64_operand::{FromOperands, Nop, Operand, RegisterFamily};
 use cax64_register::{AsReg, Registers};
 use cax64_sink::CodeSink;
 
 /// What decides whether operands can be encoded.
-#[derive(Drop)]
+#[derive(Clone, Copy)]
 pub struct Checked {
     /// Whether each register is as it has to be.
     pub met: bool,
@@ -59,33 +57,6 @@ fn role_is_met<M: AsReg>(role: Role<M>) -> bool
     }
 }
 
-/// Whether the registers of a list of operands are as they have to be.
-#[inline(always)]
-fn all_met<R: Registers>(operands: &Operands<R>) -> bool
-    ensures { result ≡ all_met (visits_of ⟦<R as RegisterFamily>⟧.family.read_gpr (roles_of ⟦<R as RegisterFamily>⟧.family (list_of operands.now))) }
-{
-    match operands {
-        Operands::Zero | Operands::Nop(_) => true,
-        Operands::One(a) => role_is_met(role_of(a)),
-        Operands::Two(a, b) => role_is_met(role_of(a)) & role_is_met(role_of(b)),
-        Operands::Three(a, b, c) => {
-            let later = role_is_met(role_of(b)) & role_is_met(role_of(c));
-            role_is_met(role_of(a)) & later
-        }
-        Operands::Four(a, b, c, d) => {
-            let last = role_is_met(role_of(c)) & role_is_met(role_of(d));
-            let later = role_is_met(role_of(b)) & last;
-            role_is_met(role_of(a)) & later
-        }
-        Operands::Five(a, b, c, d, e) => {
-            let last = role_is_met(role_of(d)) & role_is_met(role_of(e));
-            let middle = role_is_met(role_of(c)) & last;
-            let later = role_is_met(role_of(b)) & middle;
-            role_is_met(role_of(a)) & later
-        }
-    }
-}
-
 /// The displacement that may have a late offset.
 #[inline(always)]
 fn offset_of<M: AsReg>(place: &PlaceOperand<M>) -> Option<AmodeOffsetPlusKnownOffset>
@@ -98,20 +69,93 @@ fn offset_of<M: AsReg>(place: &PlaceOperand<M>) -> Option<AmodeOffsetPlusKnownOf
 }
 
 impl<R: Registers> FromOperands<R> for Checked {
-    ghost made = { checked_of ⟦<R as RegisterFamily>⟧.family };
+    ghost made = { λ operands. checked_of ⟦<R as RegisterFamily>⟧.family (list_of operands) };
 
     #[inline(always)]
-    fn from_operands(operands: Operands<R>) -> Checked
-        ensures { result ≡ checked_of ⟦<R as RegisterFamily>⟧.family operands }
+    fn zero() -> Checked
+        ensures { result ≡ none_checked }
     {
-        Checked {
-            met: all_met(&operands),
-            displacement: offset_of(&form_of(&operands).place),
-        }
+        Checked::none()
+    }
+
+    #[inline(always)]
+    fn one(a: Operand<R>) -> Checked
+        ensures { result ≡ checked_of ⟦<R as RegisterFamily>⟧.family (a ∷ []) }
+    {
+        Checked::none().with(role_of(&a))
+    }
+
+    #[inline(always)]
+    fn two(a: Operand<R>, b: Operand<R>) -> Checked
+        ensures { result ≡ checked_of ⟦<R as RegisterFamily>⟧.family (a ∷ b ∷ []) }
+    {
+        let checked = Checked::none().with(role_of(&b));
+        checked.with(role_of(&a))
+    }
+
+    #[inline(always)]
+    fn three(a: Operand<R>, b: Operand<R>, c: Operand<R>) -> Checked
+        ensures { result ≡ checked_of ⟦<R as RegisterFamily>⟧.family (a ∷ b ∷ c ∷ []) }
+    {
+        let checked = Checked::none().with(role_of(&c));
+        let checked = checked.with(role_of(&b));
+        checked.with(role_of(&a))
+    }
+
+    #[inline(always)]
+    fn four(a: Operand<R>, b: Operand<R>, c: Operand<R>, d: Operand<R>) -> Checked
+        ensures { result ≡ checked_of ⟦<R as RegisterFamily>⟧.family (a ∷ b ∷ c ∷ d ∷ []) }
+    {
+        let checked = Checked::none().with(role_of(&d));
+        let checked = checked.with(role_of(&c));
+        let checked = checked.with(role_of(&b));
+        checked.with(role_of(&a))
+    }
+
+    #[inline(always)]
+    fn five(a: Operand<R>, b: Operand<R>, c: Operand<R>, d: Operand<R>, e: Operand<R>) -> Checked
+        ensures { result ≡ checked_of ⟦<R as RegisterFamily>⟧.family (a ∷ b ∷ c ∷ d ∷ e ∷ []) }
+    {
+        let checked = Checked::none().with(role_of(&e));
+        let checked = checked.with(role_of(&d));
+        let checked = checked.with(role_of(&c));
+        let checked = checked.with(role_of(&b));
+        checked.with(role_of(&a))
+    }
+
+    #[inline(always)]
+    fn nop(_nop: Nop) -> Checked
+        ensures { result ≡ none_checked }
+    {
+        Checked::none()
     }
 }
 
 impl Checked {
+    #[inline(always)]
+    fn none() -> Checked
+        ensures { result ≡ none_checked }
+    {
+        Checked {
+            met: true,
+            displacement: None,
+        }
+    }
+
+    /// The same with one more operand before the others.
+    #[inline(always)]
+    fn with<M: AsReg>(self, role: Role<M>) -> Checked
+        ensures { result ≡ with_checked (numbering M.settled M.enc) role self }
+    {
+        Checked {
+            displacement: match &role {
+                Role::Place(place) => offset_of(place),
+                _ => self.displacement,
+            },
+            met: role_is_met(role) & self.met,
+        }
+    }
+
     /// Whether the operands can be encoded for this sink.
     #[inline(always)]
     pub fn holds<S: CodeSink>(&self, sink: &S) -> bool

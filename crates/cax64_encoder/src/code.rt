@@ -47,6 +47,7 @@ pub enum Code {
 }
 
 #[tactic(auto, using(cax64_sink::proofs::Runs::ran_none, cax64_sink::proofs::Runs::ran_one))]
+#[inline(always)]
 fn put_trap<S: CodeSink>(sink: &mut S, trap: Option<TrapCode>) -> Result<(), SinkError>
     ensures { Ran (trap_actions trap) (S.state sink.old) (S.state sink.new) result }
 {
@@ -57,6 +58,7 @@ fn put_trap<S: CodeSink>(sink: &mut S, trap: Option<TrapCode>) -> Result<(), Sin
 }
 
 #[tactic(auto, using(cax64_sink::proofs::Runs::ran_none, cax64_sink::proofs::Runs::ran_one))]
+#[inline(always)]
 fn put_when<S: CodeSink>(sink: &mut S, stands: bool, byte: u8) -> Result<(), SinkError>
     ensures { Ran (when stands byte) (S.state sink.old) (S.state sink.new) result }
 {
@@ -64,6 +66,7 @@ fn put_when<S: CodeSink>(sink: &mut S, stands: bool, byte: u8) -> Result<(), Sin
 }
 
 /// F0 first, then 66, F2 or F3.
+#[inline(always)]
 fn put_set<S: CodeSink>(sink: &mut S, set: LegacySet) -> Result<(), SinkError>
     ensures { Ran (set_actions set) (S.state sink.old) (S.state sink.new) result }
 {
@@ -74,6 +77,7 @@ fn put_set<S: CodeSink>(sink: &mut S, set: LegacySet) -> Result<(), SinkError>
 }
 
 impl PrefixCode {
+    #[inline(always)]
     fn put<S: CodeSink>(&self, sink: &mut S) -> Result<(), SinkError>
         ensures { Ran (prefix_actions self.now) (S.state sink.old) (S.state sink.new) result }
     {
@@ -87,6 +91,7 @@ impl PrefixCode {
     }
 }
 
+#[inline(always)]
 fn put_opcode<S: CodeSink>(sink: &mut S, opcode: Opcode) -> Result<(), SinkError>
     ensures { Ran (opcode_actions opcode) (S.state sink.old) (S.state sink.new) result }
 {
@@ -96,6 +101,7 @@ fn put_opcode<S: CodeSink>(sink: &mut S, opcode: Opcode) -> Result<(), SinkError
 
 impl TailPart {
     #[tactic(auto, using(cax64_sink::proofs::Runs::ran_none, cax64_sink::proofs::Runs::ran_one))]
+    #[inline(always)]
     fn put<S: CodeSink>(self, sink: &mut S) -> Result<(), SinkError>
         ensures { Ran (tail_actions self) (S.state sink.old) (S.state sink.new) result }
     {
@@ -109,6 +115,7 @@ impl TailPart {
 
 impl LineCode {
     /// The trap is told first; then come the prefixes, the opcode, the tail and the immediate.
+    #[inline(always)]
     fn put<S: CodeSink>(&self, sink: &mut S) -> Result<(), SinkError>
         ensures { Ran (line_actions self.now) (S.state sink.old) (S.state sink.new) result }
     {
@@ -121,6 +128,7 @@ impl LineCode {
 }
 
 impl Code {
+    #[inline(always)]
     pub fn put<S: CodeSink>(&self, sink: &mut S) -> Result<(), SinkError>
         ensures { Ran (code_actions self.now) (S.state sink.old) (S.state sink.new) result }
     {
@@ -131,6 +139,7 @@ impl Code {
     }
 
     /// The number of bytes, counted in a sink that takes them all.
+    #[inline(always)]
     pub fn len(&self) -> u8
         requires { length (all_bytes (code_actions self.now)) ≤ 13 }
         ensures { result ≡ length (all_bytes (code_actions self.now)) }

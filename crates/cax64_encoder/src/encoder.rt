@@ -39,6 +39,7 @@ use cax64_sink::{CodeSink, TrapCode};
 use cax64_table::line;
 
 /// Whether a row has an 8-bit register field.
+#[inline(always)]
 fn has_8bit(tail: TailField) -> bool
     ensures { result ≡ has_8bit tail }
 {
@@ -51,6 +52,7 @@ fn has_8bit(tail: TailField) -> bool
 }
 
 /// The number in the reg field: the digit, or the register's.
+#[inline(always)]
 fn reg_number(tail: TailField, reg: Option<Number>) -> u8
     ensures { result ≡ reg_number tail reg }
 {
@@ -65,6 +67,7 @@ fn reg_number(tail: TailField, reg: Option<Number>) -> u8
 }
 
 /// The REX prefix of a number in reg and a place.
+#[inline(always)]
 fn rex_of<M: AsReg>(w: bool, uses_8bit: bool, reg: u8, place: &PlaceOperand<M>) -> RexPrefix
     requires reg { reg < 16 }
     requires place { IsTrue (place_is_real M.settled M.enc place.now) }
@@ -87,6 +90,7 @@ fn rex_of<M: AsReg>(w: bool, uses_8bit: bool, reg: u8, place: &PlaceOperand<M>) 
 }
 
 /// The register or base of a place, and its index, as VEX takes them.
+#[inline(always)]
 fn operand_registers<M: AsReg>(place: &PlaceOperand<M>) -> (Option<u8>, Option<u8>)
     requires { IsTrue (place_is_real M.settled M.enc place.now) }
     ensures b { unwrap_or result.0 0 / 8 ≡ place_b M.enc place.now }
@@ -106,6 +110,7 @@ fn operand_registers<M: AsReg>(place: &PlaceOperand<M>) -> (Option<u8>, Option<u
 }
 
 /// The number in vvvv, 0 where there is none.
+#[inline(always)]
 fn vvvv_number(vvvv: Option<Number>) -> u8
     requires { IsTrue (is_absent_or_real vvvv) }
     ensures number { result ≡ unwrap_or (option_map number_value vvvv) 0 }
@@ -118,6 +123,7 @@ fn vvvv_number(vvvv: Option<Number>) -> u8
 }
 
 /// The bit W of a row; 0 is written where either is read.
+#[inline(always)]
 fn w_bit(w: Option<u8>) -> bool
     requires { IsTrue (is_w w) }
     ensures value { result ≡ is_w1 w }
@@ -131,6 +137,7 @@ fn w_bit(w: Option<u8>) -> bool
 }
 
 /// What stands before the opcode of a row, with this number in reg.
+#[inline(always)]
 fn prefix_of<M: AsReg>(
     line: Line,
     reg: u8,
@@ -163,6 +170,7 @@ fn prefix_of<M: AsReg>(
 }
 
 /// The tail of a place, with this number in reg, before this many bytes of immediate.
+#[inline(always)]
 fn tail_part<M: AsReg>(
     reg: u8,
     place: &PlaceOperand<M>,
@@ -187,6 +195,7 @@ fn tail_part<M: AsReg>(
 }
 
 /// The trap of the memory operand.
+#[inline(always)]
 fn trap_of<M: AsReg>(place: &PlaceOperand<M>) -> Option<TrapCode>
     ensures { result ≡ trap_in place.now }
 {
@@ -197,6 +206,7 @@ fn trap_of<M: AsReg>(place: &PlaceOperand<M>) -> Option<TrapCode>
 }
 
 /// The code of the instruction of a line with these operands, whose memory operand has this displacement.
+#[inline(always)]
 fn code_of<M: AsReg>(line: Line, form: &Form<M>, displacement: i32) -> LineCode
     requires line { IsTrue (is_line line) }
     requires fits { IsTrue (fits line form.now) }
@@ -217,6 +227,7 @@ fn code_of<M: AsReg>(line: Line, form: &Form<M>, displacement: i32) -> LineCode
 }
 
 /// The sink calls that write an instruction.
+#[inline(always)]
 pub fn code_in<I: RowAndOperands, S: CodeSink>(inst: &I, sink: &S) -> Code
     requires { IsTrue (is_encodable (S.state sink.now).offsets (meant_of ⟦<I::Family as RegisterFamily>⟧.family (I.row_of inst.now) (I.operands_of inst.now) (S.state sink.now).offsets)) }
     ensures { EncodesAs (meant_of ⟦<I::Family as RegisterFamily>⟧.family (I.row_of inst.now) (I.operands_of inst.now) (S.state sink.now).offsets) (code_actions result) }

@@ -22,7 +22,8 @@ pub struct Form<M: AsReg> {
 }
 
 impl<M: AsReg> Form<M> {
-    fn none() -> Form<M>
+    #[inline(always)]
+    pub(crate) fn none() -> Form<M>
         ensures { result ≡ no_form }
     {
         Form {
@@ -34,7 +35,8 @@ impl<M: AsReg> Form<M> {
     }
 
     /// The form with one more operand before the others. Of two registers the first stands in reg, the second in vvvv.
-    fn with(self, role: Role<M>) -> Form<M>
+    #[inline(always)]
+    pub(crate) fn with(self, role: Role<M>) -> Form<M>
         ensures { result ≡ with_role role self }
     {
         match role {
@@ -59,6 +61,7 @@ impl<M: AsReg> Form<M> {
 }
 
 /// The form of an instruction that has these operands.
+#[inline(always)]
 pub fn form_of<R: Registers>(operands: &Operands<R>) -> Form<R::ReadGpr>
     ensures { result ≡ form_of ⟦<R as RegisterFamily>⟧.family (list_of operands.now) }
 {

@@ -10,6 +10,7 @@ use cax64_sink::{CodeSink, SinkError};
 
 /// One put of the immediate's size.
 #[tactic(auto, using(cax64_sink::proofs::Runs::ran_one))]
+#[inline(always)]
 fn put_imm<S: CodeSink>(sink: &mut S, imm: ImmOperand) -> Result<(), SinkError>
     ensures { Ran (imm_actions imm) (S.state sink.old) (S.state sink.new) result }
 {
@@ -24,6 +25,7 @@ fn put_imm<S: CodeSink>(sink: &mut S, imm: ImmOperand) -> Result<(), SinkError>
 
 /// Puts an immediate, if there is one.
 #[tactic(auto, using(cax64_sink::proofs::Runs::ran_none))]
+#[inline(always)]
 pub fn put_optional_imm<S: CodeSink>(sink: &mut S, imm: Option<ImmOperand>) -> Result<(), SinkError>
     ensures { Ran (optional_imm_actions imm) (S.state sink.old) (S.state sink.new) result }
 {
@@ -34,6 +36,7 @@ pub fn put_optional_imm<S: CodeSink>(sink: &mut S, imm: Option<ImmOperand>) -> R
 }
 
 /// The number of bytes of an immediate, 0 where there is none.
+#[inline(always)]
 pub fn imm_size(imm: Option<ImmOperand>) -> u8
     ensures { result ≡ imm_size imm }
 {

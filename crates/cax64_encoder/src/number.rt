@@ -15,6 +15,7 @@ pub enum Number {
 
 impl Number {
     /// The number of a register.
+    #[inline(always)]
     pub fn of<R: AsReg>(reg: R) -> Number
         ensures { result ≡ number_of R.settled R.enc reg }
     {
@@ -26,6 +27,7 @@ impl Number {
     }
 
     /// The number, or 0 of a virtual register.
+    #[inline(always)]
     pub fn value(self) -> u8
         ensures { result ≡ number_value self }
     {
@@ -36,6 +38,7 @@ impl Number {
     }
 
     /// Whether an instruction can hold the register.
+    #[inline(always)]
     pub fn is_real(self) -> bool
         ensures { result ≡ is_real_number self }
     {

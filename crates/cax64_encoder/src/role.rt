@@ -23,6 +23,7 @@ pub enum PlaceOperand<M: AsReg> {
 
 impl<M: AsReg> PlaceOperand<M> {
     /// The place that a general register or memory is.
+    #[inline(always)]
     fn of_gpr_mem<R: AsReg>(operand: &GprMem<R, M>) -> PlaceOperand<M>
         ensures { result ≡ gpr_mem_place R.settled R.enc operand.now }
     {
@@ -33,6 +34,7 @@ impl<M: AsReg> PlaceOperand<M> {
     }
 
     /// The place that an XMM register or memory is.
+    #[inline(always)]
     fn of_xmm_mem<R: AsReg>(operand: &XmmMem<R, M>) -> PlaceOperand<M>
         ensures { result ≡ xmm_mem_place R.settled R.enc operand.now }
     {
@@ -43,6 +45,7 @@ impl<M: AsReg> PlaceOperand<M> {
     }
 
     /// How many notices an instruction with this place has: of a trap, or of a target.
+    #[inline(always)]
     pub fn notice_count(&self) -> u8
         ensures { result ≡ memory_notices (memory_in self.now) }
     {
@@ -54,6 +57,7 @@ impl<M: AsReg> PlaceOperand<M> {
     }
 
     /// The displacement of the memory operand, in bytes, with its late offset; 0 where there is none.
+    #[inline(always)]
     pub fn displacement<S: CodeSink>(&self, sink: &S) -> i32
         requires { IsTrue (place_is_addressable M.settled M.enc (S.state sink.now).offsets self.now) }
         ensures { result ≡ displacement_in (S.state sink.now).offsets self.now }
@@ -87,6 +91,7 @@ pub enum Role<M: AsReg> {
 }
 
 /// What an operand is to the bytes and to a visit.
+#[inline(always)]
 pub fn role_of<R: Registers>(operand: &Operand<R>) -> Role<R::ReadGpr>
     ensures { result ≡ role_of ⟦<R as RegisterFamily>⟧.family operand.now }
 {

@@ -3,23 +3,12 @@
 
 ghost use Rattle.std.specs.Prelude.{◌≡◌, ◌≤◌};
 ghost use Rattle.cax64_inst.specs.Group.{group_of};
-ghost use Rattle.cax64_inst.specs.Inst.{row_of, operands_of, without_registers};
+ghost use Rattle.cax64_inst.specs.Inst.{row_of, operands_of};
 ghost use Rattle.cax64_operand.specs.Shape.{HasShape};
 
 use crate::Inst;
-use cax64_operand::{FromOperands, Operand, Operands, RowAndOperands};
+use cax64_operand::{FromOperands, RowAndOperands, for_any_family};
 use cax64_register::Registers;
-
-/// The operands of an instruction without registers, for any family. Others would be left out.
-fn without_registers<R: Registers, S: Registers>(operands: Operands<R>) -> Operands<S>
-    ensures { result ≡ without_registers operands }
-{
-    match operands {
-        Operands::One(Operand::Imm(imm)) => Operands::One(Operand::Imm(imm)),
-        Operands::Nop(nop) => Operands::Nop(nop),
-        _ => Operands::Zero,
-    }
-}
 
 impl<R: Registers> Inst<R> {
     /// The operands of what is within, if it is locked, and else of the others.
@@ -119,15 +108,15 @@ impl<R: Registers> Inst<R> {
         ensures shape { HasShape (row_of self.now) (operands_of self.now) }
     {
         match self {
-            Inst::nop_1b(i) => T::from_operands(without_registers(i.operands())),
-            Inst::nop_2b(i) => T::from_operands(without_registers(i.operands())),
-            Inst::nop_3b(i) => T::from_operands(without_registers(i.operands())),
-            Inst::nop_4b(i) => T::from_operands(without_registers(i.operands())),
-            Inst::nop_5b(i) => T::from_operands(without_registers(i.operands())),
-            Inst::nop_6b(i) => T::from_operands(without_registers(i.operands())),
-            Inst::nop_7b(i) => T::from_operands(without_registers(i.operands())),
-            Inst::nop_8b(i) => T::from_operands(without_registers(i.operands())),
-            Inst::nop_9b(i) => T::from_operands(without_registers(i.operands())),
+            Inst::nop_1b(i) => for_any_family(i.operands()),
+            Inst::nop_2b(i) => for_any_family(i.operands()),
+            Inst::nop_3b(i) => for_any_family(i.operands()),
+            Inst::nop_4b(i) => for_any_family(i.operands()),
+            Inst::nop_5b(i) => for_any_family(i.operands()),
+            Inst::nop_6b(i) => for_any_family(i.operands()),
+            Inst::nop_7b(i) => for_any_family(i.operands()),
+            Inst::nop_8b(i) => for_any_family(i.operands()),
+            Inst::nop_9b(i) => for_any_family(i.operands()),
             Inst::andb_i(i) => i.operands(),
             Inst::mulxl_rvm(i) => i.operands(),
             Inst::mulxq_rvm(i) => i.operands(),
@@ -168,42 +157,42 @@ impl<R: Registers> Inst<R> {
             Inst::vcvttpd2dq_a(i) => i.operands(),
             Inst::callq_m(i) => i.operands(),
             Inst::jmpq_m(i) => i.operands(),
-            Inst::jmp_d8(i) => T::from_operands(without_registers(i.operands())),
-            Inst::jo_d8(i) => T::from_operands(without_registers(i.operands())),
-            Inst::jno_d8(i) => T::from_operands(without_registers(i.operands())),
-            Inst::jb_d8(i) => T::from_operands(without_registers(i.operands())),
-            Inst::jae_d8(i) => T::from_operands(without_registers(i.operands())),
-            Inst::je_d8(i) => T::from_operands(without_registers(i.operands())),
-            Inst::jne_d8(i) => T::from_operands(without_registers(i.operands())),
-            Inst::jbe_d8(i) => T::from_operands(without_registers(i.operands())),
-            Inst::ja_d8(i) => T::from_operands(without_registers(i.operands())),
-            Inst::js_d8(i) => T::from_operands(without_registers(i.operands())),
-            Inst::jns_d8(i) => T::from_operands(without_registers(i.operands())),
-            Inst::jp_d8(i) => T::from_operands(without_registers(i.operands())),
-            Inst::jnp_d8(i) => T::from_operands(without_registers(i.operands())),
-            Inst::jl_d8(i) => T::from_operands(without_registers(i.operands())),
-            Inst::jge_d8(i) => T::from_operands(without_registers(i.operands())),
-            Inst::jle_d8(i) => T::from_operands(without_registers(i.operands())),
-            Inst::jg_d8(i) => T::from_operands(without_registers(i.operands())),
-            Inst::callq_d(i) => T::from_operands(without_registers(i.operands())),
-            Inst::jmp_d32(i) => T::from_operands(without_registers(i.operands())),
-            Inst::jo_d32(i) => T::from_operands(without_registers(i.operands())),
-            Inst::jno_d32(i) => T::from_operands(without_registers(i.operands())),
-            Inst::jb_d32(i) => T::from_operands(without_registers(i.operands())),
-            Inst::jae_d32(i) => T::from_operands(without_registers(i.operands())),
-            Inst::je_d32(i) => T::from_operands(without_registers(i.operands())),
-            Inst::jne_d32(i) => T::from_operands(without_registers(i.operands())),
-            Inst::jbe_d32(i) => T::from_operands(without_registers(i.operands())),
-            Inst::ja_d32(i) => T::from_operands(without_registers(i.operands())),
-            Inst::js_d32(i) => T::from_operands(without_registers(i.operands())),
-            Inst::jns_d32(i) => T::from_operands(without_registers(i.operands())),
-            Inst::jp_d32(i) => T::from_operands(without_registers(i.operands())),
-            Inst::jnp_d32(i) => T::from_operands(without_registers(i.operands())),
-            Inst::jl_d32(i) => T::from_operands(without_registers(i.operands())),
-            Inst::jge_d32(i) => T::from_operands(without_registers(i.operands())),
-            Inst::jle_d32(i) => T::from_operands(without_registers(i.operands())),
-            Inst::jg_d32(i) => T::from_operands(without_registers(i.operands())),
-            _ => T::from_operands(Operands::Zero),
+            Inst::jmp_d8(i) => for_any_family(i.operands()),
+            Inst::jo_d8(i) => for_any_family(i.operands()),
+            Inst::jno_d8(i) => for_any_family(i.operands()),
+            Inst::jb_d8(i) => for_any_family(i.operands()),
+            Inst::jae_d8(i) => for_any_family(i.operands()),
+            Inst::je_d8(i) => for_any_family(i.operands()),
+            Inst::jne_d8(i) => for_any_family(i.operands()),
+            Inst::jbe_d8(i) => for_any_family(i.operands()),
+            Inst::ja_d8(i) => for_any_family(i.operands()),
+            Inst::js_d8(i) => for_any_family(i.operands()),
+            Inst::jns_d8(i) => for_any_family(i.operands()),
+            Inst::jp_d8(i) => for_any_family(i.operands()),
+            Inst::jnp_d8(i) => for_any_family(i.operands()),
+            Inst::jl_d8(i) => for_any_family(i.operands()),
+            Inst::jge_d8(i) => for_any_family(i.operands()),
+            Inst::jle_d8(i) => for_any_family(i.operands()),
+            Inst::jg_d8(i) => for_any_family(i.operands()),
+            Inst::callq_d(i) => for_any_family(i.operands()),
+            Inst::jmp_d32(i) => for_any_family(i.operands()),
+            Inst::jo_d32(i) => for_any_family(i.operands()),
+            Inst::jno_d32(i) => for_any_family(i.operands()),
+            Inst::jb_d32(i) => for_any_family(i.operands()),
+            Inst::jae_d32(i) => for_any_family(i.operands()),
+            Inst::je_d32(i) => for_any_family(i.operands()),
+            Inst::jne_d32(i) => for_any_family(i.operands()),
+            Inst::jbe_d32(i) => for_any_family(i.operands()),
+            Inst::ja_d32(i) => for_any_family(i.operands()),
+            Inst::js_d32(i) => for_any_family(i.operands()),
+            Inst::jns_d32(i) => for_any_family(i.operands()),
+            Inst::jp_d32(i) => for_any_family(i.operands()),
+            Inst::jnp_d32(i) => for_any_family(i.operands()),
+            Inst::jl_d32(i) => for_any_family(i.operands()),
+            Inst::jge_d32(i) => for_any_family(i.operands()),
+            Inst::jle_d32(i) => for_any_family(i.operands()),
+            Inst::jg_d32(i) => for_any_family(i.operands()),
+            _ => T::zero(),
         }
     }
 }

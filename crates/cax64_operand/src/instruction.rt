@@ -3,10 +3,14 @@
 ghost use Rattle.std.specs.Prelude.{◌≡◌};
 ghost use Rattle.cax64_machine_code.specs.declared.row.Row.{Row};
 ghost use Rattle.cax64_operand.specs.Visit.{OperandsRun};
+ghost use Rattle.cax64_operand.specs.OperandList.{without_registers};
 ghost use Rattle.cax64_operand.specs.Shape.{HasShape};
 ghost use Rattle.cax64_operand.specs.declared.operand.Operands.{Operands};
+ghost use Rattle.cax64_operand.specs.declared.operand.Operands.TheVariants as operands;
+ghost use Rattle.cax64_operand.specs.declared.operand.Operands.TheVariants.{Zero, One, Two, Three, Four, Five};
 
-use crate::operand::Operands;
+use crate::nop::Nop;
+use crate::operand::{Operand, Operands};
 use crate::visitor::RegisterVisitor;
 use cax64_machine_code::row::Row;
 use cax64_register::Registers;
@@ -15,18 +19,90 @@ use cax64_register::Registers;
 pub trait FromOperands<R: Registers> {
     ghost made: { Operands R R.ReadGpr R.ReadWriteGpr R.WriteGpr R.ReadXmm R.ReadWriteXmm R.WriteXmm → Self };
 
-    fn from_operands(operands: Operands<R>) -> Self
-        ensures { result ≡ made operands };
+    fn zero() -> Self
+        ensures { result ≡ made Zero };
+
+    fn one(a: Operand<R>) -> Self
+        ensures { result ≡ made (One a) };
+
+    fn two(a: Operand<R>, b: Operand<R>) -> Self
+        ensures { result ≡ made (Two a b) };
+
+    fn three(a: Operand<R>, b: Operand<R>, c: Operand<R>) -> Self
+        ensures { result ≡ made (Three a b c) };
+
+    fn four(a: Operand<R>, b: Operand<R>, c: Operand<R>, d: Operand<R>) -> Self
+        ensures { result ≡ made (Four a b c d) };
+
+    fn five(a: Operand<R>, b: Operand<R>, c: Operand<R>, d: Operand<R>, e: Operand<R>) -> Self
+        ensures { result ≡ made (Five a b c d e) };
+
+    fn nop(nop: Nop) -> Self
+        ensures { result ≡ made (operands.Nop nop) };
 }
 
 /// The list itself.
 impl<R: Registers> FromOperands<R> for Operands<R> {
     ghost made = { λ operands. operands };
 
-    fn from_operands(operands: Operands<R>) -> Self
-        ensures { result ≡ operands }
+    fn zero() -> Self
+        ensures { result ≡ Zero }
     {
-        operands
+        Operands::Zero
+    }
+
+    #[inline(always)]
+    fn one(a: Operand<R>) -> Self
+        ensures { result ≡ One a }
+    {
+        Operands::One(a)
+    }
+
+    #[inline(always)]
+    fn two(a: Operand<R>, b: Operand<R>) -> Self
+        ensures { result ≡ Two a b }
+    {
+        Operands::Two(a, b)
+    }
+
+    #[inline(always)]
+    fn three(a: Operand<R>, b: Operand<R>, c: Operand<R>) -> Self
+        ensures { result ≡ Three a b c }
+    {
+        Operands::Three(a, b, c)
+    }
+
+    #[inline(always)]
+    fn four(a: Operand<R>, b: Operand<R>, c: Operand<R>, d: Operand<R>) -> Self
+        ensures { result ≡ Four a b c d }
+    {
+        Operands::Four(a, b, c, d)
+    }
+
+    #[inline(always)]
+    fn five(a: Operand<R>, b: Operand<R>, c: Operand<R>, d: Operand<R>, e: Operand<R>) -> Self
+        ensures { result ≡ Five a b c d e }
+    {
+        Operands::Five(a, b, c, d, e)
+    }
+
+    #[inline(always)]
+    fn nop(nop: Nop) -> Self
+        ensures { result ≡ operands.Nop nop }
+    {
+        Operands::Nop(nop)
+    }
+}
+
+/// What is made, for any family, of operands without registers. Others would be left out.
+#[inline(always)]
+pub fn for_any_family<R: Registers, S: Registers, T: FromOperands<S>>(operands: Operands<R>) -> T
+    ensures { result ≡ T.made (without_registers operands) }
+{
+    match operands {
+        Operands::One(Operand::Imm(imm)) => T::one(Operand::Imm(imm)),
+        Operands::Nop(nop) => T::nop(nop),
+        _ => T::zero(),
     }
 }
 

@@ -10,7 +10,7 @@ pub mod visitor;
 
 pub use family::RegisterFamily;
 pub use immediate::{ImmOperand, Immediate};
-pub use instruction::{FromOperands, Numbers, RowAndOperands};
+pub use instruction::{FromOperands, Numbers, RowAndOperands, for_any_family};
 pub use nop::Nop;
 pub use operand::{Operand, Operands};
 pub use visitor::{RegisterVisitor, visit_two_gprs};

@@ -341,6 +341,7 @@ const BY_KEY: [Row; 158] = [
 ];
 
 /// So many bits, from this one up.
+#[inline(always)]
 fn bits(packed: u64, low: u32, width: u32) -> u8
     requires low { low < 64 }
     requires width { width ≤ 8 }
@@ -349,6 +350,7 @@ fn bits(packed: u64, low: u32, width: u32) -> u8
     ((packed >> low) % (1 << width)) as u8
 }
 
+#[inline(always)]
 fn flag(packed: u64, low: u32) -> bool
     requires { low < 64 }
     ensures { result ≡ flag_at packed low }
@@ -356,6 +358,7 @@ fn flag(packed: u64, low: u32) -> bool
     bits(packed, low, 1) == 1
 }
 
+#[inline(always)]
 fn prefix(packed: u64) -> PrefixField
     ensures { result ≡ prefix_field packed }
 {
@@ -381,6 +384,7 @@ fn prefix(packed: u64) -> PrefixField
     PrefixField::LegacyField(set, flag(packed, 11))
 }
 
+#[inline(always)]
 fn w(packed: u64) -> Option<u8>
     ensures { result ≡ w_field packed }
 {
@@ -390,6 +394,7 @@ fn w(packed: u64) -> Option<u8>
     }
 }
 
+#[inline(always)]
 fn opcode(packed: u64) -> Opcode
     ensures { result ≡ opcode_field packed }
 {
@@ -399,6 +404,7 @@ fn opcode(packed: u64) -> Opcode
     }
 }
 
+#[inline(always)]
 fn place(packed: u64) -> PlaceField
     ensures { result ≡ place_field packed }
 {
@@ -409,6 +415,7 @@ fn place(packed: u64) -> PlaceField
     }
 }
 
+#[inline(always)]
 fn tail(packed: u64) -> TailField
     ensures { result ≡ tail_field packed }
 {
@@ -420,6 +427,7 @@ fn tail(packed: u64) -> TailField
     }
 }
 
+#[inline(always)]
 fn imm(packed: u64) -> ImmField
     ensures { result ≡ imm_field packed }
 {
@@ -434,6 +442,7 @@ fn imm(packed: u64) -> ImmField
     }
 }
 
+#[inline(always)]
 fn unpack(packed: u64) -> Line
     ensures { result ≡ unpacked packed }
 {
@@ -446,6 +455,7 @@ fn unpack(packed: u64) -> Line
     }
 }
 
+#[inline(always)]
 fn number(row: Row) -> usize
     ensures is { result ≡ number_of row }
     ensures below { result < 158 }
@@ -453,6 +463,7 @@ fn number(row: Row) -> usize
     row as usize
 }
 
+#[inline(always)]
 fn entry(row: Row) -> u64
     ensures { result ≡ entry_of row }
 {
@@ -507,6 +518,7 @@ pub(crate) fn rows_of(opcode: Opcode, digit: Option<u8>) -> &'static [Row]
 }
 
 /// What the table says of a row.
+#[inline(always)]
 pub fn line(row: Row) -> Line
     ensures { result ≡ line_of row }
 {

@@ -7,7 +7,7 @@ ghost use Rattle.jump.specs.Operands.{operands_jmp_d8, operands_jo_d8, operands_
 
 use cax64_immediate::Simm8;
 use cax64_machine_code::row::Row;
-use cax64_operand::{FromOperands, Immediate, Numbers, Operand, Operands, RegisterVisitor, RowAndOperands};
+use cax64_operand::{FromOperands, Immediate, Numbers, Operand, RegisterVisitor, RowAndOperands};
 use cax64_register::Registers;
 
 /// Jump short, by an 8-bit displacement from the next instruction.
@@ -42,7 +42,7 @@ impl RowAndOperands for jmp_d8 {
 
     #[tactic(auto, unfolding(cax64_machine_code::specs::Rows::line_of))]
     fn operands<T: FromOperands<Numbers>>(&self) -> T {
-        T::from_operands(Operands::One(Operand::Imm(Immediate::Distance8(self.imm8.value()))))
+        T::one(Operand::Imm(Immediate::Distance8(self.imm8.value())))
     }
 
     fn visit<V: RegisterVisitor<Numbers>>(&mut self, visitor: &mut V) {
@@ -82,7 +82,7 @@ impl RowAndOperands for jo_d8 {
 
     #[tactic(auto, unfolding(cax64_machine_code::specs::Rows::line_of))]
     fn operands<T: FromOperands<Numbers>>(&self) -> T {
-        T::from_operands(Operands::One(Operand::Imm(Immediate::Distance8(self.imm8.value()))))
+        T::one(Operand::Imm(Immediate::Distance8(self.imm8.value())))
     }
 
     fn visit<V: RegisterVisitor<Numbers>>(&mut self, visitor: &mut V) {
@@ -122,7 +122,7 @@ impl RowAndOperands for jno_d8 {
 
     #[tactic(auto, unfolding(cax64_machine_code::specs::Rows::line_of))]
     fn operands<T: FromOperands<Numbers>>(&self) -> T {
-        T::from_operands(Operands::One(Operand::Imm(Immediate::Distance8(self.imm8.value()))))
+        T::one(Operand::Imm(Immediate::Distance8(self.imm8.value())))
     }
 
     fn visit<V: RegisterVisitor<Numbers>>(&mut self, visitor: &mut V) {
@@ -162,7 +162,7 @@ impl RowAndOperands for jb_d8 {
 
     #[tactic(auto, unfolding(cax64_machine_code::specs::Rows::line_of))]
     fn operands<T: FromOperands<Numbers>>(&self) -> T {
-        T::from_operands(Operands::One(Operand::Imm(Immediate::Distance8(self.imm8.value()))))
+        T::one(Operand::Imm(Immediate::Distance8(self.imm8.value())))
     }
 
     fn visit<V: RegisterVisitor<Numbers>>(&mut self, visitor: &mut V) {
@@ -202,7 +202,7 @@ impl RowAndOperands for jae_d8 {
 
     #[tactic(auto, unfolding(cax64_machine_code::specs::Rows::line_of))]
     fn operands<T: FromOperands<Numbers>>(&self) -> T {
-        T::from_operands(Operands::One(Operand::Imm(Immediate::Distance8(self.imm8.value()))))
+        T::one(Operand::Imm(Immediate::Distance8(self.imm8.value())))
     }
 
     fn visit<V: RegisterVisitor<Numbers>>(&mut self, visitor: &mut V) {
@@ -242,7 +242,7 @@ impl RowAndOperands for je_d8 {
 
     #[tactic(auto, unfolding(cax64_machine_code::specs::Rows::line_of))]
     fn operands<T: FromOperands<Numbers>>(&self) -> T {
-        T::from_operands(Operands::One(Operand::Imm(Immediate::Distance8(self.imm8.value()))))
+        T::one(Operand::Imm(Immediate::Distance8(self.imm8.value())))
     }
 
     fn visit<V: RegisterVisitor<Numbers>>(&mut self, visitor: &mut V) {
@@ -282,7 +282,7 @@ impl RowAndOperands for jne_d8 {
 
     #[tactic(auto, unfolding(cax64_machine_code::specs::Rows::line_of))]
     fn operands<T: FromOperands<Numbers>>(&self) -> T {
-        T::from_operands(Operands::One(Operand::Imm(Immediate::Distance8(self.imm8.value()))))
+        T::one(Operand::Imm(Immediate::Distance8(self.imm8.value())))
     }
 
     fn visit<V: RegisterVisitor<Numbers>>(&mut self, visitor: &mut V) {
@@ -322,7 +322,7 @@ impl RowAndOperands for jbe_d8 {
 
     #[tactic(auto, unfolding(cax64_machine_code::specs::Rows::line_of))]
     fn operands<T: FromOperands<Numbers>>(&self) -> T {
-        T::from_operands(Operands::One(Operand::Imm(Immediate::Distance8(self.imm8.value()))))
+        T::one(Operand::Imm(Immediate::Distance8(self.imm8.value())))
     }
 
     fn visit<V: RegisterVisitor<Numbers>>(&mut self, visitor: &mut V) {
@@ -362,7 +362,7 @@ impl RowAndOperands for ja_d8 {
 
     #[tactic(auto, unfolding(cax64_machine_code::specs::Rows::line_of))]
     fn operands<T: FromOperands<Numbers>>(&self) -> T {
-        T::from_operands(Operands::One(Operand::Imm(Immediate::Distance8(self.imm8.value()))))
+        T::one(Operand::Imm(Immediate::Distance8(self.imm8.value())))
     }
 
     fn visit<V: RegisterVisitor<Numbers>>(&mut self, visitor: &mut V) {
@@ -402,7 +402,7 @@ impl RowAndOperands for js_d8 {
 
     #[tactic(auto, unfolding(cax64_machine_code::specs::Rows::line_of))]
     fn operands<T: FromOperands<Numbers>>(&self) -> T {
-        T::from_operands(Operands::One(Operand::Imm(Immediate::Distance8(self.imm8.value()))))
+        T::one(Operand::Imm(Immediate::Distance8(self.imm8.value())))
     }
 
     fn visit<V: RegisterVisitor<Numbers>>(&mut self, visitor: &mut V) {
@@ -442,7 +442,7 @@ impl RowAndOperands for jns_d8 {
 
     #[tactic(auto, unfolding(cax64_machine_code::specs::Rows::line_of))]
     fn operands<T: FromOperands<Numbers>>(&self) -> T {
-        T::from_operands(Operands::One(Operand::Imm(Immediate::Distance8(self.imm8.value()))))
+        T::one(Operand::Imm(Immediate::Distance8(self.imm8.value())))
     }
 
     fn visit<V: RegisterVisitor<Numbers>>(&mut self, visitor: &mut V) {
@@ -482,7 +482,7 @@ impl RowAndOperands for jp_d8 {
 
     #[tactic(auto, unfolding(cax64_machine_code::specs::Rows::line_of))]
     fn operands<T: FromOperands<Numbers>>(&self) -> T {
-        T::from_operands(Operands::One(Operand::Imm(Immediate::Distance8(self.imm8.value()))))
+        T::one(Operand::Imm(Immediate::Distance8(self.imm8.value())))
     }
 
     fn visit<V: RegisterVisitor<Numbers>>(&mut self, visitor: &mut V) {
@@ -522,7 +522,7 @@ impl RowAndOperands for jnp_d8 {
 
     #[tactic(auto, unfolding(cax64_machine_code::specs::Rows::line_of))]
     fn operands<T: FromOperands<Numbers>>(&self) -> T {
-        T::from_operands(Operands::One(Operand::Imm(Immediate::Distance8(self.imm8.value()))))
+        T::one(Operand::Imm(Immediate::Distance8(self.imm8.value())))
     }
 
     fn visit<V: RegisterVisitor<Numbers>>(&mut self, visitor: &mut V) {
@@ -562,7 +562,7 @@ impl RowAndOperands for jl_d8 {
 
     #[tactic(auto, unfolding(cax64_machine_code::specs::Rows::line_of))]
     fn operands<T: FromOperands<Numbers>>(&self) -> T {
-        T::from_operands(Operands::One(Operand::Imm(Immediate::Distance8(self.imm8.value()))))
+        T::one(Operand::Imm(Immediate::Distance8(self.imm8.value())))
     }
 
     fn visit<V: RegisterVisitor<Numbers>>(&mut self, visitor: &mut V) {
@@ -602,7 +602,7 @@ impl RowAndOperands for jge_d8 {
 
     #[tactic(auto, unfolding(cax64_machine_code::specs::Rows::line_of))]
     fn operands<T: FromOperands<Numbers>>(&self) -> T {
-        T::from_operands(Operands::One(Operand::Imm(Immediate::Distance8(self.imm8.value()))))
+        T::one(Operand::Imm(Immediate::Distance8(self.imm8.value())))
     }
 
     fn visit<V: RegisterVisitor<Numbers>>(&mut self, visitor: &mut V) {
@@ -642,7 +642,7 @@ impl RowAndOperands for jle_d8 {
 
     #[tactic(auto, unfolding(cax64_machine_code::specs::Rows::line_of))]
     fn operands<T: FromOperands<Numbers>>(&self) -> T {
-        T::from_operands(Operands::One(Operand::Imm(Immediate::Distance8(self.imm8.value()))))
+        T::one(Operand::Imm(Immediate::Distance8(self.imm8.value())))
     }
 
     fn visit<V: RegisterVisitor<Numbers>>(&mut self, visitor: &mut V) {
@@ -682,7 +682,7 @@ impl RowAndOperands for jg_d8 {
 
     #[tactic(auto, unfolding(cax64_machine_code::specs::Rows::line_of))]
     fn operands<T: FromOperands<Numbers>>(&self) -> T {
-        T::from_operands(Operands::One(Operand::Imm(Immediate::Distance8(self.imm8.value()))))
+        T::one(Operand::Imm(Immediate::Distance8(self.imm8.value())))
     }
 
     fn visit<V: RegisterVisitor<Numbers>>(&mut self, visitor: &mut V) {

@@ -12,7 +12,7 @@ ghost use Rattle.cax64_register.specs.declared.gpr.Size.TheVariants.{Byte, Doubl
 use cax64_address::amode::Amode;
 use cax64_immediate::{Extension, Imm8, Imm16, Imm32, Simm8, Simm32};
 use cax64_machine_code::row::Row;
-use cax64_operand::{FromOperands, Immediate, Operand, Operands, RegisterVisitor, RowAndOperands};
+use cax64_operand::{FromOperands, Immediate, Operand, RegisterVisitor, RowAndOperands};
 use cax64_register::{Gpr, Registers, Size};
 use std::marker::Model;
 
@@ -50,10 +50,10 @@ impl<R: Registers> RowAndOperands for lock_orb_mi<R> {
 
     #[tactic(auto, unfolding(cax64_machine_code::specs::Rows::line_of))]
     fn operands<T: FromOperands<R>>(&self) -> T {
-        T::from_operands(Operands::Two(
+        T::two(
             Operand::ReadAmode(self.m8),
             Operand::Imm(Immediate::Imm8(self.imm8.value())),
-        ))
+        )
     }
 
     fn visit<V: RegisterVisitor<R>>(&mut self, visitor: &mut V) {
@@ -95,10 +95,10 @@ impl<R: Registers> RowAndOperands for lock_orw_mi<R> {
 
     #[tactic(auto, unfolding(cax64_machine_code::specs::Rows::line_of))]
     fn operands<T: FromOperands<R>>(&self) -> T {
-        T::from_operands(Operands::Two(
+        T::two(
             Operand::ReadAmode(self.m16),
             Operand::Imm(Immediate::Imm16(self.imm16.value())),
-        ))
+        )
     }
 
     fn visit<V: RegisterVisitor<R>>(&mut self, visitor: &mut V) {
@@ -140,10 +140,10 @@ impl<R: Registers> RowAndOperands for lock_orl_mi<R> {
 
     #[tactic(auto, unfolding(cax64_machine_code::specs::Rows::line_of))]
     fn operands<T: FromOperands<R>>(&self) -> T {
-        T::from_operands(Operands::Two(
+        T::two(
             Operand::ReadAmode(self.m32),
             Operand::Imm(Immediate::Imm32(self.imm32.value())),
-        ))
+        )
     }
 
     fn visit<V: RegisterVisitor<R>>(&mut self, visitor: &mut V) {
@@ -185,10 +185,10 @@ impl<R: Registers> RowAndOperands for lock_orq_mi_sxl<R> {
 
     #[tactic(auto, unfolding(cax64_machine_code::specs::Rows::line_of))]
     fn operands<T: FromOperands<R>>(&self) -> T {
-        T::from_operands(Operands::Two(
+        T::two(
             Operand::ReadAmode(self.m64),
             Operand::Imm(Immediate::Simm32(self.imm32.value(), Extension::SignExtendQuad)),
-        ))
+        )
     }
 
     fn visit<V: RegisterVisitor<R>>(&mut self, visitor: &mut V) {
@@ -230,10 +230,10 @@ impl<R: Registers> RowAndOperands for lock_orl_mi_sxb<R> {
 
     #[tactic(auto, unfolding(cax64_machine_code::specs::Rows::line_of))]
     fn operands<T: FromOperands<R>>(&self) -> T {
-        T::from_operands(Operands::Two(
+        T::two(
             Operand::ReadAmode(self.m32),
             Operand::Imm(Immediate::Simm8(self.imm8.value(), Extension::SignExtendLong)),
-        ))
+        )
     }
 
     fn visit<V: RegisterVisitor<R>>(&mut self, visitor: &mut V) {
@@ -275,10 +275,10 @@ impl<R: Registers> RowAndOperands for lock_orq_mi_sxb<R> {
 
     #[tactic(auto, unfolding(cax64_machine_code::specs::Rows::line_of))]
     fn operands<T: FromOperands<R>>(&self) -> T {
-        T::from_operands(Operands::Two(
+        T::two(
             Operand::ReadAmode(self.m64),
             Operand::Imm(Immediate::Simm8(self.imm8.value(), Extension::SignExtendQuad)),
-        ))
+        )
     }
 
     fn visit<V: RegisterVisitor<R>>(&mut self, visitor: &mut V) {
@@ -320,10 +320,10 @@ impl<R: Registers> RowAndOperands for lock_orb_mr<R> {
 
     #[tactic(auto, unfolding(cax64_machine_code::specs::Rows::line_of))]
     fn operands<T: FromOperands<R>>(&self) -> T {
-        T::from_operands(Operands::Two(
+        T::two(
             Operand::ReadAmode(self.m8),
             Operand::ReadGpr(*self.r8.as_ref(), Size::Byte),
-        ))
+        )
     }
 
     fn visit<V: RegisterVisitor<R>>(&mut self, visitor: &mut V) {
@@ -366,10 +366,10 @@ impl<R: Registers> RowAndOperands for lock_orw_mr<R> {
 
     #[tactic(auto, unfolding(cax64_machine_code::specs::Rows::line_of))]
     fn operands<T: FromOperands<R>>(&self) -> T {
-        T::from_operands(Operands::Two(
+        T::two(
             Operand::ReadAmode(self.m16),
             Operand::ReadGpr(*self.r16.as_ref(), Size::Word),
-        ))
+        )
     }
 
     fn visit<V: RegisterVisitor<R>>(&mut self, visitor: &mut V) {
@@ -412,10 +412,10 @@ impl<R: Registers> RowAndOperands for lock_orl_mr<R> {
 
     #[tactic(auto, unfolding(cax64_machine_code::specs::Rows::line_of))]
     fn operands<T: FromOperands<R>>(&self) -> T {
-        T::from_operands(Operands::Two(
+        T::two(
             Operand::ReadAmode(self.m32),
             Operand::ReadGpr(*self.r32.as_ref(), Size::Doubleword),
-        ))
+        )
     }
 
     fn visit<V: RegisterVisitor<R>>(&mut self, visitor: &mut V) {
@@ -458,10 +458,10 @@ impl<R: Registers> RowAndOperands for lock_orq_mr<R> {
 
     #[tactic(auto, unfolding(cax64_machine_code::specs::Rows::line_of))]
     fn operands<T: FromOperands<R>>(&self) -> T {
-        T::from_operands(Operands::Two(
+        T::two(
             Operand::ReadAmode(self.m64),
             Operand::ReadGpr(*self.r64.as_ref(), Size::Quadword),
-        ))
+        )
     }
 
     fn visit<V: RegisterVisitor<R>>(&mut self, visitor: &mut V) {

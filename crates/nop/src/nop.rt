@@ -5,7 +5,7 @@ ghost use Rattle.cax64_operand.specs.Visit.{OperandsRun};
 ghost use Rattle.nop.specs.Operands.{operands_nop_1b, operands_nop_2b, operands_nop_3b, operands_nop_4b, operands_nop_5b, operands_nop_6b, operands_nop_7b, operands_nop_8b, operands_nop_9b};
 
 use cax64_machine_code::row::Row;
-use cax64_operand::{FromOperands, Nop, Numbers, Operands, RegisterVisitor, RowAndOperands};
+use cax64_operand::{FromOperands, Nop, Numbers, RegisterVisitor, RowAndOperands};
 use cax64_register::Registers;
 
 /// No operation, in one byte.
@@ -35,7 +35,7 @@ impl RowAndOperands for nop_1b {
     }
 
     fn operands<T: FromOperands<Numbers>>(&self) -> T {
-        T::from_operands(Operands::Nop(Nop::One))
+        T::nop(Nop::One)
     }
 
     fn visit<V: RegisterVisitor<Numbers>>(&mut self, visitor: &mut V) {
@@ -70,7 +70,7 @@ impl RowAndOperands for nop_2b {
     }
 
     fn operands<T: FromOperands<Numbers>>(&self) -> T {
-        T::from_operands(Operands::Nop(Nop::Two))
+        T::nop(Nop::Two)
     }
 
     fn visit<V: RegisterVisitor<Numbers>>(&mut self, visitor: &mut V) {
@@ -105,7 +105,7 @@ impl RowAndOperands for nop_3b {
     }
 
     fn operands<T: FromOperands<Numbers>>(&self) -> T {
-        T::from_operands(Operands::Nop(Nop::Three))
+        T::nop(Nop::Three)
     }
 
     fn visit<V: RegisterVisitor<Numbers>>(&mut self, visitor: &mut V) {
@@ -140,7 +140,7 @@ impl RowAndOperands for nop_4b {
     }
 
     fn operands<T: FromOperands<Numbers>>(&self) -> T {
-        T::from_operands(Operands::Nop(Nop::Four))
+        T::nop(Nop::Four)
     }
 
     fn visit<V: RegisterVisitor<Numbers>>(&mut self, visitor: &mut V) {
@@ -175,7 +175,7 @@ impl RowAndOperands for nop_5b {
     }
 
     fn operands<T: FromOperands<Numbers>>(&self) -> T {
-        T::from_operands(Operands::Nop(Nop::Five))
+        T::nop(Nop::Five)
     }
 
     fn visit<V: RegisterVisitor<Numbers>>(&mut self, visitor: &mut V) {
@@ -210,7 +210,7 @@ impl RowAndOperands for nop_6b {
     }
 
     fn operands<T: FromOperands<Numbers>>(&self) -> T {
-        T::from_operands(Operands::Nop(Nop::Six))
+        T::nop(Nop::Six)
     }
 
     fn visit<V: RegisterVisitor<Numbers>>(&mut self, visitor: &mut V) {
@@ -245,7 +245,7 @@ impl RowAndOperands for nop_7b {
     }
 
     fn operands<T: FromOperands<Numbers>>(&self) -> T {
-        T::from_operands(Operands::Nop(Nop::Seven))
+        T::nop(Nop::Seven)
     }
 
     fn visit<V: RegisterVisitor<Numbers>>(&mut self, visitor: &mut V) {
@@ -280,7 +280,7 @@ impl RowAndOperands for nop_8b {
     }
 
     fn operands<T: FromOperands<Numbers>>(&self) -> T {
-        T::from_operands(Operands::Nop(Nop::Eight))
+        T::nop(Nop::Eight)
     }
 
     fn visit<V: RegisterVisitor<Numbers>>(&mut self, visitor: &mut V) {
@@ -315,7 +315,7 @@ impl RowAndOperands for nop_9b {
     }
 
     fn operands<T: FromOperands<Numbers>>(&self) -> T {
-        T::from_operands(Operands::Nop(Nop::Nine))
+        T::nop(Nop::Nine)
     }
 
     fn visit<V: RegisterVisitor<Numbers>>(&mut self, visitor: &mut V) {

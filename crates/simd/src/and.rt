@@ -8,7 +8,7 @@ ghost use Rattle.cax64_operand.specs.declared.operand.Operands.TheVariants.{Two}
 
 use cax64_address::operand::XmmMem;
 use cax64_machine_code::row::Row;
-use cax64_operand::{FromOperands, Operand, Operands, RegisterVisitor, RowAndOperands};
+use cax64_operand::{FromOperands, Operand, RegisterVisitor, RowAndOperands};
 use cax64_register::{Registers, Xmm};
 use std::marker::Model;
 
@@ -46,10 +46,10 @@ impl<R: Registers> RowAndOperands for andps_a<R> {
 
     #[tactic(auto, unfolding(cax64_machine_code::specs::Rows::line_of))]
     fn operands<T: FromOperands<R>>(&self) -> T {
-        T::from_operands(Operands::Two(
+        T::two(
             Operand::ReadWriteXmm(*self.xmm1.as_ref()),
             Operand::ReadXmmMem(self.xmm_m128),
-        ))
+        )
     }
 
     fn visit<V: RegisterVisitor<R>>(&mut self, visitor: &mut V) {

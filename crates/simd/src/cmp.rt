@@ -10,7 +10,7 @@ ghost use Rattle.cax64_operand.specs.declared.operand.Operands.TheVariants.{Thre
 use cax64_address::operand::XmmMem;
 use cax64_immediate::Imm8;
 use cax64_machine_code::row::Row;
-use cax64_operand::{FromOperands, Immediate, Operand, Operands, RegisterVisitor, RowAndOperands};
+use cax64_operand::{FromOperands, Immediate, Operand, RegisterVisitor, RowAndOperands};
 use cax64_register::{Registers, Xmm};
 use std::marker::Model;
 
@@ -58,11 +58,11 @@ impl<R: Registers> RowAndOperands for cmpps_a<R> {
 
     #[tactic(auto, unfolding(cax64_machine_code::specs::Rows::line_of))]
     fn operands<T: FromOperands<R>>(&self) -> T {
-        T::from_operands(Operands::Three(
+        T::three(
             Operand::ReadWriteXmm(*self.xmm1.as_ref()),
             Operand::ReadXmmMem(self.xmm_m128),
             Operand::Imm(Immediate::Predicate(self.imm8.value())),
-        ))
+        )
     }
 
     fn visit<V: RegisterVisitor<R>>(&mut self, visitor: &mut V) {
@@ -115,11 +115,11 @@ impl<R: Registers> RowAndOperands for cmppd_a<R> {
 
     #[tactic(auto, unfolding(cax64_machine_code::specs::Rows::line_of))]
     fn operands<T: FromOperands<R>>(&self) -> T {
-        T::from_operands(Operands::Three(
+        T::three(
             Operand::ReadWriteXmm(*self.xmm1.as_ref()),
             Operand::ReadXmmMem(self.xmm_m128),
             Operand::Imm(Immediate::Predicate(self.imm8.value())),
-        ))
+        )
     }
 
     fn visit<V: RegisterVisitor<R>>(&mut self, visitor: &mut V) {
@@ -172,11 +172,11 @@ impl<R: Registers> RowAndOperands for cmpss_a<R> {
 
     #[tactic(auto, unfolding(cax64_machine_code::specs::Rows::line_of))]
     fn operands<T: FromOperands<R>>(&self) -> T {
-        T::from_operands(Operands::Three(
+        T::three(
             Operand::ReadWriteXmm(*self.xmm1.as_ref()),
             Operand::ReadXmmMem(self.xmm_m32),
             Operand::Imm(Immediate::Predicate(self.imm8.value())),
-        ))
+        )
     }
 
     fn visit<V: RegisterVisitor<R>>(&mut self, visitor: &mut V) {
@@ -229,11 +229,11 @@ impl<R: Registers> RowAndOperands for cmpsd_a<R> {
 
     #[tactic(auto, unfolding(cax64_machine_code::specs::Rows::line_of))]
     fn operands<T: FromOperands<R>>(&self) -> T {
-        T::from_operands(Operands::Three(
+        T::three(
             Operand::ReadWriteXmm(*self.xmm1.as_ref()),
             Operand::ReadXmmMem(self.xmm_m64),
             Operand::Imm(Immediate::Predicate(self.imm8.value())),
-        ))
+        )
     }
 
     fn visit<V: RegisterVisitor<R>>(&mut self, visitor: &mut V) {

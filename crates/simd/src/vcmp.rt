@@ -10,7 +10,7 @@ ghost use Rattle.cax64_operand.specs.declared.operand.Operands.TheVariants.{Four
 use cax64_address::operand::XmmMem;
 use cax64_immediate::Imm8;
 use cax64_machine_code::row::Row;
-use cax64_operand::{FromOperands, Immediate, Operand, Operands, RegisterVisitor, RowAndOperands};
+use cax64_operand::{FromOperands, Immediate, Operand, RegisterVisitor, RowAndOperands};
 use cax64_register::{Registers, Xmm};
 use std::marker::Model;
 
@@ -61,12 +61,12 @@ impl<R: Registers> RowAndOperands for vcmpps_b<R> {
 
     #[tactic(auto, unfolding(cax64_machine_code::specs::Rows::line_of))]
     fn operands<T: FromOperands<R>>(&self) -> T {
-        T::from_operands(Operands::Four(
+        T::four(
             Operand::WriteXmm(*self.xmm1.as_ref()),
             Operand::ReadXmm(*self.xmm2.as_ref()),
             Operand::ReadXmmMem(self.xmm_m128),
             Operand::Imm(Immediate::VexPredicate(self.imm8.value())),
-        ))
+        )
     }
 
     fn visit<V: RegisterVisitor<R>>(&mut self, visitor: &mut V) {
@@ -123,12 +123,12 @@ impl<R: Registers> RowAndOperands for vcmppd_b<R> {
 
     #[tactic(auto, unfolding(cax64_machine_code::specs::Rows::line_of))]
     fn operands<T: FromOperands<R>>(&self) -> T {
-        T::from_operands(Operands::Four(
+        T::four(
             Operand::WriteXmm(*self.xmm1.as_ref()),
             Operand::ReadXmm(*self.xmm2.as_ref()),
             Operand::ReadXmmMem(self.xmm_m128),
             Operand::Imm(Immediate::VexPredicate(self.imm8.value())),
-        ))
+        )
     }
 
     fn visit<V: RegisterVisitor<R>>(&mut self, visitor: &mut V) {
@@ -185,12 +185,12 @@ impl<R: Registers> RowAndOperands for vcmpss_b<R> {
 
     #[tactic(auto, unfolding(cax64_machine_code::specs::Rows::line_of))]
     fn operands<T: FromOperands<R>>(&self) -> T {
-        T::from_operands(Operands::Four(
+        T::four(
             Operand::WriteXmm(*self.xmm1.as_ref()),
             Operand::ReadXmm(*self.xmm2.as_ref()),
             Operand::ReadXmmMem(self.xmm_m32),
             Operand::Imm(Immediate::VexPredicate(self.imm8.value())),
-        ))
+        )
     }
 
     fn visit<V: RegisterVisitor<R>>(&mut self, visitor: &mut V) {
@@ -247,12 +247,12 @@ impl<R: Registers> RowAndOperands for vcmpsd_b<R> {
 
     #[tactic(auto, unfolding(cax64_machine_code::specs::Rows::line_of))]
     fn operands<T: FromOperands<R>>(&self) -> T {
-        T::from_operands(Operands::Four(
+        T::four(
             Operand::WriteXmm(*self.xmm1.as_ref()),
             Operand::ReadXmm(*self.xmm2.as_ref()),
             Operand::ReadXmmMem(self.xmm_m64),
             Operand::Imm(Immediate::VexPredicate(self.imm8.value())),
-        ))
+        )
     }
 
     fn visit<V: RegisterVisitor<R>>(&mut self, visitor: &mut V) {
