@@ -17,7 +17,7 @@ use Rattle.cax64_encoder.specs.Content.{content_or, content_of, content_notices}
 use Rattle.cax64_encoder.specs.declared.content.Content.{Content}
 use Rattle.cax64_encoder.specs.declared.content.Content.TheVariants as content
 use Rattle.cax64_encoder.specs.Encodes.{EncodesParts, EncodesAs, form_parts}
-use Rattle.cax64_encoder.specs.Fault.{all_met, late_offset_fits, late_fault, first_unmet, first_fault, is_encodable, fault_of_meant}
+use Rattle.cax64_encoder.specs.Fault.{all_met, late_offset_fits, late_fault, or_later, first_unmet, first_fault, is_encodable, fault_of_meant}
 use Rattle.cax64_encoder.specs.Form.{form_of, fits}
 use Rattle.cax64_encoder.specs.Meant.{Meant, meant_of, nop_or, operands_meant, place_in}
 use Rattle.cax64_encoder.specs.Notices.{memory_notices, notice_count}
@@ -25,6 +25,12 @@ use Rattle.cax64_encoder.specs.Place.{memory_in, displacement_in}
 use Rattle.cax64_encoder.specs.Real.{is_absent_or_real, place_is_real, form_is_real, place_is_addressable}
 use Rattle.cax64_encoder.specs.Role.{roles_of}
 use Rattle.cax64_encoder.specs.Visits.{visits_of}
+use Rattle.cax64_encoder.specs.Checked.{offset_of}
+use Rattle.cax64_encoder.specs.Unmet.{unmet_of, displacement_fault}
+use Rattle.cax64_encoder.specs.declared.fault.Unmet.{Unmet}
+use Rattle.cax64_address.specs.declared.amode.Amode.{Amode}
+use Rattle.cax64_address.specs.declared.amode.Amode.TheVariants.{ImmReg, ImmRegRegShift, RipRelative}
+use Rattle.cax64_address.specs.declared.offset.AmodeOffsetPlusKnownOffset.{AmodeOffsetPlusKnownOffset}
 use Rattle.cax64_encoder.specs.declared.fault.Fault.{Fault}
 use Rattle.cax64_encoder.specs.declared.form.Form.{Form}
 use Rattle.cax64_encoder.proofs.Faults.{no_fault, none_is, fault_same}
@@ -86,11 +92,27 @@ module _ {R A B C D E F : Type 0} (f : Family A B C D E F) (row : Row) (o : Oper
 
 -- Faults and notices by the form.
 
-pub then_late : {R A B C D E F : Type 0} (f : Family A B C D E F) (offsets : ℕ → Option ℤ) (os : List (Operand R A B C D E F)) (form : Form A) (late : Option Fault) → form ≡ form_of f os → None ≡ first_unmet 0 (visits_of f.read_gpr (roles_of f os)) → late ≡ late_fault offsets (memory_in form.place) → late ≡ first_fault offsets (visits_of f.read_gpr (roles_of f os)) (memory_in (place_in (roles_of f os)))
-then_late f offsets os form late e met h =
-    let is : form ≡ direct (roles_of f os) = e ∙ with_all (roles_of f os) in
-    let k : late ≡ late_fault offsets (memory_in (place_in (roles_of f os))) = rw is at h in
-    rw (← met) k
+pub unmet_is : {R A B C D E F : Type 0} (f : Family A B C D E F) (list : List (Operand R A B C D E F)) (form : Form A) (register : Option Fault) (displacement : Option AmodeOffsetPlusKnownOffset) → form ≡ form_of f list → register ≡ first_unmet 0 (visits_of f.read_gpr (roles_of f list)) → displacement ≡ offset_of (memory_in form.place) → record { register = register; displacement = displacement } ≡ unmet_of f list
+unmet_is f list form register displacement e h k =
+    let is : form ≡ direct (roles_of f list) = e ∙ with_all (roles_of f list) in
+    let d : displacement ≡ offset_of (memory_in (place_in (roles_of f list))) = rw is at k in
+    rw (h, d) refl
+
+late_same : {M : Type 0} (offsets : ℕ → Option ℤ) (memory : Option (Amode M)) → displacement_fault offsets (offset_of memory) ≡ late_fault offsets memory
+late_same offsets None = refl
+late_same offsets (Some (ImmReg base simm32 trap)) = refl
+late_same offsets (Some (ImmRegRegShift base index scale simm32 trap)) = refl
+late_same offsets (Some (RipRelative target)) = refl
+
+-- the fault of what is wrong is the first one
+pub fault_by_unmet : {R A B C D E F : Type 0} (f : Family A B C D E F) (o : Operands R A B C D E F) (offsets : ℕ → Option ℤ) (unmet : Unmet) (fault : Option Fault) → unmet ≡ unmet_of f (list_of o) → fault ≡ or_later unmet.register (displacement_fault offsets unmet.displacement) → fault ≡ first_fault offsets (visits_of f.read_gpr (roles_of f (list_of o))) (memory_in (place_in (roles_of f (list_of o))))
+fault_by_unmet f o offsets unmet fault e h =
+    let roles = roles_of f (list_of o) in
+    let k : fault ≡ or_later (first_unmet 0 (visits_of f.read_gpr roles)) (displacement_fault offsets (offset_of (memory_in (place_in roles)))) = rw e at h in
+    k ∙ ap (or_later (first_unmet 0 (visits_of f.read_gpr roles))) (late_same offsets (memory_in (place_in roles)))
+
+pub fault_is : {R A B C D E F : Type 0} (f : Family A B C D E F) (row : Row) (o : Operands R A B C D E F) (offsets : ℕ → Option ℤ) (unmet : Unmet) (fault : Option Fault) → unmet ≡ unmet_of f (list_of o) → fault ≡ or_later unmet.register (displacement_fault offsets unmet.displacement) → fault ≡ fault_of_meant offsets (meant_of f row o offsets)
+fault_is f row o offsets unmet fault e h = fault_by_unmet f o offsets unmet fault e h ∙ fault_same f row o offsets
 
 pub notices_by_content : {R A B C D E F : Type 0} (f : Family A B C D E F) (row : Row) (o : Operands R A B C D E F) (content : Content R A B C D E F) (count : ℕ) (offsets : ℕ → Option ℤ) → content ≡ content_of f o → count ≡ content_notices content → count ≡ notice_count (meant_of f row o offsets)
 notices_by_content {R = R} {A = A} {B = B} {C = C} {D = D} {E = E} {F = F} f row o content count offsets e h =

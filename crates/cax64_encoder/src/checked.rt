@@ -59,7 +59,7 @@ fn role_is_met<M: AsReg>(role: Role<M>) -> bool
 
 /// The displacement that may have a late offset.
 #[inline(always)]
-fn offset_of<M: AsReg>(place: &PlaceOperand<M>) -> Option<AmodeOffsetPlusKnownOffset>
+pub(crate) fn offset_of<M: AsReg>(place: &PlaceOperand<M>) -> Option<AmodeOffsetPlusKnownOffset>
     ensures { result ≡ offset_of (memory_in place.now) }
 {
     match *place {

@@ -1,21 +1,21 @@
 //! Why an instruction can't be encoded.
 
 ghost use Rattle.std.specs.Prelude.{◌≡◌, [], ◌∷◌};
-ghost use Rattle.cax64_encoder.specs.Fault.{is_met, fault_of, first_unmet, sum_fault, late_fault, first_fault};
-ghost use Rattle.cax64_encoder.specs.Meant.{place_in};
-ghost use Rattle.cax64_encoder.specs.Place.{memory_in};
+ghost use Rattle.cax64_encoder.specs.Fault.{is_met, fault_of, first_unmet, sum_fault, or_later};
+ghost use Rattle.cax64_encoder.specs.Unmet.{displacement_fault, none_unmet, unmet_of};
 ghost use Rattle.cax64_encoder.specs.Present.{present};
 ghost use Rattle.cax64_encoder.specs.Role.{roles_of};
 ghost use Rattle.cax64_encoder.specs.Visits.{place_visits, visits_of};
 ghost use Rattle.cax64_operand.specs.Family.{numbering};
 ghost use Rattle.cax64_operand.specs.OperandList.{list_of};
 
+use crate::checked::offset_of;
 use crate::form::form_of;
 use crate::number::Number;
 use crate::role::{FixedNumber, PlaceOperand, Role, role_of};
 use cax64_address::amode::Amode;
 use cax64_address::offset::AmodeOffsetPlusKnownOffset;
-use cax64_operand::{Operands, RegisterFamily};
+use cax64_operand::{FromOperands, Nop, Operand, Operands, RegisterFamily};
 use cax64_register::{AsReg, Registers, gpr};
 use cax64_sink::{CodeSink, KnownOffset};
 
@@ -186,24 +186,84 @@ fn sum_fault<S: CodeSink>(simm32: AmodeOffsetPlusKnownOffset, sink: &S) -> Optio
     }
 }
 
-/// The fault of a late offset.
-fn late_fault<M: AsReg, S: CodeSink>(place: &PlaceOperand<M>, sink: &S) -> Option<Fault>
-    ensures { result ≡ late_fault (S.state sink.now).offsets (memory_in place.now) }
-{
-    match *place {
-        PlaceOperand::Memory(Amode::ImmReg { simm32, .. }) => sum_fault(simm32, sink),
-        _ => None,
+/// What is wrong with operands.
+#[derive(Clone, Copy)]
+pub struct Unmet {
+    /// The fault of the first register, in the order of visits, that isn't as it has to be.
+    pub register: Option<Fault>,
+    /// The displacement that may have a late offset.
+    pub displacement: Option<AmodeOffsetPlusKnownOffset>,
+}
+
+impl Unmet {
+    fn of<R: Registers>(operands: &Operands<R>) -> Unmet
+        ensures { result ≡ unmet_of ⟦<R as RegisterFamily>⟧.family (list_of operands.now) }
+    {
+        Unmet {
+            register: first_unmet(&all_visits(operands)),
+            displacement: offset_of(&form_of(operands).place),
+        }
+    }
+
+    /// The fault for this sink: that of a register, or else of the late offset.
+    pub fn fault<S: CodeSink>(&self, sink: &S) -> Option<Fault>
+        ensures { result ≡ or_later self.now.register (displacement_fault (S.state sink.now).offsets self.now.displacement) }
+    {
+        match self.register {
+            Some(fault) => Some(fault),
+            None => sum_fault(self.displacement?, sink),
+        }
     }
 }
 
-/// Why operands can't be encoded for this sink: the first register, in the order of visits, that isn't as it has to be,
-/// or else the late offset.
-pub fn first_fault<R: Registers, S: CodeSink>(operands: &Operands<R>, sink: &S) -> Option<Fault>
-    ensures { let roles = roles_of ⟦<R as RegisterFamily>⟧.family (list_of operands.now) in
-        result ≡ first_fault (S.state sink.now).offsets (visits_of ⟦<R as RegisterFamily>⟧.family.read_gpr roles) (memory_in (place_in roles)) }
-{
-    match first_unmet(&all_visits(operands)) {
-        Some(fault) => Some(fault),
-        None => late_fault(&form_of(operands).place, sink),
+impl<R: Registers> FromOperands<R> for Unmet {
+    ghost made = { λ operands. unmet_of ⟦<R as RegisterFamily>⟧.family (list_of operands) };
+
+    fn zero() -> Unmet
+        ensures { result ≡ none_unmet }
+    {
+        Unmet {
+            register: None,
+            displacement: None,
+        }
+    }
+
+    fn one(a: Operand<R>) -> Unmet
+        ensures { result ≡ unmet_of ⟦<R as RegisterFamily>⟧.family (a ∷ []) }
+    {
+        Unmet::of(&Operands::One(a))
+    }
+
+    fn two(a: Operand<R>, b: Operand<R>) -> Unmet
+        ensures { result ≡ unmet_of ⟦<R as RegisterFamily>⟧.family (a ∷ b ∷ []) }
+    {
+        Unmet::of(&Operands::Two(a, b))
+    }
+
+    fn three(a: Operand<R>, b: Operand<R>, c: Operand<R>) -> Unmet
+        ensures { result ≡ unmet_of ⟦<R as RegisterFamily>⟧.family (a ∷ b ∷ c ∷ []) }
+    {
+        Unmet::of(&Operands::Three(a, b, c))
+    }
+
+    fn four(a: Operand<R>, b: Operand<R>, c: Operand<R>, d: Operand<R>) -> Unmet
+        ensures { result ≡ unmet_of ⟦<R as RegisterFamily>⟧.family (a ∷ b ∷ c ∷ d ∷ []) }
+    {
+        Unmet::of(&Operands::Four(a, b, c, d))
+    }
+
+    fn five(a: Operand<R>, b: Operand<R>, c: Operand<R>, d: Operand<R>, e: Operand<R>) -> Unmet
+        ensures { result ≡ unmet_of ⟦<R as RegisterFamily>⟧.family (a ∷ b ∷ c ∷ d ∷ e ∷ []) }
+    {
+        Unmet::of(&Operands::Five(a, b, c, d, e))
+    }
+
+    fn nop(_nop: Nop) -> Unmet
+        ensures { result ≡ none_unmet }
+    {
+        Unmet {
+            register: None,
+            displacement: None,
+        }
     }
 }

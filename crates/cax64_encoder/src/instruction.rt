@@ -15,9 +15,9 @@ ghost use Rattle.cax64_sink.specs.Room.{HasRoom, FallsBy};
 use crate::checked::Checked;
 use crate::content::Content;
 use crate::encoder::code_in;
-use crate::fault::{Fault, first_fault};
+use crate::fault::{Fault, Unmet};
 use cax64_machine_code::row::Row;
-use cax64_operand::{Operands, RegisterFamily, RegisterVisitor, RowAndOperands};
+use cax64_operand::{RegisterFamily, RegisterVisitor, RowAndOperands};
 use cax64_register::Registers;
 use cax64_sink::{CodeSink, SinkError};
 
@@ -102,8 +102,8 @@ impl<I: RowAndOperands> Instruction for I {
         if self.is_encodable(sink) {
             return None;
         }
-        let operands: Operands<I::Family> = self.operands();
-        first_fault(&operands, sink)
+        let unmet: Unmet = self.operands();
+        unmet.fault(sink)
     }
 
     fn is_encodable<S: CodeSink>(&self, sink: &S) -> bool {
