@@ -110,10 +110,12 @@ fn make_call(
 
 /// Makes the calls of a script, and writes the answer of each.
 fn run_script(pushing: &mut Pushing, script: &str, came: &mut String) -> Result<(), Fault> {
-    let mut separator = "";
+    let mut is_first = true;
     for step in script.split(" | ") {
-        came.push_str(separator)?;
-        separator = " | ";
+        if !is_first {
+            came.push_str(" | ")?;
+        }
+        is_first = false;
         match step.split_once(' ') {
             Some((call, argument)) => make_call(pushing, call, argument, came)?,
             None if step == "new_label" => new_label(&mut pushing.buffer, came)?,
