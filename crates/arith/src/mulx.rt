@@ -9,7 +9,7 @@ ghost use Rattle.cax64_register.specs.declared.gpr.Size.TheVariants.{Doubleword,
 
 use cax64_address::operand::GprMem;
 use cax64_machine_code::row::Row;
-use cax64_operand::{Operand, Operands, RegisterVisitor, RowAndOperands, visit_two_gprs};
+use cax64_operand::{FromOperands, Operand, RegisterVisitor, RowAndOperands, of_three, visit_two_gprs};
 use cax64_register::{Fixed, Gpr, Registers, Size};
 use std::marker::Model;
 
@@ -58,8 +58,8 @@ impl<R: Registers> RowAndOperands for mulxl_rvm<R> {
     }
 
     #[tactic(auto, unfolding(cax64_machine_code::specs::Rows::line_of))]
-    fn operands(&self) -> Operands<R> {
-        Operands::Three(
+    fn fold_operands<T: FromOperands<R>>(&self) -> T {
+        of_three(
             Operand::WriteTwoGprs(*self.r32a.as_ref(), *self.r32b.as_ref(), Size::Doubleword),
             Operand::ReadGprMem(self.rm32, Size::Doubleword),
             Operand::FixedReadGpr(self.edx.0, 2, None),
@@ -118,8 +118,8 @@ impl<R: Registers> RowAndOperands for mulxq_rvm<R> {
     }
 
     #[tactic(auto, unfolding(cax64_machine_code::specs::Rows::line_of))]
-    fn operands(&self) -> Operands<R> {
-        Operands::Three(
+    fn fold_operands<T: FromOperands<R>>(&self) -> T {
+        of_three(
             Operand::WriteTwoGprs(*self.r64a.as_ref(), *self.r64b.as_ref(), Size::Quadword),
             Operand::ReadGprMem(self.rm64, Size::Quadword),
             Operand::FixedReadGpr(self.rdx.0, 2, None),

@@ -9,7 +9,7 @@ ghost use Rattle.cax64_register.specs.declared.gpr.Size.TheVariants.{Byte, Doubl
 
 use cax64_address::operand::GprMem;
 use cax64_machine_code::row::Row;
-use cax64_operand::{Operand, Operands, RegisterVisitor, RowAndOperands};
+use cax64_operand::{FromOperands, Operand, RegisterVisitor, RowAndOperands, of_one};
 use cax64_register::{Registers, Size};
 use std::marker::Model;
 
@@ -45,8 +45,8 @@ impl<R: Registers> RowAndOperands for sarb_m1<R> {
     }
 
     #[tactic(auto, unfolding(cax64_machine_code::specs::Rows::line_of))]
-    fn operands(&self) -> Operands<R> {
-        Operands::One(Operand::ReadWriteGprMem(self.rm8, Size::Byte))
+    fn fold_operands<T: FromOperands<R>>(&self) -> T {
+        of_one(Operand::ReadWriteGprMem(self.rm8, Size::Byte))
     }
 
     fn visit<V: RegisterVisitor<R>>(&mut self, visitor: &mut V) {
@@ -86,8 +86,8 @@ impl<R: Registers> RowAndOperands for sarw_m1<R> {
     }
 
     #[tactic(auto, unfolding(cax64_machine_code::specs::Rows::line_of))]
-    fn operands(&self) -> Operands<R> {
-        Operands::One(Operand::ReadWriteGprMem(self.rm16, Size::Word))
+    fn fold_operands<T: FromOperands<R>>(&self) -> T {
+        of_one(Operand::ReadWriteGprMem(self.rm16, Size::Word))
     }
 
     fn visit<V: RegisterVisitor<R>>(&mut self, visitor: &mut V) {
@@ -127,8 +127,8 @@ impl<R: Registers> RowAndOperands for sarl_m1<R> {
     }
 
     #[tactic(auto, unfolding(cax64_machine_code::specs::Rows::line_of))]
-    fn operands(&self) -> Operands<R> {
-        Operands::One(Operand::ReadWriteGprMem(self.rm32, Size::Doubleword))
+    fn fold_operands<T: FromOperands<R>>(&self) -> T {
+        of_one(Operand::ReadWriteGprMem(self.rm32, Size::Doubleword))
     }
 
     fn visit<V: RegisterVisitor<R>>(&mut self, visitor: &mut V) {
@@ -168,8 +168,8 @@ impl<R: Registers> RowAndOperands for sarq_m1<R> {
     }
 
     #[tactic(auto, unfolding(cax64_machine_code::specs::Rows::line_of))]
-    fn operands(&self) -> Operands<R> {
-        Operands::One(Operand::ReadWriteGprMem(self.rm64, Size::Quadword))
+    fn fold_operands<T: FromOperands<R>>(&self) -> T {
+        of_one(Operand::ReadWriteGprMem(self.rm64, Size::Quadword))
     }
 
     fn visit<V: RegisterVisitor<R>>(&mut self, visitor: &mut V) {

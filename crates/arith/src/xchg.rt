@@ -9,7 +9,7 @@ ghost use Rattle.cax64_register.specs.declared.gpr.Size.TheVariants.{Byte, Doubl
 
 use cax64_address::amode::Amode;
 use cax64_machine_code::row::Row;
-use cax64_operand::{Operand, Operands, RegisterVisitor, RowAndOperands};
+use cax64_operand::{FromOperands, Operand, RegisterVisitor, RowAndOperands, of_two};
 use cax64_register::{Gpr, Registers, Size};
 use std::marker::Model;
 
@@ -46,8 +46,8 @@ impl<R: Registers> RowAndOperands for xchgb_rm<R> {
     }
 
     #[tactic(auto, unfolding(cax64_machine_code::specs::Rows::line_of))]
-    fn operands(&self) -> Operands<R> {
-        Operands::Two(
+    fn fold_operands<T: FromOperands<R>>(&self) -> T {
+        of_two(
             Operand::ReadWriteGpr(*self.r8.as_ref(), Size::Byte),
             Operand::ReadAmode(self.m8),
         )
@@ -92,8 +92,8 @@ impl<R: Registers> RowAndOperands for xchgw_rm<R> {
     }
 
     #[tactic(auto, unfolding(cax64_machine_code::specs::Rows::line_of))]
-    fn operands(&self) -> Operands<R> {
-        Operands::Two(
+    fn fold_operands<T: FromOperands<R>>(&self) -> T {
+        of_two(
             Operand::ReadWriteGpr(*self.r16.as_ref(), Size::Word),
             Operand::ReadAmode(self.m16),
         )
@@ -138,8 +138,8 @@ impl<R: Registers> RowAndOperands for xchgl_rm<R> {
     }
 
     #[tactic(auto, unfolding(cax64_machine_code::specs::Rows::line_of))]
-    fn operands(&self) -> Operands<R> {
-        Operands::Two(
+    fn fold_operands<T: FromOperands<R>>(&self) -> T {
+        of_two(
             Operand::ReadWriteGpr(*self.r32.as_ref(), Size::Doubleword),
             Operand::ReadAmode(self.m32),
         )
@@ -184,8 +184,8 @@ impl<R: Registers> RowAndOperands for xchgq_rm<R> {
     }
 
     #[tactic(auto, unfolding(cax64_machine_code::specs::Rows::line_of))]
-    fn operands(&self) -> Operands<R> {
-        Operands::Two(
+    fn fold_operands<T: FromOperands<R>>(&self) -> T {
+        of_two(
             Operand::ReadWriteGpr(*self.r64.as_ref(), Size::Quadword),
             Operand::ReadAmode(self.m64),
         )

@@ -1,8 +1,6 @@
 use Rattle.cax64_machine_code.specs.declared.row.Row.{Row}
 use Rattle.cax64_machine_code.specs.declared.row.Row.TheVariants as row
-use Rattle.cax64_operand.specs.declared.operand.Operand.TheVariants as operand
 use Rattle.cax64_operand.specs.declared.operand.Operands.{Operands}
-use Rattle.cax64_operand.specs.declared.operand.Operands.TheVariants as operands
 use Rattle.jump.specs.Operands as jump
 use Rattle.nop.specs.Operands as nop
 use Rattle.cax64_inst.specs.declared.Inst.{Inst}
@@ -339,9 +337,3 @@ operands_of (inst.jl_d32 i) = jump.operands_jl_d32 i
 operands_of (inst.jge_d32 i) = jump.operands_jge_d32 i
 operands_of (inst.jle_d32 i) = jump.operands_jle_d32 i
 operands_of (inst.jg_d32 i) = jump.operands_jg_d32 i
-
--- Operands without registers, for any family; others are left out.
-abbrev pub without_registers : {R A B C D E F S G H I J K L : Type 0} → Operands R A B C D E F → Operands S G H I J K L
-without_registers (operands.One (operand.Imm imm)) = operands.One (operand.Imm imm)
-without_registers (operands.Nop nop) = operands.Nop nop
-without_registers others = operands.Zero

@@ -32,7 +32,7 @@ use arith::xchgl_rm;
 use arith::xchgq_rm;
 use arith::xchgw_rm;
 use cax64_machine_code::row::Row;
-use cax64_operand::Operands;
+use cax64_operand::FromOperands;
 use cax64_operand::RegisterVisitor;
 use cax64_operand::RowAndOperands;
 use cax64_register::Registers;
@@ -527,8 +527,8 @@ impl<R: Registers> RowAndOperands for Inst<R> {
         }
     }
 
-    fn operands(&self) -> Operands<R> {
-        self.operands_locked()
+    fn fold_operands<T: FromOperands<R>>(&self) -> T {
+        self.fold_operands_locked()
     }
 
     fn visit<V: RegisterVisitor<R>>(&mut self, visitor: &mut V) {

@@ -2,10 +2,12 @@
 
 ghost use Rattle.std.specs.Prelude.{◌≡◌};
 ghost use Rattle.cax64_machine_code.specs.declared.row.Row.{Row};
+ghost use Rattle.cax64_operand.specs.Fold.{fold};
 ghost use Rattle.cax64_operand.specs.Visit.{OperandsRun};
 ghost use Rattle.cax64_operand.specs.Shape.{HasShape};
 ghost use Rattle.cax64_operand.specs.declared.operand.Operands.{Operands};
 
+use crate::fold::FromOperands;
 use crate::operand::Operands;
 use crate::visitor::RegisterVisitor;
 use cax64_machine_code::row::Row;
@@ -23,14 +25,23 @@ pub trait RowAndOperands {
     fn row(&self) -> Row
         ensures { result ≡ row_of self.now };
 
-    fn operands(&self) -> Operands<Self::Family>
-        ensures value { result ≡ operands_of self.now }
+    /// What is wanted of the operands, made where they are listed.
+    fn fold_operands<T: FromOperands<Self::Family>>(&self) -> T
+        ensures value { result ≡ fold T.made_of_none T.made_with T.made_of_nop (operands_of self.now) }
         ensures shape { HasShape (row_of self.now) (operands_of self.now) };
 
     /// Goes over the registers, and puts what the visitor gives in their place. All else stays.
     fn visit<V: RegisterVisitor<Self::Family>>(&mut self, visitor: &mut V)
         ensures run { OperandsRun Self.Family.WriteGpr.eq V.steps visitor.old (operands_of self.old) (operands_of self.new) visitor.new }
         ensures row { row_of self.new ≡ row_of self.old };
+}
+
+/// The operands of an instruction as a list.
+pub fn operands_of<I: RowAndOperands>(instruction: &I) -> Operands<I::Family>
+    ensures value { result ≡ I.operands_of instruction.now }
+    ensures shape { HasShape (I.row_of instruction.now) (I.operands_of instruction.now) }
+{
+    instruction.fold_operands()
 }
 
 /// The family of plain numbers, for instructions without registers.

@@ -2,6 +2,7 @@
 #![tactic(auto)]
 
 pub mod family;
+pub mod fold;
 pub mod immediate;
 pub mod instruction;
 pub mod nop;
@@ -9,8 +10,9 @@ pub mod operand;
 pub mod visitor;
 
 pub use family::RegisterFamily;
+pub use fold::{FromOperands, for_any_family, of_five, of_four, of_one, of_three, of_two};
 pub use immediate::{ImmOperand, Immediate};
-pub use instruction::{Numbers, RowAndOperands};
+pub use instruction::{Numbers, RowAndOperands, operands_of};
 pub use nop::Nop;
 pub use operand::{Operand, Operands};
 pub use visitor::{RegisterVisitor, visit_two_gprs};

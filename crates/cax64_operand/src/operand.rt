@@ -1,5 +1,7 @@
 //! Operands as data: what an instruction is, beside its row of the table.
 
+ghost use Rattle.std.specs.Prelude.{◌≡◌};
+
 use crate::immediate::Immediate;
 use crate::nop::Nop;
 use cax64_address::amode::Amode;
@@ -25,6 +27,36 @@ pub enum Operand<R: Registers> {
     ReadWriteGprMem(GprMem<R::ReadWriteGpr, R::ReadGpr>, Size),
     ReadXmmMem(XmmMem<R::ReadXmm, R::ReadGpr>),
     Imm(Immediate),
+}
+
+impl<R: Registers> Operand<R> {
+    /// The same operand once more.
+    pub fn copied(&self) -> Operand<R>
+        ensures { result ≡ self.now }
+    {
+        match self {
+            Operand::ReadGpr(reg, size) => Operand::ReadGpr(*reg, *size),
+            Operand::ReadWriteGpr(reg, size) => Operand::ReadWriteGpr(*reg, *size),
+            Operand::WriteGpr(reg, size) => Operand::WriteGpr(*reg, *size),
+            Operand::WriteTwoGprs(first, second, size) => {
+                Operand::WriteTwoGprs(*first, *second, *size)
+            }
+            Operand::FixedReadGpr(reg, expected, size) => {
+                Operand::FixedReadGpr(*reg, *expected, *size)
+            }
+            Operand::FixedReadWriteGpr(reg, expected, size) => {
+                Operand::FixedReadWriteGpr(*reg, *expected, *size)
+            }
+            Operand::ReadXmm(reg) => Operand::ReadXmm(*reg),
+            Operand::ReadWriteXmm(reg) => Operand::ReadWriteXmm(*reg),
+            Operand::WriteXmm(reg) => Operand::WriteXmm(*reg),
+            Operand::ReadAmode(amode) => Operand::ReadAmode(*amode),
+            Operand::ReadGprMem(operand, size) => Operand::ReadGprMem(*operand, *size),
+            Operand::ReadWriteGprMem(operand, size) => Operand::ReadWriteGprMem(*operand, *size),
+            Operand::ReadXmmMem(operand) => Operand::ReadXmmMem(*operand),
+            Operand::Imm(imm) => Operand::Imm(*imm),
+        }
+    }
 }
 
 /// The operands of an instruction, in the order of visits.

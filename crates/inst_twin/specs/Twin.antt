@@ -1,8 +1,6 @@
 use Rattle.cax64_machine_code.specs.declared.row.Row.{Row}
 use Rattle.cax64_machine_code.specs.declared.row.Row.TheVariants as row
-use Rattle.cax64_operand.specs.declared.operand.Operand.TheVariants as operand
 use Rattle.cax64_operand.specs.declared.operand.Operands.{Operands}
-use Rattle.cax64_operand.specs.declared.operand.Operands.TheVariants as operands
 use Rattle.nop.specs.Operands.{operands_nop_1b}
 use Rattle.inst_twin.specs.declared.Twin.{Twin}
 use Rattle.inst_twin.specs.declared.Twin.TheVariants as twin
@@ -16,9 +14,3 @@ row_of (twin.lock_xaddb_mr i) = row.lock_xaddb_mr
 unfoldable pub operands_of : {R A B C D E F : Type 0} → Twin R A B C D E F → Operands R A B C D E F
 operands_of (twin.nop_1b i) = operands_nop_1b i
 operands_of (twin.lock_xaddb_mr i) = i
-
--- Operands without registers, for any family; others are left out.
-abbrev pub without_registers : {R A B C D E F S G H I J K L : Type 0} → Operands R A B C D E F → Operands S G H I J K L
-without_registers (operands.One (operand.Imm imm)) = operands.One (operand.Imm imm)
-without_registers (operands.Nop nop) = operands.Nop nop
-without_registers others = operands.Zero

@@ -3,10 +3,10 @@
 #![allow(non_camel_case_types)]
 
 ghost use Rattle.std.specs.Prelude.{◌≡◌};
-ghost use Rattle.inst_twin.specs.Twin.{row_of, operands_of, without_registers};
+ghost use Rattle.inst_twin.specs.Twin.{row_of, operands_of};
 
 use cax64_machine_code::row::Row;
-use cax64_operand::{Operand, Operands, RegisterVisitor, RowAndOperands};
+use cax64_operand::{FromOperands, RegisterVisitor, RowAndOperands, for_any_family};
 use cax64_register::Registers;
 use lock_x::lock_xaddb_mr;
 use nop::nop_1b;
@@ -16,17 +16,6 @@ use nop::nop_1b;
 pub enum Twin<R: Registers> {
     nop_1b(nop_1b),
     lock_xaddb_mr(lock_xaddb_mr<R>),
-}
-
-/// The operands of an instruction without registers, for any family. Others would be left out.
-fn without_registers<R: Registers, S: Registers>(operands: Operands<R>) -> Operands<S>
-    ensures { result ≡ without_registers operands }
-{
-    match operands {
-        Operands::One(Operand::Imm(imm)) => Operands::One(Operand::Imm(imm)),
-        Operands::Nop(nop) => Operands::Nop(nop),
-        _ => Operands::Zero,
-    }
 }
 
 impl<R: Registers> RowAndOperands for Twin<R> {
@@ -45,10 +34,10 @@ impl<R: Registers> RowAndOperands for Twin<R> {
     }
 
     #[tactic(auto, unfolding(crate::specs::Twin::row_of, crate::specs::Twin::operands_of))]
-    fn operands(&self) -> Operands<R> {
+    fn fold_operands<T: FromOperands<R>>(&self) -> T {
         match self {
-            Twin::nop_1b(i) => without_registers(i.operands()),
-            Twin::lock_xaddb_mr(i) => i.operands(),
+            Twin::nop_1b(i) => for_any_family(i.operands()),
+            Twin::lock_xaddb_mr(i) => i.fold_operands(),
         }
     }
 

@@ -7,7 +7,7 @@ ghost use Rattle.jump.specs.Operands.{operands_callq_d, operands_jmp_d32, operan
 
 use cax64_immediate::Simm32;
 use cax64_machine_code::row::Row;
-use cax64_operand::{Immediate, Numbers, Operand, Operands, RegisterVisitor, RowAndOperands};
+use cax64_operand::{FromOperands, Immediate, Numbers, Operand, RegisterVisitor, RowAndOperands, of_one};
 use cax64_register::Registers;
 
 /// Call near, relative, by a 32-bit displacement from the next instruction.
@@ -41,8 +41,8 @@ impl RowAndOperands for callq_d {
     }
 
     #[tactic(auto, unfolding(cax64_machine_code::specs::Rows::line_of))]
-    fn operands(&self) -> Operands<Numbers> {
-        Operands::One(Operand::Imm(Immediate::Distance32(self.imm32.value())))
+    fn fold_operands<T: FromOperands<Numbers>>(&self) -> T {
+        of_one(Operand::Imm(Immediate::Distance32(self.imm32.value())))
     }
 
     fn visit<V: RegisterVisitor<Numbers>>(&mut self, visitor: &mut V) {
@@ -81,8 +81,8 @@ impl RowAndOperands for jmp_d32 {
     }
 
     #[tactic(auto, unfolding(cax64_machine_code::specs::Rows::line_of))]
-    fn operands(&self) -> Operands<Numbers> {
-        Operands::One(Operand::Imm(Immediate::Distance32(self.imm32.value())))
+    fn fold_operands<T: FromOperands<Numbers>>(&self) -> T {
+        of_one(Operand::Imm(Immediate::Distance32(self.imm32.value())))
     }
 
     fn visit<V: RegisterVisitor<Numbers>>(&mut self, visitor: &mut V) {
@@ -121,8 +121,8 @@ impl RowAndOperands for jo_d32 {
     }
 
     #[tactic(auto, unfolding(cax64_machine_code::specs::Rows::line_of))]
-    fn operands(&self) -> Operands<Numbers> {
-        Operands::One(Operand::Imm(Immediate::Distance32(self.imm32.value())))
+    fn fold_operands<T: FromOperands<Numbers>>(&self) -> T {
+        of_one(Operand::Imm(Immediate::Distance32(self.imm32.value())))
     }
 
     fn visit<V: RegisterVisitor<Numbers>>(&mut self, visitor: &mut V) {
@@ -161,8 +161,8 @@ impl RowAndOperands for jno_d32 {
     }
 
     #[tactic(auto, unfolding(cax64_machine_code::specs::Rows::line_of))]
-    fn operands(&self) -> Operands<Numbers> {
-        Operands::One(Operand::Imm(Immediate::Distance32(self.imm32.value())))
+    fn fold_operands<T: FromOperands<Numbers>>(&self) -> T {
+        of_one(Operand::Imm(Immediate::Distance32(self.imm32.value())))
     }
 
     fn visit<V: RegisterVisitor<Numbers>>(&mut self, visitor: &mut V) {
@@ -201,8 +201,8 @@ impl RowAndOperands for jb_d32 {
     }
 
     #[tactic(auto, unfolding(cax64_machine_code::specs::Rows::line_of))]
-    fn operands(&self) -> Operands<Numbers> {
-        Operands::One(Operand::Imm(Immediate::Distance32(self.imm32.value())))
+    fn fold_operands<T: FromOperands<Numbers>>(&self) -> T {
+        of_one(Operand::Imm(Immediate::Distance32(self.imm32.value())))
     }
 
     fn visit<V: RegisterVisitor<Numbers>>(&mut self, visitor: &mut V) {
@@ -241,8 +241,8 @@ impl RowAndOperands for jae_d32 {
     }
 
     #[tactic(auto, unfolding(cax64_machine_code::specs::Rows::line_of))]
-    fn operands(&self) -> Operands<Numbers> {
-        Operands::One(Operand::Imm(Immediate::Distance32(self.imm32.value())))
+    fn fold_operands<T: FromOperands<Numbers>>(&self) -> T {
+        of_one(Operand::Imm(Immediate::Distance32(self.imm32.value())))
     }
 
     fn visit<V: RegisterVisitor<Numbers>>(&mut self, visitor: &mut V) {
@@ -281,8 +281,8 @@ impl RowAndOperands for je_d32 {
     }
 
     #[tactic(auto, unfolding(cax64_machine_code::specs::Rows::line_of))]
-    fn operands(&self) -> Operands<Numbers> {
-        Operands::One(Operand::Imm(Immediate::Distance32(self.imm32.value())))
+    fn fold_operands<T: FromOperands<Numbers>>(&self) -> T {
+        of_one(Operand::Imm(Immediate::Distance32(self.imm32.value())))
     }
 
     fn visit<V: RegisterVisitor<Numbers>>(&mut self, visitor: &mut V) {
@@ -321,8 +321,8 @@ impl RowAndOperands for jne_d32 {
     }
 
     #[tactic(auto, unfolding(cax64_machine_code::specs::Rows::line_of))]
-    fn operands(&self) -> Operands<Numbers> {
-        Operands::One(Operand::Imm(Immediate::Distance32(self.imm32.value())))
+    fn fold_operands<T: FromOperands<Numbers>>(&self) -> T {
+        of_one(Operand::Imm(Immediate::Distance32(self.imm32.value())))
     }
 
     fn visit<V: RegisterVisitor<Numbers>>(&mut self, visitor: &mut V) {
@@ -361,8 +361,8 @@ impl RowAndOperands for jbe_d32 {
     }
 
     #[tactic(auto, unfolding(cax64_machine_code::specs::Rows::line_of))]
-    fn operands(&self) -> Operands<Numbers> {
-        Operands::One(Operand::Imm(Immediate::Distance32(self.imm32.value())))
+    fn fold_operands<T: FromOperands<Numbers>>(&self) -> T {
+        of_one(Operand::Imm(Immediate::Distance32(self.imm32.value())))
     }
 
     fn visit<V: RegisterVisitor<Numbers>>(&mut self, visitor: &mut V) {
@@ -401,8 +401,8 @@ impl RowAndOperands for ja_d32 {
     }
 
     #[tactic(auto, unfolding(cax64_machine_code::specs::Rows::line_of))]
-    fn operands(&self) -> Operands<Numbers> {
-        Operands::One(Operand::Imm(Immediate::Distance32(self.imm32.value())))
+    fn fold_operands<T: FromOperands<Numbers>>(&self) -> T {
+        of_one(Operand::Imm(Immediate::Distance32(self.imm32.value())))
     }
 
     fn visit<V: RegisterVisitor<Numbers>>(&mut self, visitor: &mut V) {
@@ -441,8 +441,8 @@ impl RowAndOperands for js_d32 {
     }
 
     #[tactic(auto, unfolding(cax64_machine_code::specs::Rows::line_of))]
-    fn operands(&self) -> Operands<Numbers> {
-        Operands::One(Operand::Imm(Immediate::Distance32(self.imm32.value())))
+    fn fold_operands<T: FromOperands<Numbers>>(&self) -> T {
+        of_one(Operand::Imm(Immediate::Distance32(self.imm32.value())))
     }
 
     fn visit<V: RegisterVisitor<Numbers>>(&mut self, visitor: &mut V) {
@@ -481,8 +481,8 @@ impl RowAndOperands for jns_d32 {
     }
 
     #[tactic(auto, unfolding(cax64_machine_code::specs::Rows::line_of))]
-    fn operands(&self) -> Operands<Numbers> {
-        Operands::One(Operand::Imm(Immediate::Distance32(self.imm32.value())))
+    fn fold_operands<T: FromOperands<Numbers>>(&self) -> T {
+        of_one(Operand::Imm(Immediate::Distance32(self.imm32.value())))
     }
 
     fn visit<V: RegisterVisitor<Numbers>>(&mut self, visitor: &mut V) {
@@ -521,8 +521,8 @@ impl RowAndOperands for jp_d32 {
     }
 
     #[tactic(auto, unfolding(cax64_machine_code::specs::Rows::line_of))]
-    fn operands(&self) -> Operands<Numbers> {
-        Operands::One(Operand::Imm(Immediate::Distance32(self.imm32.value())))
+    fn fold_operands<T: FromOperands<Numbers>>(&self) -> T {
+        of_one(Operand::Imm(Immediate::Distance32(self.imm32.value())))
     }
 
     fn visit<V: RegisterVisitor<Numbers>>(&mut self, visitor: &mut V) {
@@ -561,8 +561,8 @@ impl RowAndOperands for jnp_d32 {
     }
 
     #[tactic(auto, unfolding(cax64_machine_code::specs::Rows::line_of))]
-    fn operands(&self) -> Operands<Numbers> {
-        Operands::One(Operand::Imm(Immediate::Distance32(self.imm32.value())))
+    fn fold_operands<T: FromOperands<Numbers>>(&self) -> T {
+        of_one(Operand::Imm(Immediate::Distance32(self.imm32.value())))
     }
 
     fn visit<V: RegisterVisitor<Numbers>>(&mut self, visitor: &mut V) {
@@ -601,8 +601,8 @@ impl RowAndOperands for jl_d32 {
     }
 
     #[tactic(auto, unfolding(cax64_machine_code::specs::Rows::line_of))]
-    fn operands(&self) -> Operands<Numbers> {
-        Operands::One(Operand::Imm(Immediate::Distance32(self.imm32.value())))
+    fn fold_operands<T: FromOperands<Numbers>>(&self) -> T {
+        of_one(Operand::Imm(Immediate::Distance32(self.imm32.value())))
     }
 
     fn visit<V: RegisterVisitor<Numbers>>(&mut self, visitor: &mut V) {
@@ -641,8 +641,8 @@ impl RowAndOperands for jge_d32 {
     }
 
     #[tactic(auto, unfolding(cax64_machine_code::specs::Rows::line_of))]
-    fn operands(&self) -> Operands<Numbers> {
-        Operands::One(Operand::Imm(Immediate::Distance32(self.imm32.value())))
+    fn fold_operands<T: FromOperands<Numbers>>(&self) -> T {
+        of_one(Operand::Imm(Immediate::Distance32(self.imm32.value())))
     }
 
     fn visit<V: RegisterVisitor<Numbers>>(&mut self, visitor: &mut V) {
@@ -681,8 +681,8 @@ impl RowAndOperands for jle_d32 {
     }
 
     #[tactic(auto, unfolding(cax64_machine_code::specs::Rows::line_of))]
-    fn operands(&self) -> Operands<Numbers> {
-        Operands::One(Operand::Imm(Immediate::Distance32(self.imm32.value())))
+    fn fold_operands<T: FromOperands<Numbers>>(&self) -> T {
+        of_one(Operand::Imm(Immediate::Distance32(self.imm32.value())))
     }
 
     fn visit<V: RegisterVisitor<Numbers>>(&mut self, visitor: &mut V) {
@@ -721,8 +721,8 @@ impl RowAndOperands for jg_d32 {
     }
 
     #[tactic(auto, unfolding(cax64_machine_code::specs::Rows::line_of))]
-    fn operands(&self) -> Operands<Numbers> {
-        Operands::One(Operand::Imm(Immediate::Distance32(self.imm32.value())))
+    fn fold_operands<T: FromOperands<Numbers>>(&self) -> T {
+        of_one(Operand::Imm(Immediate::Distance32(self.imm32.value())))
     }
 
     fn visit<V: RegisterVisitor<Numbers>>(&mut self, visitor: &mut V) {

@@ -9,7 +9,7 @@ ghost use Rattle.cax64_register.specs.declared.gpr.Size.TheVariants.{Quadword};
 
 use cax64_address::operand::GprMem;
 use cax64_machine_code::row::Row;
-use cax64_operand::{Operand, Operands, RegisterVisitor, RowAndOperands};
+use cax64_operand::{FromOperands, Operand, RegisterVisitor, RowAndOperands, of_one};
 use cax64_register::{Registers, Size};
 use std::marker::Model;
 
@@ -45,8 +45,8 @@ impl<R: Registers> RowAndOperands for callq_m<R> {
     }
 
     #[tactic(auto, unfolding(cax64_machine_code::specs::Rows::line_of))]
-    fn operands(&self) -> Operands<R> {
-        Operands::One(Operand::ReadGprMem(self.rm64, Size::Quadword))
+    fn fold_operands<T: FromOperands<R>>(&self) -> T {
+        of_one(Operand::ReadGprMem(self.rm64, Size::Quadword))
     }
 
     fn visit<V: RegisterVisitor<R>>(&mut self, visitor: &mut V) {
@@ -86,8 +86,8 @@ impl<R: Registers> RowAndOperands for jmpq_m<R> {
     }
 
     #[tactic(auto, unfolding(cax64_machine_code::specs::Rows::line_of))]
-    fn operands(&self) -> Operands<R> {
-        Operands::One(Operand::ReadGprMem(self.rm64, Size::Quadword))
+    fn fold_operands<T: FromOperands<R>>(&self) -> T {
+        of_one(Operand::ReadGprMem(self.rm64, Size::Quadword))
     }
 
     fn visit<V: RegisterVisitor<R>>(&mut self, visitor: &mut V) {

@@ -12,7 +12,7 @@ ghost use Rattle.cax64_register.specs.declared.gpr.Size.TheVariants.{Byte, Doubl
 use cax64_address::amode::Amode;
 use cax64_immediate::{Extension, Imm8, Imm16, Imm32, Simm8, Simm32};
 use cax64_machine_code::row::Row;
-use cax64_operand::{Immediate, Operand, Operands, RegisterVisitor, RowAndOperands};
+use cax64_operand::{FromOperands, Immediate, Operand, RegisterVisitor, RowAndOperands, of_two};
 use cax64_register::{Gpr, Registers, Size};
 use std::marker::Model;
 
@@ -49,8 +49,8 @@ impl<R: Registers> RowAndOperands for lock_orb_mi<R> {
     }
 
     #[tactic(auto, unfolding(cax64_machine_code::specs::Rows::line_of))]
-    fn operands(&self) -> Operands<R> {
-        Operands::Two(
+    fn fold_operands<T: FromOperands<R>>(&self) -> T {
+        of_two(
             Operand::ReadAmode(self.m8),
             Operand::Imm(Immediate::Imm8(self.imm8.value())),
         )
@@ -94,8 +94,8 @@ impl<R: Registers> RowAndOperands for lock_orw_mi<R> {
     }
 
     #[tactic(auto, unfolding(cax64_machine_code::specs::Rows::line_of))]
-    fn operands(&self) -> Operands<R> {
-        Operands::Two(
+    fn fold_operands<T: FromOperands<R>>(&self) -> T {
+        of_two(
             Operand::ReadAmode(self.m16),
             Operand::Imm(Immediate::Imm16(self.imm16.value())),
         )
@@ -139,8 +139,8 @@ impl<R: Registers> RowAndOperands for lock_orl_mi<R> {
     }
 
     #[tactic(auto, unfolding(cax64_machine_code::specs::Rows::line_of))]
-    fn operands(&self) -> Operands<R> {
-        Operands::Two(
+    fn fold_operands<T: FromOperands<R>>(&self) -> T {
+        of_two(
             Operand::ReadAmode(self.m32),
             Operand::Imm(Immediate::Imm32(self.imm32.value())),
         )
@@ -184,8 +184,8 @@ impl<R: Registers> RowAndOperands for lock_orq_mi_sxl<R> {
     }
 
     #[tactic(auto, unfolding(cax64_machine_code::specs::Rows::line_of))]
-    fn operands(&self) -> Operands<R> {
-        Operands::Two(
+    fn fold_operands<T: FromOperands<R>>(&self) -> T {
+        of_two(
             Operand::ReadAmode(self.m64),
             Operand::Imm(Immediate::Simm32(self.imm32.value(), Extension::SignExtendQuad)),
         )
@@ -229,8 +229,8 @@ impl<R: Registers> RowAndOperands for lock_orl_mi_sxb<R> {
     }
 
     #[tactic(auto, unfolding(cax64_machine_code::specs::Rows::line_of))]
-    fn operands(&self) -> Operands<R> {
-        Operands::Two(
+    fn fold_operands<T: FromOperands<R>>(&self) -> T {
+        of_two(
             Operand::ReadAmode(self.m32),
             Operand::Imm(Immediate::Simm8(self.imm8.value(), Extension::SignExtendLong)),
         )
@@ -274,8 +274,8 @@ impl<R: Registers> RowAndOperands for lock_orq_mi_sxb<R> {
     }
 
     #[tactic(auto, unfolding(cax64_machine_code::specs::Rows::line_of))]
-    fn operands(&self) -> Operands<R> {
-        Operands::Two(
+    fn fold_operands<T: FromOperands<R>>(&self) -> T {
+        of_two(
             Operand::ReadAmode(self.m64),
             Operand::Imm(Immediate::Simm8(self.imm8.value(), Extension::SignExtendQuad)),
         )
@@ -319,8 +319,8 @@ impl<R: Registers> RowAndOperands for lock_orb_mr<R> {
     }
 
     #[tactic(auto, unfolding(cax64_machine_code::specs::Rows::line_of))]
-    fn operands(&self) -> Operands<R> {
-        Operands::Two(
+    fn fold_operands<T: FromOperands<R>>(&self) -> T {
+        of_two(
             Operand::ReadAmode(self.m8),
             Operand::ReadGpr(*self.r8.as_ref(), Size::Byte),
         )
@@ -365,8 +365,8 @@ impl<R: Registers> RowAndOperands for lock_orw_mr<R> {
     }
 
     #[tactic(auto, unfolding(cax64_machine_code::specs::Rows::line_of))]
-    fn operands(&self) -> Operands<R> {
-        Operands::Two(
+    fn fold_operands<T: FromOperands<R>>(&self) -> T {
+        of_two(
             Operand::ReadAmode(self.m16),
             Operand::ReadGpr(*self.r16.as_ref(), Size::Word),
         )
@@ -411,8 +411,8 @@ impl<R: Registers> RowAndOperands for lock_orl_mr<R> {
     }
 
     #[tactic(auto, unfolding(cax64_machine_code::specs::Rows::line_of))]
-    fn operands(&self) -> Operands<R> {
-        Operands::Two(
+    fn fold_operands<T: FromOperands<R>>(&self) -> T {
+        of_two(
             Operand::ReadAmode(self.m32),
             Operand::ReadGpr(*self.r32.as_ref(), Size::Doubleword),
         )
@@ -457,8 +457,8 @@ impl<R: Registers> RowAndOperands for lock_orq_mr<R> {
     }
 
     #[tactic(auto, unfolding(cax64_machine_code::specs::Rows::line_of))]
-    fn operands(&self) -> Operands<R> {
-        Operands::Two(
+    fn fold_operands<T: FromOperands<R>>(&self) -> T {
+        of_two(
             Operand::ReadAmode(self.m64),
             Operand::ReadGpr(*self.r64.as_ref(), Size::Quadword),
         )

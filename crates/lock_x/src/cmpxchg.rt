@@ -9,7 +9,7 @@ ghost use Rattle.cax64_register.specs.declared.gpr.Size.TheVariants.{Byte, Doubl
 
 use cax64_address::amode::Amode;
 use cax64_machine_code::row::Row;
-use cax64_operand::{Operand, Operands, RegisterVisitor, RowAndOperands};
+use cax64_operand::{FromOperands, Operand, RegisterVisitor, RowAndOperands, of_five, of_three};
 use cax64_register::{Fixed, Gpr, Registers, Size};
 use std::marker::Model;
 
@@ -48,8 +48,8 @@ impl<R: Registers> RowAndOperands for lock_cmpxchgb_mr<R> {
     }
 
     #[tactic(auto, unfolding(cax64_machine_code::specs::Rows::line_of))]
-    fn operands(&self) -> Operands<R> {
-        Operands::Three(
+    fn fold_operands<T: FromOperands<R>>(&self) -> T {
+        of_three(
             Operand::ReadAmode(self.m8),
             Operand::ReadGpr(*self.r8.as_ref(), Size::Byte),
             Operand::FixedReadWriteGpr(self.al.0, 0, None),
@@ -98,8 +98,8 @@ impl<R: Registers> RowAndOperands for lock_cmpxchgw_mr<R> {
     }
 
     #[tactic(auto, unfolding(cax64_machine_code::specs::Rows::line_of))]
-    fn operands(&self) -> Operands<R> {
-        Operands::Three(
+    fn fold_operands<T: FromOperands<R>>(&self) -> T {
+        of_three(
             Operand::ReadAmode(self.m16),
             Operand::ReadGpr(*self.r16.as_ref(), Size::Word),
             Operand::FixedReadWriteGpr(self.ax.0, 0, None),
@@ -148,8 +148,8 @@ impl<R: Registers> RowAndOperands for lock_cmpxchgl_mr<R> {
     }
 
     #[tactic(auto, unfolding(cax64_machine_code::specs::Rows::line_of))]
-    fn operands(&self) -> Operands<R> {
-        Operands::Three(
+    fn fold_operands<T: FromOperands<R>>(&self) -> T {
+        of_three(
             Operand::ReadAmode(self.m32),
             Operand::ReadGpr(*self.r32.as_ref(), Size::Doubleword),
             Operand::FixedReadWriteGpr(self.eax.0, 0, None),
@@ -198,8 +198,8 @@ impl<R: Registers> RowAndOperands for lock_cmpxchgq_mr<R> {
     }
 
     #[tactic(auto, unfolding(cax64_machine_code::specs::Rows::line_of))]
-    fn operands(&self) -> Operands<R> {
-        Operands::Three(
+    fn fold_operands<T: FromOperands<R>>(&self) -> T {
+        of_three(
             Operand::ReadAmode(self.m64),
             Operand::ReadGpr(*self.r64.as_ref(), Size::Quadword),
             Operand::FixedReadWriteGpr(self.rax.0, 0, None),
@@ -262,8 +262,8 @@ impl<R: Registers> RowAndOperands for lock_cmpxchg16b_m<R> {
     }
 
     #[tactic(auto, unfolding(cax64_machine_code::specs::Rows::line_of))]
-    fn operands(&self) -> Operands<R> {
-        Operands::Five(
+    fn fold_operands<T: FromOperands<R>>(&self) -> T {
+        of_five(
             Operand::ReadAmode(self.m128),
             Operand::FixedReadWriteGpr(self.rax.0, 0, None),
             Operand::FixedReadWriteGpr(self.rdx.0, 2, None),

@@ -5,7 +5,7 @@ ghost use Rattle.cax64_operand.specs.Visit.{OperandsRun};
 ghost use Rattle.nop.specs.Operands.{operands_nop_1b, operands_nop_2b, operands_nop_3b, operands_nop_4b, operands_nop_5b, operands_nop_6b, operands_nop_7b, operands_nop_8b, operands_nop_9b};
 
 use cax64_machine_code::row::Row;
-use cax64_operand::{Nop, Numbers, Operands, RegisterVisitor, RowAndOperands};
+use cax64_operand::{FromOperands, Nop, Numbers, RegisterVisitor, RowAndOperands};
 use cax64_register::Registers;
 
 /// No operation, in one byte.
@@ -34,8 +34,8 @@ impl RowAndOperands for nop_1b {
         Row::nop_1b
     }
 
-    fn operands(&self) -> Operands<Numbers> {
-        Operands::Nop(Nop::One)
+    fn fold_operands<T: FromOperands<Numbers>>(&self) -> T {
+        T::nop(Nop::One)
     }
 
     fn visit<V: RegisterVisitor<Numbers>>(&mut self, visitor: &mut V) {
@@ -69,8 +69,8 @@ impl RowAndOperands for nop_2b {
         Row::nop_2b
     }
 
-    fn operands(&self) -> Operands<Numbers> {
-        Operands::Nop(Nop::Two)
+    fn fold_operands<T: FromOperands<Numbers>>(&self) -> T {
+        T::nop(Nop::Two)
     }
 
     fn visit<V: RegisterVisitor<Numbers>>(&mut self, visitor: &mut V) {
@@ -104,8 +104,8 @@ impl RowAndOperands for nop_3b {
         Row::nopl_rm
     }
 
-    fn operands(&self) -> Operands<Numbers> {
-        Operands::Nop(Nop::Three)
+    fn fold_operands<T: FromOperands<Numbers>>(&self) -> T {
+        T::nop(Nop::Three)
     }
 
     fn visit<V: RegisterVisitor<Numbers>>(&mut self, visitor: &mut V) {
@@ -139,8 +139,8 @@ impl RowAndOperands for nop_4b {
         Row::nopl_rm
     }
 
-    fn operands(&self) -> Operands<Numbers> {
-        Operands::Nop(Nop::Four)
+    fn fold_operands<T: FromOperands<Numbers>>(&self) -> T {
+        T::nop(Nop::Four)
     }
 
     fn visit<V: RegisterVisitor<Numbers>>(&mut self, visitor: &mut V) {
@@ -174,8 +174,8 @@ impl RowAndOperands for nop_5b {
         Row::nopl_rm
     }
 
-    fn operands(&self) -> Operands<Numbers> {
-        Operands::Nop(Nop::Five)
+    fn fold_operands<T: FromOperands<Numbers>>(&self) -> T {
+        T::nop(Nop::Five)
     }
 
     fn visit<V: RegisterVisitor<Numbers>>(&mut self, visitor: &mut V) {
@@ -209,8 +209,8 @@ impl RowAndOperands for nop_6b {
         Row::nopw_rm
     }
 
-    fn operands(&self) -> Operands<Numbers> {
-        Operands::Nop(Nop::Six)
+    fn fold_operands<T: FromOperands<Numbers>>(&self) -> T {
+        T::nop(Nop::Six)
     }
 
     fn visit<V: RegisterVisitor<Numbers>>(&mut self, visitor: &mut V) {
@@ -244,8 +244,8 @@ impl RowAndOperands for nop_7b {
         Row::nopl_rm
     }
 
-    fn operands(&self) -> Operands<Numbers> {
-        Operands::Nop(Nop::Seven)
+    fn fold_operands<T: FromOperands<Numbers>>(&self) -> T {
+        T::nop(Nop::Seven)
     }
 
     fn visit<V: RegisterVisitor<Numbers>>(&mut self, visitor: &mut V) {
@@ -279,8 +279,8 @@ impl RowAndOperands for nop_8b {
         Row::nopl_rm
     }
 
-    fn operands(&self) -> Operands<Numbers> {
-        Operands::Nop(Nop::Eight)
+    fn fold_operands<T: FromOperands<Numbers>>(&self) -> T {
+        T::nop(Nop::Eight)
     }
 
     fn visit<V: RegisterVisitor<Numbers>>(&mut self, visitor: &mut V) {
@@ -314,8 +314,8 @@ impl RowAndOperands for nop_9b {
         Row::nopw_rm
     }
 
-    fn operands(&self) -> Operands<Numbers> {
-        Operands::Nop(Nop::Nine)
+    fn fold_operands<T: FromOperands<Numbers>>(&self) -> T {
+        T::nop(Nop::Nine)
     }
 
     fn visit<V: RegisterVisitor<Numbers>>(&mut self, visitor: &mut V) {

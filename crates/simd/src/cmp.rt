@@ -10,7 +10,7 @@ ghost use Rattle.cax64_operand.specs.declared.operand.Operands.TheVariants.{Thre
 use cax64_address::operand::XmmMem;
 use cax64_immediate::Imm8;
 use cax64_machine_code::row::Row;
-use cax64_operand::{Immediate, Operand, Operands, RegisterVisitor, RowAndOperands};
+use cax64_operand::{FromOperands, Immediate, Operand, RegisterVisitor, RowAndOperands, of_three};
 use cax64_register::{Registers, Xmm};
 use std::marker::Model;
 
@@ -57,8 +57,8 @@ impl<R: Registers> RowAndOperands for cmpps_a<R> {
     }
 
     #[tactic(auto, unfolding(cax64_machine_code::specs::Rows::line_of))]
-    fn operands(&self) -> Operands<R> {
-        Operands::Three(
+    fn fold_operands<T: FromOperands<R>>(&self) -> T {
+        of_three(
             Operand::ReadWriteXmm(*self.xmm1.as_ref()),
             Operand::ReadXmmMem(self.xmm_m128),
             Operand::Imm(Immediate::Predicate(self.imm8.value())),
@@ -114,8 +114,8 @@ impl<R: Registers> RowAndOperands for cmppd_a<R> {
     }
 
     #[tactic(auto, unfolding(cax64_machine_code::specs::Rows::line_of))]
-    fn operands(&self) -> Operands<R> {
-        Operands::Three(
+    fn fold_operands<T: FromOperands<R>>(&self) -> T {
+        of_three(
             Operand::ReadWriteXmm(*self.xmm1.as_ref()),
             Operand::ReadXmmMem(self.xmm_m128),
             Operand::Imm(Immediate::Predicate(self.imm8.value())),
@@ -171,8 +171,8 @@ impl<R: Registers> RowAndOperands for cmpss_a<R> {
     }
 
     #[tactic(auto, unfolding(cax64_machine_code::specs::Rows::line_of))]
-    fn operands(&self) -> Operands<R> {
-        Operands::Three(
+    fn fold_operands<T: FromOperands<R>>(&self) -> T {
+        of_three(
             Operand::ReadWriteXmm(*self.xmm1.as_ref()),
             Operand::ReadXmmMem(self.xmm_m32),
             Operand::Imm(Immediate::Predicate(self.imm8.value())),
@@ -228,8 +228,8 @@ impl<R: Registers> RowAndOperands for cmpsd_a<R> {
     }
 
     #[tactic(auto, unfolding(cax64_machine_code::specs::Rows::line_of))]
-    fn operands(&self) -> Operands<R> {
-        Operands::Three(
+    fn fold_operands<T: FromOperands<R>>(&self) -> T {
+        of_three(
             Operand::ReadWriteXmm(*self.xmm1.as_ref()),
             Operand::ReadXmmMem(self.xmm_m64),
             Operand::Imm(Immediate::Predicate(self.imm8.value())),

@@ -10,7 +10,7 @@ ghost use Rattle.cax64_operand.specs.declared.operand.Operands.TheVariants.{Four
 use cax64_address::operand::XmmMem;
 use cax64_immediate::Imm8;
 use cax64_machine_code::row::Row;
-use cax64_operand::{Immediate, Operand, Operands, RegisterVisitor, RowAndOperands};
+use cax64_operand::{FromOperands, Immediate, Operand, RegisterVisitor, RowAndOperands, of_four};
 use cax64_register::{Registers, Xmm};
 use std::marker::Model;
 
@@ -60,8 +60,8 @@ impl<R: Registers> RowAndOperands for vcmpps_b<R> {
     }
 
     #[tactic(auto, unfolding(cax64_machine_code::specs::Rows::line_of))]
-    fn operands(&self) -> Operands<R> {
-        Operands::Four(
+    fn fold_operands<T: FromOperands<R>>(&self) -> T {
+        of_four(
             Operand::WriteXmm(*self.xmm1.as_ref()),
             Operand::ReadXmm(*self.xmm2.as_ref()),
             Operand::ReadXmmMem(self.xmm_m128),
@@ -122,8 +122,8 @@ impl<R: Registers> RowAndOperands for vcmppd_b<R> {
     }
 
     #[tactic(auto, unfolding(cax64_machine_code::specs::Rows::line_of))]
-    fn operands(&self) -> Operands<R> {
-        Operands::Four(
+    fn fold_operands<T: FromOperands<R>>(&self) -> T {
+        of_four(
             Operand::WriteXmm(*self.xmm1.as_ref()),
             Operand::ReadXmm(*self.xmm2.as_ref()),
             Operand::ReadXmmMem(self.xmm_m128),
@@ -184,8 +184,8 @@ impl<R: Registers> RowAndOperands for vcmpss_b<R> {
     }
 
     #[tactic(auto, unfolding(cax64_machine_code::specs::Rows::line_of))]
-    fn operands(&self) -> Operands<R> {
-        Operands::Four(
+    fn fold_operands<T: FromOperands<R>>(&self) -> T {
+        of_four(
             Operand::WriteXmm(*self.xmm1.as_ref()),
             Operand::ReadXmm(*self.xmm2.as_ref()),
             Operand::ReadXmmMem(self.xmm_m32),
@@ -246,8 +246,8 @@ impl<R: Registers> RowAndOperands for vcmpsd_b<R> {
     }
 
     #[tactic(auto, unfolding(cax64_machine_code::specs::Rows::line_of))]
-    fn operands(&self) -> Operands<R> {
-        Operands::Four(
+    fn fold_operands<T: FromOperands<R>>(&self) -> T {
+        of_four(
             Operand::WriteXmm(*self.xmm1.as_ref()),
             Operand::ReadXmm(*self.xmm2.as_ref()),
             Operand::ReadXmmMem(self.xmm_m64),

@@ -8,7 +8,7 @@ ghost use Rattle.cax64_operand.specs.declared.operand.Operands.TheVariants.{Two}
 
 use cax64_address::operand::XmmMem;
 use cax64_machine_code::row::Row;
-use cax64_operand::{Operand, Operands, RegisterVisitor, RowAndOperands};
+use cax64_operand::{FromOperands, Operand, RegisterVisitor, RowAndOperands, of_two};
 use cax64_register::{Registers, Xmm};
 use std::marker::Model;
 
@@ -46,8 +46,8 @@ impl<R: Registers> RowAndOperands for vcvtpd2ps_a<R> {
     }
 
     #[tactic(auto, unfolding(cax64_machine_code::specs::Rows::line_of))]
-    fn operands(&self) -> Operands<R> {
-        Operands::Two(
+    fn fold_operands<T: FromOperands<R>>(&self) -> T {
+        of_two(
             Operand::WriteXmm(*self.xmm1.as_ref()),
             Operand::ReadXmmMem(self.xmm_m128),
         )
@@ -93,8 +93,8 @@ impl<R: Registers> RowAndOperands for vcvttpd2dq_a<R> {
     }
 
     #[tactic(auto, unfolding(cax64_machine_code::specs::Rows::line_of))]
-    fn operands(&self) -> Operands<R> {
-        Operands::Two(
+    fn fold_operands<T: FromOperands<R>>(&self) -> T {
+        of_two(
             Operand::WriteXmm(*self.xmm1.as_ref()),
             Operand::ReadXmmMem(self.xmm_m128),
         )
