@@ -5,4 +5,5 @@ pub mod Refusals
 pub mod Results
 pub mod Rooms
 pub mod Runs
+pub mod PutRuns
 pub mod Ends

@@ -3,6 +3,7 @@ pub mod Room
 pub mod Sink
 pub mod Call
 pub mod Run
+pub mod Puts
 pub mod Keeps
 pub mod Vec
 pub mod Recorder

@@ -1,10 +1,12 @@
 //! What an assembler writes to: the trait `CodeSink`, and three sinks.
 #![tactic(auto)]
 
-ghost use Rattle.std.specs.Prelude.{◌≡◌, ◌∷◌, [], IsSome, is_some, Some};
+ghost use Rattle.std.specs.Prelude.{◌≡◌, ◌≤◌, ◌∷◌, [], take, IsSome, is_some, Some};
 ghost use Rattle.std.specs.Int.{to_le_bytes, w16, w32, w64};
 ghost use Rattle.cax64_sink.specs.Sink.{State};
 ghost use Rattle.cax64_sink.specs.Call.{Step, put, trap, target};
+ghost use Rattle.cax64_sink.specs.Puts.{puts};
+ghost use Rattle.cax64_sink.specs.Run.{Ran};
 ghost use Rattle.cax64_sink.specs.TrapCode.{trap_text};
 
 use std::fmt;
@@ -12,6 +14,7 @@ use std::num::NonZeroU8;
 
 pub mod fixed_sink;
 pub mod laws;
+pub mod puts;
 pub mod recorder;
 mod vec;
 
@@ -88,6 +91,18 @@ pub trait CodeSink {
     /// Puts eight bytes, the lowest first.
     fn put8(&mut self, value: u64) -> Result<(), SinkError>
         ensures { Step (put (to_le_bytes w64 value)) (state self.old) (state self.new) result };
+
+    /// Puts the lowest bytes of a word, one to eight, as one by one, the lowest first.
+    fn put_low_bytes(&mut self, word: u64, count: u8) -> Result<(), SinkError>
+        requires least { 1 ≤ count }
+        requires most { count ≤ 8 }
+        ensures { Ran (puts (take count (to_le_bytes w64 word))) (state self.old) (state self.new) result }
+    {
+        for byte in &word.to_le_bytes()[..usize::from(count)] {
+            self.put1(*byte)?;
+        }
+        Ok(())
+    }
 
     /// Says that the instruction that begins here may trap.
     fn add_trap(&mut self, code: TrapCode) -> Result<(), SinkError>
