@@ -6,4 +6,5 @@ pub mod Results
 pub mod Rooms
 pub mod Runs
 pub mod PutRuns
+pub mod RecordedPuts
 pub mod Ends

@@ -1,8 +1,8 @@
-use Rattle.std.proofs.Common.{◌≡◌, Bool, ℕ, ◌+◌, ◌<◌, ◌≤◌, List, [], ◌∷◌, ◌++◌, length, drop, slice_index_or, Result, Ok, Err, refl, ap, ◌∙◌, append_assoc, arith, ◌-◌, take, length-append}
-use Rattle.std.proofs.lemmas.List.{drop_more, drop_all, length-take-le}
+use Rattle.std.proofs.Common.{◌≡◌, Bool, ℕ, ◌+◌, ◌<◌, ◌≤◌, List, [], ◌∷◌, ◌++◌, length, drop, slice_index_or, Result, Ok, Err, refl, sym, ap, ◌∙◌, append_assoc, arith, ◌-◌, take, length-append}
+use Rattle.std.proofs.lemmas.List.{drop_more, drop_all, length-take-le, take-take}
 use Rattle.std.proofs.Math.Seq.{take-append-add}
 use Rattle.std.specs.Prelude.{Vec, vec_len, vec_capacity}
-use Rattle.cax64_sink.specs.Sink.{State, bytes_only, is_no_memory}
+use Rattle.cax64_sink.specs.Sink.{State, bytes_only, is_no_memory, is_full}
 use Rattle.cax64_sink.specs.Vec.{vec_state}
 use Rattle.cax64_sink.specs.Room.{count}
 use Rattle.cax64_sink.specs.Run.{Ran, all_bytes, all_notices}
@@ -86,3 +86,12 @@ vec_at_once v u w word n some few room added cut grown =
     let had = v.ok.0 in
     let has = w.ok.0 in
     puts_at_once (take n word) v.items w.items (vec_capacity v - vec_len v) (vec_capacity w - vec_len w) is_no_memory (omega (arith, size, some)) items (omega (arith, size, longer, had, has, grown, room, few)) (omega (arith, size, few, room))
+
+-- The same in a sink of fixed size, whose bytes are the front of a table.
+pub fixed_at_once : (size len : ℕ) (held after word : List ℕ) (n : ℕ) → 1 ≤ n → n ≤ length word → length word ≤ size - len → length (take len held) ≡ len → take (len + length word) after ≡ take len held ++ word → Ran (puts (take n word)) (bytes_only (take len held) (count (size - length (take len held))) is_full) (bytes_only (take (len + n) after) (count (size - length (take (len + n) after))) is_full) (Ok tt)
+fixed_at_once size len held after word n some few room whole added =
+    let least : length (take n word) ≡ n = length-take-le n word few in
+    let cut : take (len + n) (take (len + length word) after) ≡ take (len + n) after = take-take (len + n) (len + length word) after (omega (arith, few)) in
+    let items : take (len + n) after ≡ take len held ++ take n word = sym cut ∙ ap (λ (xs : List ℕ). take (len + n) xs) added ∙ ap (λ (k : ℕ). take (k + n) (take len held ++ word)) (sym whole) ∙ take-append-add (take len held) word n in
+    let longer : length (take (len + n) after) ≡ length (take len held) + n = ap length items ∙ length-append (take len held) (take n word) ∙ ap (λ (k : ℕ). length (take len held) + k) least in
+    puts_at_once (take n word) (take len held) (take (len + n) after) (size - length (take len held)) (size - length (take (len + n) after)) is_full (omega (arith, least, some)) items (omega (arith, least, longer, whole, room, few)) (omega (arith, least, whole, few, room))

@@ -9,6 +9,8 @@ pub mod Vec
 pub mod Recorder
 pub mod FixedSink
 pub mod TrapCode
+pub mod Message
+pub mod Cleared
 pub mod Laws
 -- Steps of the proofs.
 pub mod Ends

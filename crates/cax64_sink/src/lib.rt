@@ -8,6 +8,7 @@ ghost use Rattle.cax64_sink.specs.Call.{Step, put, trap, target};
 ghost use Rattle.cax64_sink.specs.Puts.{puts};
 ghost use Rattle.cax64_sink.specs.Run.{Ran};
 ghost use Rattle.cax64_sink.specs.TrapCode.{trap_text};
+ghost use Rattle.cax64_sink.specs.Message.{sink_error_text};
 
 use std::fmt;
 use std::num::NonZeroU8;
@@ -28,6 +29,17 @@ pub enum SinkError {
     NoMemory,
     /// No place is left in a sink of fixed size, or no number for another label.
     Full,
+}
+
+impl fmt::Display for SinkError {
+    ghost output = { λ error. Some (sink_error_text error) };
+
+    fn fmt<W: fmt::Write>(&self, f: &mut fmt::Formatter<W>) -> fmt::Result {
+        match self {
+            SinkError::NoMemory => f.write_str("no memory is left"),
+            SinkError::Full => f.write_str("the sink is full"),
+        }
+    }
 }
 
 /// The number of a place in code that an address refers to.
