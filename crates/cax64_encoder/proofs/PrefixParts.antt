@@ -22,12 +22,12 @@ use Rattle.cax64_machine_code.specs.declared.line.VvvvField.{VvvvField}
 use Rattle.cax64_machine_code.specs.declared.line.VvvvField.TheVariants.{VvvvRegister, Stored1111}
 use Rattle.cax64_machine_code.specs.declared.line.TailField.{TailField}
 use Rattle.cax64_machine_code.proofs.Uniqueness.{legacy_self}
-use Rattle.cax64_prefix.specs.Puts.{puts}
+use Rattle.cax64_sink.specs.Puts.{puts}
 use Rattle.cax64_prefix.specs.Rex.{rex_bytes, is_special_if_8bit}
 use Rattle.cax64_prefix.specs.Vex.{vex_bytes, vex_fields, VexReadsAs, fits_two_bytes}
 use Rattle.cax64_prefix.specs.declared.vex.VexPrefix.{VexPrefix}
 use Rattle.cax64_prefix.specs.declared.vex.VexPrefix.TheVariants.{TwoByte, ThreeByte}
-use Rattle.cax64_prefix.proofs.PutRuns.{all_bytes-puts}
+use Rattle.cax64_sink.proofs.PutRuns.{all_bytes-puts}
 use Rattle.cax64_prefix.proofs.RexBits.{AreBits}
 use Rattle.cax64_prefix.proofs.Prefixes.{legacy_bytes, prefix_back, prefix_vex}
 use Rattle.cax64_encoder.specs.Code.{when, set_actions}

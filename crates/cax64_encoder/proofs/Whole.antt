@@ -38,10 +38,10 @@ use Rattle.cax64_machine_code.specs.declared.line.TailField.{TailField}
 use Rattle.cax64_machine_code.specs.declared.line.TailField.TheVariants.{NoTail, Modrm}
 use Rattle.cax64_machine_code.proofs.Matched.{reads_as, reads_as_tail, reads_as_row}
 use Rattle.cax64_machine_code.proofs.Written.{IsPrefix, IsImm, DigitIs, bare_found, tail_found}
-use Rattle.cax64_prefix.specs.Puts.{puts}
+use Rattle.cax64_sink.specs.Puts.{puts}
 use Rattle.cax64_prefix.specs.Rex.{rex_bytes}
 use Rattle.cax64_prefix.specs.Vex.{vex_bytes}
-use Rattle.cax64_prefix.proofs.PutRuns.{all_notices-puts}
+use Rattle.cax64_sink.proofs.PutRuns.{all_notices-puts}
 use Rattle.cax64_encoder.proofs.PrefixParts.{set_quiet}
 use Rattle.cax64_encoder.specs.declared.code.PrefixCode.{PrefixCode}
 use Rattle.cax64_encoder.specs.declared.code.PrefixCode.TheVariants.{Legacy, Vex}

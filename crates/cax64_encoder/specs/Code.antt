@@ -2,7 +2,7 @@ use Rattle.std.specs.Prelude.{ℕ, Bool, true, false, Option, Some, None, List, 
 use Rattle.cax64_address.specs.Emitted as address
 use Rattle.cax64_machine_code.specs.declared.line.LegacySet.{LegacySet}
 use Rattle.cax64_machine_code.specs.declared.line.Opcode.{Opcode}
-use Rattle.cax64_prefix.specs.Puts.{puts}
+use Rattle.cax64_sink.specs.Puts.{puts}
 use Rattle.cax64_prefix.specs.Rex.{rex_bytes}
 use Rattle.cax64_prefix.specs.Vex.{vex_bytes}
 use Rattle.cax64_sink.specs.Call.{Action, put, trap}

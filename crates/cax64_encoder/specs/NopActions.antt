@@ -3,7 +3,7 @@ use Rattle.cax64_operand.specs.declared.immediate.ImmOperand.{ImmOperand}
 use Rattle.cax64_operand.specs.declared.immediate.ImmOperand.TheVariants.{Imm16, Imm32}
 use Rattle.cax64_operand.specs.declared.nop.Nop.{Nop}
 use Rattle.cax64_operand.specs.declared.nop.Nop.TheVariants.{One, Two, Three, Four, Five, Six, Seven, Eight, Nine}
-use Rattle.cax64_prefix.specs.Puts.{puts}
+use Rattle.cax64_sink.specs.Puts.{puts}
 use Rattle.cax64_sink.specs.Call.{Action}
 use Rattle.cax64_encoder.specs.ImmActions.{optional_imm_actions}
 

@@ -2,12 +2,12 @@
 
 ghost use Rattle.std.specs.Prelude.{◌≡◌};
 ghost use Rattle.cax64_encoder.specs.NopActions.{nop_lead, nop_zeros, nop_actions};
-ghost use Rattle.cax64_prefix.specs.Puts.{puts};
+ghost use Rattle.cax64_sink.specs.Puts.{puts};
 ghost use Rattle.cax64_sink.specs.Run.{Ran};
 
 use crate::imm::put_optional_imm;
 use cax64_operand::{ImmOperand, Nop};
-use cax64_prefix::puts::put_each;
+use cax64_sink::puts::put_each;
 use cax64_sink::{CodeSink, SinkError};
 
 /// Puts the bytes up to ModR/M, and SIB or a displacement of one byte if that is the last, each by itself.

@@ -1,11 +1,19 @@
 //! Texts of immediates.
 
-ghost use Rattle.std.specs.Prelude.{◌≡◌, IsTrue, IfOk, Some, string_bytes};
+ghost use Rattle.std.specs.Prelude.{◌≡◌, IsTrue, IfOk, Some, codes, string_bytes};
 ghost use Rattle.cax64_immediate.specs.Text.{imm_text, fits_extension, extended8, extended16, extended32};
 
-use crate::{Extension, Imm8, Imm16, Imm32, Imm64, Simm8, Simm16, Simm32};
+use crate::{Extension, Imm8, Imm16, Imm32, Imm64, OutOfRange, Simm8, Simm16, Simm32};
 use std::alloc::{AllocError, Allocator};
 use std::fmt;
+
+impl fmt::Display for OutOfRange {
+    ghost output = { λ _. Some (codes "the number doesn't fit in the immediate") };
+
+    fn fmt<W: fmt::Write>(&self, f: &mut fmt::Formatter<W>) -> fmt::Result {
+        f.write_str("the number doesn't fit in the immediate")
+    }
+}
 
 impl fmt::Display for Imm8 {
     ghost output = { λ imm. Some (imm_text imm) };

@@ -2,6 +2,5 @@ pub mod Bits
 pub mod EvexBits
 pub mod PrefixLengths
 pub mod Prefixes
-pub mod PutRuns
 pub mod RexBits
 pub mod VexBits

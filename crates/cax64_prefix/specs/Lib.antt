@@ -1,5 +1,4 @@
 -- What the clauses of public functions say.
-pub mod Puts
 pub mod Rex
 pub mod Vex
 pub mod Evex

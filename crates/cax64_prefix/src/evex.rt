@@ -3,12 +3,12 @@
 ghost use Rattle.std.specs.Prelude.{◌≡◌, ◌+◌, ◌-◌, ◌*◌, ◌/◌, ◌%◌, ◌<◌, ◌++◌, IfOk, IfSome, length};
 ghost use Rattle.std.specs.Int.{from_bool};
 ghost use Rattle.cax64_sink.specs.Run.{Ran};
-ghost use Rattle.cax64_prefix.specs.Puts.{puts};
+ghost use Rattle.cax64_sink.specs.Puts.{puts};
 ghost use Rattle.cax64_prefix.specs.Evex.{evex_fields, EvexReadsAs};
 ghost use Rattle.cax64_prefix.specs.Apx.{apx_fields, ApxReadsAs};
 
 use crate::fields::{invert_top_bit, operation_byte, register_byte};
-use crate::puts::put_each;
+use cax64_sink::puts::put_each;
 use cax64_sink::{CodeSink, SinkError};
 use std::marker::Model;
 

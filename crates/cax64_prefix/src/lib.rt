@@ -3,6 +3,5 @@
 
 pub mod evex;
 mod fields;
-pub mod puts;
 pub mod rex;
 pub mod vex;

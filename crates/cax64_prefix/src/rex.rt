@@ -4,7 +4,7 @@ ghost use Rattle.std.specs.Prelude.{◌≡◌, ◌<◌, ◌/◌, ◌++◌, ◌&&
 ghost use Rattle.std.specs.Int.{from_bool};
 ghost use Rattle.cax64_machine_code.specs.Prefix.{rex_bits};
 ghost use Rattle.cax64_sink.specs.Run.{Ran};
-ghost use Rattle.cax64_prefix.specs.Puts.{puts};
+ghost use Rattle.cax64_sink.specs.Puts.{puts};
 ghost use Rattle.cax64_prefix.specs.Rex.{rex_byte, rex_bytes, is_special_if_8bit, RexReadsBack};
 
 use cax64_sink::{CodeSink, SinkError};

@@ -3,12 +3,12 @@
 ghost use Rattle.std.specs.Prelude.{◌≡◌, ◌<◌, ◌≤◌, ◌/◌, ◌==◌, ◌&&◌, ◌++◌, ◌↔◌, IsTrue, IfOk, IfSome, length};
 ghost use Rattle.std.specs.Int.{from_bool};
 ghost use Rattle.cax64_sink.specs.Run.{Ran};
-ghost use Rattle.cax64_prefix.specs.Puts.{puts};
+ghost use Rattle.cax64_sink.specs.Puts.{puts};
 ghost use Rattle.cax64_machine_code.specs.Fields.{IsBytes};
 ghost use Rattle.cax64_prefix.specs.Vex.{vex_bytes, vex_fields, VexReadsAs, IsShortestVex, fits_two_bytes};
 
 use crate::fields::{invert_top_bit, operation_byte, register_byte};
-use crate::puts::put_each;
+use cax64_sink::puts::put_each;
 use cax64_sink::{CodeSink, SinkError};
 
 /// A VEX prefix: the bytes after C5, or those after C4.

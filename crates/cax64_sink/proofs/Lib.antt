@@ -5,4 +5,6 @@ pub mod Refusals
 pub mod Results
 pub mod Rooms
 pub mod Runs
+pub mod PutRuns
+pub mod RecordedPuts
 pub mod Ends

@@ -25,7 +25,7 @@ pub ran_succeeds : {acts : List Action} {s t : State} {r : Result (Unit {0}) Sin
 ran_succeeds {acts} {s} {t} {r} h hb hn = went_succeeds acts s t r h.went hb hn
 
 -- a room that doesn't change falls by nothing
-falls_by_none : (r : Room) → FallsBy r r 0
+pub falls_by_none : (r : Room) → FallsBy r r 0
 falls_by_none r k h = less_room r (k + 0) k (omega arith) h
 
 -- one fall after another

@@ -3,11 +3,14 @@ pub mod Room
 pub mod Sink
 pub mod Call
 pub mod Run
+pub mod Puts
 pub mod Keeps
 pub mod Vec
 pub mod Recorder
 pub mod FixedSink
 pub mod TrapCode
+pub mod Message
+pub mod Cleared
 pub mod Laws
 -- Steps of the proofs.
 pub mod Ends

@@ -1,17 +1,21 @@
 //! What an assembler writes to: the trait `CodeSink`, and three sinks.
 #![tactic(auto)]
 
-ghost use Rattle.std.specs.Prelude.{◌≡◌, ◌∷◌, [], IsSome, is_some, Some};
+ghost use Rattle.std.specs.Prelude.{◌≡◌, ◌≤◌, ◌∷◌, [], take, IsSome, is_some, Some};
 ghost use Rattle.std.specs.Int.{to_le_bytes, w16, w32, w64};
 ghost use Rattle.cax64_sink.specs.Sink.{State};
 ghost use Rattle.cax64_sink.specs.Call.{Step, put, trap, target};
+ghost use Rattle.cax64_sink.specs.Puts.{puts};
+ghost use Rattle.cax64_sink.specs.Run.{Ran};
 ghost use Rattle.cax64_sink.specs.TrapCode.{trap_text};
+ghost use Rattle.cax64_sink.specs.Message.{sink_error_text};
 
 use std::fmt;
 use std::num::NonZeroU8;
 
 pub mod fixed_sink;
 pub mod laws;
+pub mod puts;
 pub mod recorder;
 mod vec;
 
@@ -25,6 +29,17 @@ pub enum SinkError {
     NoMemory,
     /// No place is left in a sink of fixed size, or no number for another label.
     Full,
+}
+
+impl fmt::Display for SinkError {
+    ghost output = { λ error. Some (sink_error_text error) };
+
+    fn fmt<W: fmt::Write>(&self, f: &mut fmt::Formatter<W>) -> fmt::Result {
+        match self {
+            SinkError::NoMemory => f.write_str("no memory is left"),
+            SinkError::Full => f.write_str("the sink is full"),
+        }
+    }
 }
 
 /// The number of a place in code that an address refers to.
@@ -88,6 +103,18 @@ pub trait CodeSink {
     /// Puts eight bytes, the lowest first.
     fn put8(&mut self, value: u64) -> Result<(), SinkError>
         ensures { Step (put (to_le_bytes w64 value)) (state self.old) (state self.new) result };
+
+    /// Puts the lowest bytes of a word, one to eight, as one by one, the lowest first.
+    fn put_low_bytes(&mut self, word: u64, count: u8) -> Result<(), SinkError>
+        requires least { 1 ≤ count }
+        requires most { count ≤ 8 }
+        ensures { Ran (puts (take count (to_le_bytes w64 word))) (state self.old) (state self.new) result }
+    {
+        for byte in &word.to_le_bytes()[..usize::from(count)] {
+            self.put1(*byte)?;
+        }
+        Ok(())
+    }
 
     /// Says that the instruction that begins here may trap.
     fn add_trap(&mut self, code: TrapCode) -> Result<(), SinkError>

@@ -36,6 +36,7 @@ impl<A: Allocator + Copy> Recorder<A> {
 
 impl<A: Allocator> Recorder<A> {
     ghost use Rattle.cax64_sink.specs.Recorder.{recorder_state, with_offset, with_patch};
+    ghost use Rattle.cax64_sink.specs.Cleared.{cleared};
     ghost use Rattle.cax64_sink.specs.Vec.{vec_state};
 
     /// Makes `offset` known, or replaces its value. Takes no memory.
@@ -79,6 +80,14 @@ impl<A: Allocator> Recorder<A> {
         self.told.reserve(notices).map_err(|_| SinkError::NoMemory)
     }
 
+    /// Forgets bytes and notices, and keeps the offsets that were set and all memory.
+    pub fn clear(&mut self)
+        ensures { recorder_state self.new ≡ cleared (recorder_state self.old) }
+    {
+        self.code.clear();
+        self.told.clear();
+    }
+
     /// Writes four bytes over those from `at` on, the lowest first. Takes no memory.
     pub fn patch4(&mut self, at: usize, value: u32)
         requires { at + 4 ≤ length (recorder_state self.old).bytes }
@@ -116,6 +125,10 @@ impl<A: Allocator> CodeSink for Recorder<A> {
 
     fn put8(&mut self, value: u64) -> Result<(), SinkError> {
         self.code.put8(value)
+    }
+
+    fn put_low_bytes(&mut self, word: u64, count: u8) -> Result<(), SinkError> {
+        self.code.put_low_bytes(word, count)
     }
 
     fn add_trap(&mut self, code: TrapCode) -> Result<(), SinkError> {

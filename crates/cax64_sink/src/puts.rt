@@ -2,9 +2,9 @@
 
 ghost use Rattle.std.specs.Prelude.{◌≡◌, ◌++◌, IfOk};
 ghost use Rattle.cax64_sink.specs.Run.{Ran};
-ghost use Rattle.cax64_prefix.specs.Puts.{puts};
+ghost use Rattle.cax64_sink.specs.Puts.{puts};
 
-use cax64_sink::{CodeSink, SinkError};
+use crate::{CodeSink, SinkError};
 
 /// Puts some bytes, one at a time.
 pub fn put_each<S: CodeSink>(sink: &mut S, bytes: &[u8]) -> Result<(), SinkError>

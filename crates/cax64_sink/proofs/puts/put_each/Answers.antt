@@ -1,7 +1,7 @@
 use Rattle.std.proofs.Common.{◌∙◌, ap, Err, refl}
 use Rattle.std.proofs.lemmas.Result.{err_from_is_err_and}
-use Rattle.cax64_prefix.proofs.PutRuns.{begun, continued, halted, finished, puts_add}
-use Rattle.cax64_prefix.proofs.puts.put_each.Goals as goal
+use Rattle.cax64_sink.proofs.PutRuns.{begun, continued, halted, finished, puts_add}
+use Rattle.cax64_sink.proofs.puts.put_each.Goals as goal
 
 pub loop-byte-init : goal.loop-byte-init
 loop-byte-init g c = begun c.args.bytes.now (g.S.CodeSink.state c.args.sink.now)
