@@ -1,10 +1,11 @@
-use Rattle.std.proofs.Common.{◌≡◌, ℕ, Bool, true, false, refl, ◌∙◌, ap, Option, Some, None, List, length, ℤ}
-use Rattle.std.specs.Prelude.{◌↔◌, IsTrue, is_some, not}
+use Rattle.std.proofs.Common.{◌≡◌, ℕ, Bool, true, false, refl, ◌∙◌, ap, sym, Option, Some, None, List, length, ℤ}
+use Rattle.std.specs.Prelude.{◌↔◌, IsTrue, is_none}
 use Rattle.std.proofs.lemmas.Bool.{and_parts}
 use Rattle.cax64_machine_code.specs.Len.{len_of}
 use Rattle.cax64_machine_code.specs.Rows.{line_of}
 use Rattle.cax64_machine_code.specs.declared.row.Row.{Row}
 use Rattle.cax64_operand.specs.Family.{Family}
+use Rattle.cax64_operand.specs.Fold.{fold}
 use Rattle.cax64_operand.specs.OperandList.{list_of, nop_of}
 use Rattle.cax64_operand.specs.Shape.{HasShape, takes}
 use Rattle.cax64_operand.specs.declared.nop.Nop.{Nop}
@@ -13,10 +14,13 @@ use Rattle.cax64_operand.specs.declared.operand.Operands.{Operands}
 use Rattle.cax64_operand.specs.declared.operand.Operands.TheVariants as operands
 use Rattle.cax64_sink.specs.Run.{all_bytes}
 use Rattle.cax64_sink.specs.Call.{Action}
+use Rattle.cax64_encoder.specs.Content.{content_or, content_of, content_notices, with_content}
+use Rattle.cax64_encoder.specs.declared.content.Content.{Content}
+use Rattle.cax64_encoder.specs.declared.content.Content.TheVariants as content
 use Rattle.cax64_encoder.specs.Encodes.{EncodesParts, EncodesAs, form_parts}
 use Rattle.cax64_encoder.specs.Fault.{all_met, late_offset_fits, late_fault, first_unmet, first_fault, is_encodable, fault_of_meant}
-use Rattle.cax64_encoder.specs.Form.{form_of, fits}
-use Rattle.cax64_encoder.specs.Meant.{meant_of, nop_or, operands_meant, place_in}
+use Rattle.cax64_encoder.specs.Form.{no_form, form_of, fits}
+use Rattle.cax64_encoder.specs.Meant.{Meant, meant_of, nop_or, operands_meant, place_in}
 use Rattle.cax64_encoder.specs.Notices.{memory_notices, notice_count}
 use Rattle.cax64_encoder.specs.Place.{memory_in, displacement_in}
 use Rattle.cax64_encoder.specs.Real.{is_absent_or_real, place_is_real, form_is_real, place_is_addressable}
@@ -24,20 +28,37 @@ use Rattle.cax64_encoder.specs.Role.{roles_of}
 use Rattle.cax64_encoder.specs.Visits.{visits_of}
 use Rattle.cax64_encoder.specs.declared.fault.Fault.{Fault}
 use Rattle.cax64_encoder.specs.declared.form.Form.{Form}
-use Rattle.cax64_encoder.proofs.Faults.{no_fault, none_is, fault_same, notices_same}
+use Rattle.cax64_encoder.proofs.Faults.{no_fault, none_is, fault_same}
 use Rattle.cax64_encoder.proofs.Forms.{direct, with_all, form_fits}
 use Rattle.cax64_encoder.proofs.Seen.{roles_are_sound, direct_is_real}
 
 -- What operands that can be encoded give to the encoder.
 
-pub not_nop : {R A B C D E F : Type 0} (o : Operands R A B C D E F) → ((nop : Nop) → o ≡ operands.Nop nop → ⊥) → nop_of o ≡ None
-not_nop operands.Zero h = refl
-not_nop (operands.One a) h = refl
-not_nop (operands.Two a b) h = refl
-not_nop (operands.Three a b c) h = refl
-not_nop (operands.Four a b c d) h = refl
-not_nop (operands.Five a b c d e) h = refl
-not_nop (operands.Nop nop) h = absurd (h nop refl)
+-- what is kept of operands is what they come to
+pub content_is : {R A B C D E F : Type 0} (f : Family A B C D E F) (o : Operands R A B C D E F) → fold (content.Operands no_form) (with_content f) content.Nop o ≡ content_of f o
+content_is f operands.Zero = refl
+content_is f (operands.One a) = refl
+content_is f (operands.Two a b) = refl
+content_is f (operands.Three a b c) = refl
+content_is f (operands.Four a b c d) = refl
+content_is f (operands.Five a b c d e) = refl
+content_is f (operands.Nop nop) = refl
+
+pub nop_is : {R A B C D E F : Type 0} (f : Family A B C D E F) (o : Operands R A B C D E F) (nop : Nop) → content_of f o ≡ content.Nop nop → o ≡ operands.Nop nop
+nop_is f operands.Zero nop e = cc
+nop_is f (operands.One a) nop e = cc
+nop_is f (operands.Two a b) nop e = cc
+nop_is f (operands.Three a b c) nop e = cc
+nop_is f (operands.Four a b c d) nop e = cc
+nop_is f (operands.Five a b c d last) nop e = cc
+nop_is f (operands.Nop own) nop e = cc
+
+pub form_is : {R A B C D E F : Type 0} (f : Family A B C D E F) (o : Operands R A B C D E F) (form : Form A) → content_of f o ≡ content.Operands form → (nop_of o ≡ None) × (form ≡ form_of f (list_of o))
+form_is {R = R} {A = A} {B = B} {C = C} {D = D} {E = E} {F = F} f o form e = by_nop (nop_of o) (form_of f (list_of o)) e
+  where
+    by_nop : (nop : Option Nop) (own : Form A) → content_or {R = R} {A = A} {B = B} {C = C} {D = D} {E = E} {F = F} nop own ≡ content.Operands form → (nop ≡ None) × (form ≡ own)
+    by_nop None own e = (refl, cc)
+    by_nop (Some nop) own e = cc
 
 module _ {R A B C D E F : Type 0} (f : Family A B C D E F) (row : Row) (o : Operands R A B C D E F) (none : nop_of o ≡ None) where
   meant_is : (offsets : ℕ → Option ℤ) → meant_of f row o offsets ≡ operands_meant f.read_gpr row (roles_of f (list_of o)) offsets
@@ -82,21 +103,27 @@ then_late f offsets os form late e met h =
     let k : late ≡ late_fault offsets (memory_in (place_in (roles_of f os))) = rw is at h in
     rw (← met) k
 
-pub notices_by_form : {R A B C D E F : Type 0} (f : Family A B C D E F) (row : Row) (o : Operands R A B C D E F) (form : Form A) (count : ℕ) → form ≡ form_of f (list_of o) → count ≡ memory_notices (memory_in form.place) → (offsets : ℕ → Option ℤ) → count ≡ notice_count (meant_of f row o offsets)
-notices_by_form f row o form count e h offsets =
-    let is : form ≡ direct (roles_of f (list_of o)) = e ∙ with_all (roles_of f (list_of o)) in
-    let k : count ≡ memory_notices (memory_in (place_in (roles_of f (list_of o)))) = rw is at h in
-    k ∙ notices_same f row o offsets
+pub notices_by_content : {R A B C D E F : Type 0} (f : Family A B C D E F) (row : Row) (o : Operands R A B C D E F) (content : Content R A B C D E F) (count : ℕ) (offsets : ℕ → Option ℤ) → content ≡ content_of f o → count ≡ content_notices content → count ≡ notice_count (meant_of f row o offsets)
+notices_by_content {R = R} {A = A} {B = B} {C = C} {D = D} {E = E} {F = F} f row o content count offsets e h =
+    (rw e at h) ∙ by_nop (nop_of o)
+  where
+    m : Meant A
+    m = operands_meant f.read_gpr row (roles_of f (list_of o)) offsets
+
+    by_nop : (nop : Option Nop) → content_notices (content_or {R = R} {A = A} {B = B} {C = C} {D = D} {E = E} {F = F} nop (form_of f (list_of o))) ≡ notice_count (nop_or row nop m)
+    by_nop None = ap (λ (form : Form A). memory_notices (memory_in form.place)) (with_all (roles_of f (list_of o)))
+    by_nop (Some nop) = refl
 
 pub none_where_encodable : {R A B C D E F : Type 0} (f : Family A B C D E F) (row : Row) (o : Operands R A B C D E F) (offsets : ℕ → Option ℤ) (r : Option Fault) → r ≡ first_fault offsets (visits_of f.read_gpr (roles_of f (list_of o))) (memory_in (place_in (roles_of f (list_of o)))) → (r ≡ None) ↔ IsTrue (is_encodable offsets (meant_of f row o offsets))
 none_where_encodable f row o offsets r h =
     let m = meant_of f row o offsets in
     rw (h ∙ fault_same f row o offsets) (none_is (fault_of_meant offsets m) _ (no_fault offsets m.visited m.memory))
 
-pub by_no_fault : (r : Option Fault) (b can : Bool) → is_some r ≡ not b → (r ≡ None) ↔ IsTrue can → b ≡ can
-by_no_fault None true true e h = refl
-by_no_fault None false can e h = cc
-by_no_fault None true false e h = let bad : false ≡ true = h.0 refl in cc
-by_no_fault (Some fault) true can e h = cc
-by_no_fault (Some fault) false false e h = refl
-by_no_fault (Some fault) false true e h = let bad : Some fault ≡ None = h.1 refl in cc
+pub no_fault_where : {R A B C D E F : Type 0} (f : Family A B C D E F) (row : Row) (o : Operands R A B C D E F) (offsets : ℕ → Option ℤ) (can : Bool) → can ≡ is_encodable offsets (meant_of f row o offsets) → can ≡ true → None ≡ fault_of_meant offsets (meant_of f row o offsets)
+no_fault_where f row o offsets can e h =
+    let m = meant_of f row o offsets in
+    none_of (fault_of_meant offsets m) (no_fault offsets m.visited m.memory ∙ sym e ∙ h)
+  where
+    none_of : {A : Type 0} (a : Option A) → is_none a ≡ true → None ≡ a
+    none_of None h = refl
+    none_of (Some a) h = cc

@@ -31,7 +31,7 @@ place_before n place.NoPlace later = refl
 place_before n (place.Register number) later = refl
 place_before n (place.Memory amode) later = amode_before n amode later
 
-role_before : {M : Type 0} (n : Numbering M) (role : Role M) (later : List (Role M)) → visits_of n (role ∷ []) ++ visits_of n later ≡ visits_of n (role ∷ later)
+pub role_before : {M : Type 0} (n : Numbering M) (role : Role M) (later : List (Role M)) → visits_of n (role ∷ []) ++ visits_of n later ≡ visits_of n (role ∷ later)
 role_before n (Register number) later = refl
 role_before n (TwoRegisters high low true) later = refl
 role_before n (TwoRegisters high low false) later = refl

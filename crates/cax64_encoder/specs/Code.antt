@@ -1,4 +1,4 @@
-use Rattle.std.specs.Prelude.{ℕ, Bool, true, false, Option, Some, None, List, [], ◌∷◌, ◌++◌}
+use Rattle.std.specs.Prelude.{ℕ, Bool, true, false, Option, Some, None, List, [], ◌∷◌, ◌++◌, length, ◌≤◌, ⊤}
 use Rattle.cax64_address.specs.Emitted as address
 use Rattle.cax64_machine_code.specs.declared.line.LegacySet.{LegacySet}
 use Rattle.cax64_machine_code.specs.declared.line.Opcode.{Opcode}
@@ -7,6 +7,7 @@ use Rattle.cax64_prefix.specs.Rex.{rex_bytes}
 use Rattle.cax64_prefix.specs.Vex.{vex_bytes}
 use Rattle.cax64_sink.specs.Call.{Action, put, trap}
 use Rattle.cax64_sink.specs.declared.TrapCode.{TrapCode}
+use Rattle.cax64_encoder.specs.ByteWhen.{byte_of, byte_when}
 use Rattle.cax64_encoder.specs.ImmActions.{optional_imm_actions}
 use Rattle.cax64_encoder.specs.NopActions.{nop_actions}
 use Rattle.cax64_encoder.specs.declared.code.Code.{Code}
@@ -44,6 +45,34 @@ tail_actions (Memory code) = address.tail_actions code
 
 abbrev pub line_actions : LineCode → List Action
 line_actions code = trap_actions code.trap ++ (prefix_actions code.prefix ++ (opcode_actions code.opcode ++ (tail_actions code.tail ++ optional_imm_actions code.imm)))
+
+-- The same with the bytes in front of the displacement as one list.
+
+abbrev pub prefix_bytes : PrefixCode → List ℕ
+prefix_bytes (Legacy set rex) = byte_when set.lock 0xF0 ++ (byte_when set.operand_size 0x66 ++ (byte_when set.repne 0xF2 ++ (byte_when set.rep 0xF3 ++ rex_bytes rex)))
+prefix_bytes (Vex vex) = vex_bytes vex
+
+-- ModR/M and SIB
+abbrev pub tail_front : TailPart → List ℕ
+tail_front NoTail = []
+tail_front (Register modrm) = modrm ∷ []
+tail_front (Memory code) = code.modrm ∷ byte_of code.sib
+
+abbrev pub tail_rest : TailPart → List Action
+tail_rest NoTail = []
+tail_rest (Register modrm) = []
+tail_rest (Memory code) = address.displacement_actions code.displacement
+
+abbrev pub front_bytes : LineCode → List ℕ
+front_bytes code = prefix_bytes code.prefix ++ (byte_when code.opcode.escape 0x0F ++ (code.opcode.byte ∷ tail_front code.tail))
+
+-- a word has room for the bytes in front
+pub record IsShort (prefix : PrefixCode) : Type 0 where
+  pub few : length (prefix_bytes prefix) ≤ 4
+
+abbrev pub IsShortCode : Code → Type 0
+IsShortCode (Nop nop) = ⊤
+IsShortCode (Line code) = IsShort code.prefix
 
 abbrev pub code_actions : Code → List Action
 code_actions (Nop nop) = nop_actions nop

@@ -1,12 +1,14 @@
 //! The code of an instruction: the sink calls that write it, as a value.
 
-ghost use Rattle.std.specs.Prelude.{◌≡◌, ◌≤◌, length};
-ghost use Rattle.cax64_encoder.specs.Code.{code_actions, line_actions, trap_actions, prefix_actions, set_actions, when, opcode_actions, tail_actions};
+ghost use Rattle.std.specs.Prelude.{◌≡◌, ◌≤◌, ◌++◌, length};
+ghost use Rattle.cax64_address.specs.Emitted.{displacement_actions};
+ghost use Rattle.cax64_encoder.specs.Code.{IsShort, IsShortCode, code_actions, front_bytes, line_actions, prefix_bytes, tail_front, tail_rest, trap_actions};
 ghost use Rattle.cax64_sink.specs.Run.{Ran, all_bytes};
 
 use crate::imm::put_optional_imm;
 use crate::nop::put_nop;
-use cax64_address::tail::TailCode;
+use crate::short::Short;
+use cax64_address::tail::{DisplacementCode, TailCode};
 use cax64_machine_code::line::{LegacySet, Opcode};
 use cax64_operand::{ImmOperand, Nop};
 use cax64_prefix::rex::RexPrefix;
@@ -57,72 +59,91 @@ fn put_trap<S: CodeSink>(sink: &mut S, trap: Option<TrapCode>) -> Result<(), Sin
     }
 }
 
-#[tactic(auto, using(cax64_sink::proofs::Runs::ran_none, cax64_sink::proofs::Runs::ran_one))]
+/// Puts a displacement, and tells the sink first of what it refers to.
 #[inline(always)]
-fn put_when<S: CodeSink>(sink: &mut S, stands: bool, byte: u8) -> Result<(), SinkError>
-    ensures { Ran (when stands byte) (S.state sink.old) (S.state sink.new) result }
+fn put_displacement<S: CodeSink>(sink: &mut S, displacement: DisplacementCode) -> Result<(), SinkError>
+    ensures { Ran (displacement_actions displacement) (S.state sink.old) (S.state sink.new) result }
 {
-    if stands { sink.put1(byte) } else { Ok(()) }
-}
-
-/// F0 first, then 66, F2 or F3.
-#[inline(always)]
-fn put_set<S: CodeSink>(sink: &mut S, set: LegacySet) -> Result<(), SinkError>
-    ensures { Ran (set_actions set) (S.state sink.old) (S.state sink.new) result }
-{
-    put_when(sink, set.lock, 0xF0)?;
-    put_when(sink, set.operand_size, 0x66)?;
-    put_when(sink, set.repne, 0xF2)?;
-    put_when(sink, set.rep, 0xF3)
-}
-
-impl PrefixCode {
-    #[inline(always)]
-    fn put<S: CodeSink>(&self, sink: &mut S) -> Result<(), SinkError>
-        ensures { Ran (prefix_actions self.now) (S.state sink.old) (S.state sink.new) result }
-    {
-        match self {
-            PrefixCode::Legacy(set, rex) => {
-                put_set(sink, *set)?;
-                rex.encode(sink)
-            }
-            PrefixCode::Vex(vex) => vex.encode(sink),
+    match displacement {
+        DisplacementCode::Plain(disp) => disp.emit(sink),
+        DisplacementCode::Relative(place, word) => {
+            sink.use_target(place)?;
+            sink.put4(word)
         }
     }
 }
 
-#[inline(always)]
-fn put_opcode<S: CodeSink>(sink: &mut S, opcode: Opcode) -> Result<(), SinkError>
-    ensures { Ran (opcode_actions opcode) (S.state sink.old) (S.state sink.new) result }
-{
-    put_when(sink, opcode.escape, 0x0F)?;
-    sink.put1(opcode.byte)
+impl PrefixCode {
+    /// F0 first, then 66, F2 or F3, then REX; or VEX.
+    #[inline(always)]
+    fn bytes(&self) -> Short
+        ensures { result ≡ prefix_bytes self.now }
+    {
+        match *self {
+            PrefixCode::Legacy(set, rex) => {
+                let lock = Short::empty().push_if(set.lock, 0xF0);
+                let size = lock.push_if(set.operand_size, 0x66);
+                let repne = size.push_if(set.repne, 0xF2);
+                let rep = repne.push_if(set.rep, 0xF3);
+                rep.push_some(rex.byte())
+            }
+            PrefixCode::Vex(VexPrefix::TwoByte(last)) => Short::empty().push(0xC5).push(last),
+            PrefixCode::Vex(VexPrefix::ThreeByte(second, last)) => {
+                Short::empty().push(0xC4).push(second).push(last)
+            }
+        }
+    }
 }
 
 impl TailPart {
-    #[tactic(auto, using(cax64_sink::proofs::Runs::ran_none, cax64_sink::proofs::Runs::ran_one))]
+    /// ModR/M and SIB behind these bytes.
     #[inline(always)]
-    fn put<S: CodeSink>(self, sink: &mut S) -> Result<(), SinkError>
-        ensures { Ran (tail_actions self) (S.state sink.old) (S.state sink.new) result }
+    fn behind(self, short: Short) -> Short
+        requires { length short ≤ 6 }
+        ensures bytes { result ≡ short ++ tail_front self }
+    {
+        match self {
+            TailPart::NoTail => short,
+            TailPart::Register(modrm) => short.push(modrm),
+            TailPart::Memory(code) => short.push(code.modrm).push_some(code.sib),
+        }
+    }
+
+    #[tactic(auto, using(cax64_sink::proofs::Runs::ran_none))]
+    #[inline(always)]
+    fn put_rest<S: CodeSink>(self, sink: &mut S) -> Result<(), SinkError>
+        ensures { Ran (tail_rest self) (S.state sink.old) (S.state sink.new) result }
     {
         match self {
             TailPart::NoTail => Ok(()),
-            TailPart::Register(modrm) => sink.put1(modrm),
-            TailPart::Memory(code) => code.put(sink),
+            TailPart::Register(_) => Ok(()),
+            TailPart::Memory(code) => put_displacement(sink, code.displacement),
         }
     }
 }
 
 impl LineCode {
-    /// The trap is told first; then come the prefixes, the opcode, the tail and the immediate.
+    /// The bytes in front of the displacement: prefixes, opcode, ModR/M and SIB.
+    #[inline(always)]
+    fn front(&self) -> Short
+        requires { IsShort self.now.prefix }
+        ensures bytes { result ≡ front_bytes self.now }
+        ensures some { 1 ≤ length result }
+    {
+        let prefix = self.prefix.bytes();
+        let opcode = prefix.push_if(self.opcode.escape, 0x0F).push(self.opcode.byte);
+        self.tail.behind(opcode)
+    }
+
+    /// The trap is told first; then come the bytes in front as one word, the displacement and the immediate.
     #[inline(always)]
     fn put<S: CodeSink>(&self, sink: &mut S) -> Result<(), SinkError>
+        requires { IsShort self.now.prefix }
         ensures { Ran (line_actions self.now) (S.state sink.old) (S.state sink.new) result }
     {
         put_trap(sink, self.trap)?;
-        self.prefix.put(sink)?;
-        put_opcode(sink, self.opcode)?;
-        self.tail.put(sink)?;
+        self.front().put(sink)?;
+        self.tail.put_rest(sink)?;
         put_optional_imm(sink, self.imm)
     }
 }
@@ -130,6 +151,7 @@ impl LineCode {
 impl Code {
     #[inline(always)]
     pub fn put<S: CodeSink>(&self, sink: &mut S) -> Result<(), SinkError>
+        requires { IsShortCode self.now }
         ensures { Ran (code_actions self.now) (S.state sink.old) (S.state sink.new) result }
     {
         match self {
@@ -141,7 +163,8 @@ impl Code {
     /// The number of bytes, counted in a sink that takes them all.
     #[inline(always)]
     pub fn len(&self) -> u8
-        requires { length (all_bytes (code_actions self.now)) ≤ 13 }
+        requires short { IsShortCode self.now }
+        requires most { length (all_bytes (code_actions self.now)) ≤ 13 }
         ensures { result ≡ length (all_bytes (code_actions self.now)) }
     {
         let mut sink = FixedSink::<13>::new();

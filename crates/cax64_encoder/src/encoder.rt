@@ -2,7 +2,7 @@
 
 ghost use Rattle.std.specs.Prelude.{◌≡◌, ◌==◌, ◌<◌, ◌/◌, ◌&&◌, ◌||◌, ◌↔◌, false, IsTrue, IsSome, IfSome, Option, unwrap_or, pos, length};
 ghost use Rattle.std.specs.Int.{from_bool};
-ghost use Rattle.cax64_encoder.specs.Code.{prefix_actions, tail_actions, line_actions, code_actions};
+ghost use Rattle.cax64_encoder.specs.Code.{IsShort, IsShortCode, prefix_actions, tail_actions, line_actions, code_actions};
 ghost use Rattle.cax64_encoder.specs.Encodes.{TailPartOf, EncodesParts, EncodesAs, form_parts};
 ghost use Rattle.cax64_encoder.specs.Fault.{is_encodable};
 ghost use Rattle.cax64_encoder.specs.Form.{is_no_place, vvvv_fits, fits};
@@ -17,12 +17,14 @@ ghost use Rattle.cax64_machine_code.specs.Len.{is_w1, tail_len, len_of};
 ghost use Rattle.cax64_machine_code.specs.Line.{w_matches};
 ghost use Rattle.cax64_machine_code.specs.Prefix.{rex_bits};
 ghost use Rattle.cax64_machine_code.specs.Rows.{line_of};
+ghost use Rattle.cax64_machine_code.specs.declared.row.Row.{Row};
 ghost use Rattle.cax64_operand.specs.Immediate.{imm_size};
 ghost use Rattle.cax64_operand.specs.Shape.{HasShape};
 ghost use Rattle.cax64_sink.specs.Run.{all_bytes};
 
 use crate::code::{Code, LineCode, PrefixCode, TailPart};
-use crate::form::{Form, form_of};
+use crate::content::Content;
+use crate::form::Form;
 use crate::imm::imm_size;
 use crate::number::Number;
 use crate::role::PlaceOperand;
@@ -30,11 +32,10 @@ use cax64_address::amode::Amode;
 use cax64_address::disp::encode_modrm;
 use cax64_address::tail::tail_of;
 use cax64_machine_code::line::{Line, PlaceField, PrefixField, RegField, TailField};
-use cax64_machine_code::row::Row;
-use cax64_operand::{Operands, RegisterFamily};
+use cax64_operand::{RegisterFamily, RowAndOperands};
 use cax64_prefix::rex::RexPrefix;
 use cax64_prefix::vex::VexPrefix;
-use cax64_register::{AsReg, Registers};
+use cax64_register::AsReg;
 use cax64_sink::{CodeSink, TrapCode};
 use cax64_table::line;
 
@@ -150,7 +151,8 @@ fn prefix_of<M: AsReg>(
     requires place { IsTrue (place_is_real M.settled M.enc place.now) }
     requires vvvv_fits { IsTrue (vvvv_fits line.prefix vvvv) }
     requires bare { IsTrue (has_tail line.tail || (is_no_place place.now && (reg == 0))) }
-    ensures { PrefixFor M.enc line reg vvvv place.now (all_bytes (prefix_actions result)) }
+    ensures bytes { PrefixFor M.enc line reg vvvv place.now (all_bytes (prefix_actions result)) }
+    ensures short { IsShort result }
 {
     let w = w_bit(line.w);
     match line.prefix {
@@ -215,6 +217,7 @@ fn code_of<M: AsReg>(line: Line, form: &Form<M>, displacement: i32) -> LineCode
         → EncodesParts (form_parts M.enc row displacement form.now) (memory_in form.now.place) (line_actions result) }
     ensures length { (row : Row) → line_of row ≡ line
         → length (all_bytes (line_actions result)) ≡ len_of (form_parts M.enc row displacement form.now) }
+    ensures short { IsShort result.prefix }
 {
     let reg = reg_number(line.tail, form.reg);
     LineCode {
@@ -226,17 +229,20 @@ fn code_of<M: AsReg>(line: Line, form: &Form<M>, displacement: i32) -> LineCode
     }
 }
 
-/// The sink calls that write the instruction of a row with these operands.
+/// The sink calls that write an instruction.
 #[inline(always)]
-pub fn code_in<R: Registers, S: CodeSink>(row: Row, operands: &Operands<R>, sink: &S) -> Code
-    requires shape { HasShape row operands.now }
-    requires encodable { IsTrue (is_encodable (S.state sink.now).offsets (meant_of ⟦<R as RegisterFamily>⟧.family row operands.now (S.state sink.now).offsets)) }
-    ensures { EncodesAs (meant_of ⟦<R as RegisterFamily>⟧.family row operands.now (S.state sink.now).offsets) (code_actions result) }
+pub fn code_in<I: RowAndOperands, S: CodeSink>(inst: &I, sink: &S) -> Code
+    requires { IsTrue (is_encodable (S.state sink.now).offsets (meant_of ⟦<I::Family as RegisterFamily>⟧.family (I.row_of inst.now) (I.operands_of inst.now) (S.state sink.now).offsets)) }
+    ensures encodes { EncodesAs (meant_of ⟦<I::Family as RegisterFamily>⟧.family (I.row_of inst.now) (I.operands_of inst.now) (S.state sink.now).offsets) (code_actions result) }
+    ensures shape { HasShape (I.row_of inst.now) (I.operands_of inst.now) }
+    ensures short { IsShortCode result }
 {
-    if let Operands::Nop(nop) = operands {
-        return Code::Nop(*nop);
+    let content: Content<I::Family> = inst.fold_operands();
+    match content {
+        Content::Nop(nop) => Code::Nop(nop),
+        Content::Operands(form) => {
+            let displacement = form.place.displacement(sink);
+            Code::Line(code_of(line(inst.row()), &form, displacement))
+        }
     }
-    let form = form_of(operands);
-    let displacement = form.place.displacement(sink);
-    Code::Line(code_of(line(row), &form, displacement))
 }

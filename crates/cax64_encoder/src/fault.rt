@@ -46,7 +46,7 @@ pub enum Fault {
 
 impl Visited {
     /// Whether the register is as it has to be.
-    fn is_met(self) -> bool
+    pub(crate) fn is_met(self) -> bool
         ensures { result ≡ is_met self }
     {
         match self {

@@ -23,7 +23,7 @@ pub struct Form<M: AsReg> {
 
 impl<M: AsReg> Form<M> {
     #[inline(always)]
-    fn none() -> Form<M>
+    pub(crate) fn none() -> Form<M>
         ensures { result ≡ no_form }
     {
         Form {
@@ -36,7 +36,7 @@ impl<M: AsReg> Form<M> {
 
     /// The form with one more operand before the others. Of two registers the first stands in reg, the second in vvvv.
     #[inline(always)]
-    fn with(self, role: Role<M>) -> Form<M>
+    pub(crate) fn with(self, role: Role<M>) -> Form<M>
         ensures { result ≡ with_role role self }
     {
         match role {

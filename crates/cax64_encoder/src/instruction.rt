@@ -13,11 +13,12 @@ ghost use Rattle.cax64_operand.specs.declared.operand.Operands.{Operands};
 ghost use Rattle.cax64_sink.specs.Keeps.{Keeps};
 ghost use Rattle.cax64_sink.specs.Room.{HasRoom, FallsBy};
 
+use crate::checked::Checked;
+use crate::content::Content;
 use crate::encoder::code_in;
 use crate::fault::{Fault, first_fault};
-use crate::form::form_of;
 use cax64_machine_code::row::Row;
-use cax64_operand::{RegisterFamily, RegisterVisitor, RowAndOperands};
+use cax64_operand::{RegisterFamily, RegisterVisitor, RowAndOperands, operands_of};
 use cax64_register::Registers;
 use cax64_sink::{CodeSink, SinkError};
 
@@ -100,23 +101,27 @@ impl<I: RowAndOperands> Instruction for I {
     }
 
     fn first_fault<S: CodeSink>(&self, sink: &S) -> Option<Fault> {
-        first_fault(&self.operands(), sink)
+        if self.is_encodable(sink) {
+            return None;
+        }
+        first_fault(&operands_of(self), sink)
     }
 
     fn is_encodable<S: CodeSink>(&self, sink: &S) -> bool {
-        self.first_fault(sink).is_none()
+        let checked: Checked = self.fold_operands();
+        checked.holds(sink)
     }
 
     fn encoded_len<S: CodeSink>(&self, sink: &S) -> u8 {
-        code_in(RowAndOperands::row(self), &self.operands(), sink).len()
+        code_in(self, sink).len()
     }
 
     fn notice_count(&self) -> u8 {
-        form_of(&self.operands()).place.notice_count()
+        let content: Content<I::Family> = self.fold_operands();
+        content.notice_count()
     }
 
     fn encode<S: CodeSink>(&self, sink: &mut S) -> Result<(), SinkError> {
-        let code = code_in(RowAndOperands::row(self), &self.operands(), sink);
-        code.put(sink)
+        code_in(self, sink).put(sink)
     }
 }

@@ -4,7 +4,9 @@
 //! get, and only then makes them.
 #![tactic(auto)]
 
+pub mod checked;
 pub mod code;
+pub mod content;
 pub mod encoder;
 pub mod fault;
 pub mod form;
@@ -14,6 +16,7 @@ pub mod laws;
 pub mod nop;
 pub mod number;
 pub mod role;
+pub mod short;
 
 pub use fault::Fault;
 pub use instruction::Instruction;

@@ -1,6 +1,6 @@
 //! REX prefixes. (Intel SDM, volume 2, 2.2.1.)
 
-ghost use Rattle.std.specs.Prelude.{◌≡◌, ◌<◌, ◌/◌, ◌++◌, ◌&&◌, ◌||◌, ◌↔◌, nat_le, Bool, IsTrue, IsSome, IfOk};
+ghost use Rattle.std.specs.Prelude.{◌≡◌, ◌<◌, ◌/◌, ◌++◌, ◌&&◌, ◌||◌, ◌↔◌, nat_le, Bool, IsTrue, IsSome, IfOk, option_map};
 ghost use Rattle.std.specs.Int.{from_bool};
 ghost use Rattle.cax64_machine_code.specs.Prefix.{rex_bits};
 ghost use Rattle.cax64_sink.specs.Run.{Ran};
@@ -135,6 +135,14 @@ impl RexPrefix {
     {
         let must_emit = uses_8bit && is_special_if_8bit(enc_reg);
         RexPrefix::of_registers(enc_reg, enc_index, enc_base, w_bit, must_emit)
+    }
+
+    /// The byte, if there is one.
+    #[inline(always)]
+    pub fn byte(&self) -> Option<u8>
+        ensures { result ≡ option_map rex_byte self.now }
+    {
+        self.byte
     }
 
     /// Puts the byte, if there is one.

@@ -9,7 +9,7 @@ ghost use Rattle.cax64_machine_code.specs.Sequence.{Same};
 ghost use Rattle.cax64_machine_code.specs.declared.reading.Reading.{Reading};
 
 use cax64_encoder::Instruction;
-use cax64_operand::RowAndOperands;
+use cax64_operand::{RowAndOperands, operands_of};
 
 /// `len_of` is the least number of bytes of an instruction: no string of bytes that is read as these parts is shorter,
 /// and what is read of it has no fewer. It does nothing: its clauses are the law.
@@ -32,5 +32,5 @@ pub fn whole_instruction_is_shortest<I: RowAndOperands>(inst: &I)
         → IsBytes bytes → read bytes ≡ Some reading → Same reading (⟦<I as Instruction>⟧.meant inst.now offsets).parts
         → len (⟦<I as Instruction>⟧.meant inst.now offsets) ≤ length bytes }
 {
-    let _operands = inst.operands();
+    let _operands = operands_of(inst);
 }

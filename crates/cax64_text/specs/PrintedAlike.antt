@@ -1,5 +1,5 @@
 -- When two memory operands print alike.
-use Rattle.std.specs.Prelude.{◌≡◌, ◌<◌, ℕ, ⊤, IsTrue, List, Option, Some, None}
+use Rattle.std.specs.Prelude.{◌≡◌, ◌<◌, ℕ, ⊤, IsTrue, ℤ, pos, List, Option, Some, None}
 use Rattle.cax64_address.specs.Offset.{fits_i32}
 use Rattle.cax64_address.specs.declared.amode.Amode.{Amode}
 use Rattle.cax64_address.specs.declared.amode.Amode.TheVariants.{ImmReg, ImmRegRegShift, RipRelative}
@@ -33,3 +33,7 @@ SamePrinted enc (ImmRegRegShift base index scale simm32 trap) (RipRelative targe
 SamePrinted enc (RipRelative target) (ImmReg base2 simm32-2 trap2) = ⊥
 SamePrinted enc (RipRelative target) (ImmRegRegShift base2 index2 scale2 simm32-2 trap2) = ⊥
 SamePrinted enc (RipRelative target) (RipRelative target2) = target ≡ target2
+
+-- an example: the eight bytes behind what a register points to
+abbrev pub eight_behind : ℕ → Amode ℕ
+eight_behind base = ImmReg base (record { simm32 = pos 8; offset = None }) None

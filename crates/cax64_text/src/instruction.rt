@@ -19,7 +19,7 @@ use cax64_address::text::Dialect;
 use cax64_feature::rows::{features, is_available};
 use cax64_feature::{AvailableFeatures, Features};
 use cax64_machine_code::row::Row;
-use cax64_operand::{Operands, RowAndOperands};
+use cax64_operand::{Operands, RowAndOperands, operands_of};
 use cax64_register::Registers;
 use std::alloc::{AllocError, Allocator};
 
@@ -132,17 +132,17 @@ impl<I: RowAndOperands> InstructionText for I {
     ghost names = { ⟦<I::Family as RegisterNames>⟧.names };
 
     fn mnemonic(&self) -> &'static str {
-        let operands: Operands<_> = self.operands();
+        let operands = operands_of(self);
         mnemonic(self.row(), has_register(&operands))
     }
 
     fn nameable(&self) -> bool {
-        let operands: Operands<_> = self.operands();
+        let operands = operands_of(self);
         all_nameable(&operands)
     }
 
     fn to_string<A: Allocator + Copy>(&self, alloc: A) -> Result<String<A>, AllocError> {
-        let operands: Operands<_> = self.operands();
+        let operands = operands_of(self);
         text(alloc, Dialect::Att, self.row(), &operands)
     }
 
@@ -151,7 +151,7 @@ impl<I: RowAndOperands> InstructionText for I {
         alloc: A,
     ) -> Result<Option<String<A>>, AllocError> {
         let row = self.row();
-        let operands: Operands<_> = self.operands();
+        let operands = operands_of(self);
         if has_xed(row, &operands) {
             Ok(Some(text(alloc, Dialect::Xed, row, &operands)?))
         } else {

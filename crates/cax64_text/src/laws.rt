@@ -5,7 +5,7 @@ ghost use Rattle.cax64_address.specs.Text.{amode_text};
 ghost use Rattle.cax64_address.specs.declared.amode.Amode.{Amode};
 ghost use Rattle.cax64_address.specs.declared.text.Dialect.{Dialect};
 ghost use Rattle.cax64_feature.specs.declared.feature.Feature.{Feature};
-ghost use Rattle.cax64_text.specs.PrintedAlike.{hardware_text, IsBased, SamePrinted};
+ghost use Rattle.cax64_text.specs.PrintedAlike.{eight_behind, hardware_text, IsBased, SamePrinted};
 
 use cax64_address::amode::Amode;
 use cax64_address::text::Dialect;
@@ -17,6 +17,13 @@ use cax64_register::AsReg;
 pub fn laws_of_texts<R: AsReg>()
     ensures { (d : Dialect) (a b : Amode R) → IsBased R.enc a → IsBased R.enc b → (amode_text (hardware_text R.enc) d a ≡ amode_text (hardware_text R.enc) d b) ↔ SamePrinted R.enc a b }
 {}
+
+/// An example of it: `8(%rax)` and `8(%rcx)` meet what [`laws_of_texts`] asks for, so they print apart.
+pub fn example_of_texts()
+    ensures { (d : Dialect) → amode_text (hardware_text (λ n. n)) d (eight_behind 0) ≡ amode_text (hardware_text (λ n. n)) d (eight_behind 1) → ⊥ }
+{
+    laws_of_texts::<u8>();
+}
 
 /// Dialects and features compare equal where they are the same, and nowhere else.
 pub fn laws_of_equality()

@@ -4,8 +4,9 @@ use cranelift_assembler_x64::inst::{andb_i, lock_addl_mr};
 use cranelift_assembler_x64::reader::{RegView, read_inst};
 use cranelift_assembler_x64::{
     Amode, AmodeOffset, AmodeOffsetPlusKnownOffset, CodeSink, Fixed, Gpr, Imm8, Inst, Instruction,
-    Notice, Numbers, Recorder, Refused, Row, TrapCode, encode_all,
+    InstructionText, Notice, Numbers, Recorder, Refused, Row, TrapCode, encode_all,
 };
+use std::alloc::{AllocError, Global};
 use std::num::NonZeroU8;
 use std::process::Abort;
 use std::test::Fail;
@@ -21,6 +22,11 @@ fn encode_all_if_encodable<S: CodeSink>(
     } else {
         Ok(false)
     }
+}
+
+/// Whether an instruction has names for its registers, and this text.
+fn prints<I: InstructionText>(alloc: Global, inst: &I, text: &str) -> Result<bool, AllocError> {
+    Ok(inst.nameable() && inst.to_string(alloc)?.as_str() == text)
 }
 
 #[test]
@@ -45,6 +51,11 @@ fn an_atomic_addition_and_a_mask(rt: HostRuntime) -> Result<(), Fail> {
         [0xF0, 0x45, 0x01, 0x4C, 0x24, 0x80, 0x24, 0xAA].as_slice()
     );
     assert_eq!(rt; sink.notices(), [Notice::Trap(0, code)].as_slice());
+
+    let [addition, mask] = &insts;
+    assert!(rt; prints(rt.alloc(), addition, "lock addl %r9d, -0x80(%r12)")?);
+    assert!(rt; prints(rt.alloc(), mask, "andb $0xaa, %al")?);
+    assert_eq!(rt; addition.mnemonic(), "lock addl");
 
     let reading = read_inst(sink.bytes()).ok_or("no reading")?;
     assert_eq!(rt; reading.row, Row::lock_addl_mr);

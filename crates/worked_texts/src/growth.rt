@@ -25,6 +25,7 @@ enum Made {
     Simm16,
     Simm32,
     Offset,
+    OffsetXed,
     LateOffset,
     Amode,
     GprMem,
@@ -39,12 +40,13 @@ enum Made {
     Features,
 }
 
-const MADE: [(Made, &str); 17] = [
+const MADE: [(Made, &str); 18] = [
     (Made::Imm8, "$0xaa"),
     (Made::Simm8, "$0xfe"),
     (Made::Simm16, "$0xfffe"),
     (Made::Simm32, "$0xfffffffffffffffe"),
     (Made::Offset, "-9"),
+    (Made::OffsetXed, "-0x9"),
     (Made::LateOffset, "<offset:7>+"),
     (Made::Amode, "9(%rsp)"),
     (Made::GprMem, "%r8b"),
@@ -154,6 +156,7 @@ impl Made {
             Made::Simm16 => Simm16::new(-2).to_string(alloc, Extension::None),
             Made::Simm32 => Simm32::new(-2).to_string(alloc, Extension::SignExtendQuad),
             Made::Offset => AmodeOffset::new(-9).to_string_in(alloc, att),
+            Made::OffsetXed => AmodeOffset::new(-9).to_string_in(alloc, xed),
             Made::LateOffset => LATE.to_string_in(alloc, xed),
             _ => amode_text(alloc, stack()),
         }
@@ -186,6 +189,7 @@ impl Made {
             | Made::Simm16
             | Made::Simm32
             | Made::Offset
+            | Made::OffsetXed
             | Made::LateOffset
             | Made::Amode => self.part(alloc),
             Made::GprMem | Made::GprMemXed | Made::XmmMem | Made::XmmMemXed => self.place(alloc),

@@ -34,12 +34,12 @@ tail_part-requires-clause-place g c = place_real g.M.AsReg.settled g.M.AsReg.enc
 
 pub returns-clause-encodes : goal.returns-clause-encodes
 returns-clause-encodes g c row e =
-    let prefix : PrefixFor g.M.AsReg.enc c.args.line (register_number c.args.form.now.reg) c.args.form.now.vvvv c.args.form.now.place (all_bytes (prefix_actions c.prefix_of.result)) = rw c.register_number.ensures.number at c.prefix_of.ensures in
+    let prefix : PrefixFor g.M.AsReg.enc c.args.line (register_number c.args.form.now.reg) c.args.form.now.vvvv c.args.form.now.place (all_bytes (prefix_actions c.prefix_of.result)) = rw c.register_number.ensures.number at c.prefix_of.ensures.bytes in
     let tail : TailPartOf g.M.AsReg.enc c.args.displacement (imm_size c.args.form.now.imm) (reg_number c.args.line.tail c.args.form.now.reg) c.args.form.now.place (tail_actions c.tail_part.result) = rw (c.reg_number-reg.ensures, c.imm_size.ensures, to_z-of_z w32 c.args.displacement c.ranges.displacement) at c.tail_part.ensures.tail in
     rw c.trap_of.ensures (line_encodes g.M.AsReg.enc row c.args.line c.args.form.now c.args.displacement (prefix_actions c.prefix_of.result) (tail_actions c.tail_part.result) e c.requires.line c.requires.fits prefix (prefix_quiet c.prefix_of.result) tail c.tail_part.ensures.bytes)
 
 pub returns-clause-length : goal.returns-clause-length
 returns-clause-length g c row e =
-    let prefix : PrefixFor g.M.AsReg.enc c.args.line (register_number c.args.form.now.reg) c.args.form.now.vvvv c.args.form.now.place (all_bytes (prefix_actions c.prefix_of.result)) = rw c.register_number.ensures.number at c.prefix_of.ensures in
+    let prefix : PrefixFor g.M.AsReg.enc c.args.line (register_number c.args.form.now.reg) c.args.form.now.vvvv c.args.form.now.place (all_bytes (prefix_actions c.prefix_of.result)) = rw c.register_number.ensures.number at c.prefix_of.ensures.bytes in
     let tail : length (all_bytes (tail_actions c.tail_part.result)) ≡ tail_len (place_read g.M.AsReg.enc c.args.displacement (imm_size c.args.form.now.imm) c.args.form.now.place) = rw (c.imm_size.ensures, to_z-of_z w32 c.args.displacement c.ranges.displacement) at c.tail_part.ensures.length in
     length_is g.M.AsReg.enc row c.args.line c.args.form.now c.args.displacement c.trap_of.result (prefix_actions c.prefix_of.result) (tail_actions c.tail_part.result) e c.requires.line c.requires.fits prefix.length tail

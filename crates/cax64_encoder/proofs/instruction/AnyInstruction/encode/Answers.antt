@@ -5,7 +5,7 @@ use Rattle.cax64_encoder.proofs.instruction.AnyInstruction.encode.Goals as goal
 
 pub returns : goal.returns
 returns g c =
-    let meant = rw (c.row.ensures, c.operands.ensures.value) at c.code_in-code.ensures in
+    let meant = c.code_in.ensures.encodes in
     record {
       adds = run_adds c.put.result meant c.put.ensures;
       leaves = run_leaves c.put.result meant c.put.ensures;
@@ -17,5 +17,5 @@ returns g c =
       byte_room = run_bytes_fall meant c.put.ensures;
       notice_room = run_notices_fall meant c.put.ensures;
       most = len_most meant;
-      relative = meant_relative _ _ _ _ c.operands.ensures.shape;
+      relative = meant_relative _ _ _ _ c.code_in.ensures.shape;
     }
