@@ -1,4 +1,4 @@
-//! The code buffer, at worked examples and where memory runs out.
+//! The code buffer, at worked examples and where memory runs out, and the texts of its errors.
 #![tactic(auto)]
 
 #[cfg(test)]
@@ -7,3 +7,5 @@ mod examples;
 mod growths;
 #[cfg(test)]
 mod making;
+#[cfg(test)]
+mod messages;

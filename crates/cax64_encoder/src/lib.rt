@@ -13,6 +13,7 @@ pub mod form;
 pub mod imm;
 pub mod instruction;
 pub mod laws;
+pub mod message;
 pub mod nop;
 pub mod number;
 pub mod role;

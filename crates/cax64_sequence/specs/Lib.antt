@@ -1,2 +1,3 @@
 -- What the clauses of public functions say.
 pub mod List
+pub mod Message

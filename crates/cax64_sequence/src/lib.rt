@@ -2,6 +2,7 @@
 #![tactic(auto)]
 
 pub mod laws;
+mod message;
 mod sequence;
 mod whole;
 

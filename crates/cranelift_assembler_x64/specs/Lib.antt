@@ -4,11 +4,14 @@ pub use Rattle.cax64_sink.specs.Room
 pub use Rattle.cax64_sink.specs.Sink
 pub use Rattle.cax64_sink.specs.Call
 pub use Rattle.cax64_sink.specs.Run
+pub use Rattle.cax64_sink.specs.Puts
 pub use Rattle.cax64_sink.specs.Keeps
 pub use Rattle.cax64_sink.specs.Vec
 pub use Rattle.cax64_sink.specs.Recorder
 pub use Rattle.cax64_sink.specs.FixedSink
 pub use Rattle.cax64_sink.specs.TrapCode
+pub use Rattle.cax64_sink.specs.Message as SinkMessage
+pub use Rattle.cax64_sink.specs.Cleared
 pub use Rattle.cax64_sink.specs.Laws
 -- Registers, addresses, prefixes.
 pub use Rattle.cax64_register.specs.Names
@@ -22,7 +25,6 @@ pub use Rattle.cax64_address.specs.Offset
 pub use Rattle.cax64_address.specs.Operand
 pub use Rattle.cax64_address.specs.OperandTail
 pub use Rattle.cax64_address.specs.Same
-pub use Rattle.cax64_prefix.specs.Puts
 pub use Rattle.cax64_prefix.specs.Rex
 pub use Rattle.cax64_prefix.specs.Vex
 pub use Rattle.cax64_prefix.specs.Evex
@@ -56,11 +58,13 @@ pub use Rattle.cax64_encoder.specs.Visits
 pub use Rattle.cax64_encoder.specs.Meant
 pub use Rattle.cax64_encoder.specs.Nop
 pub use Rattle.cax64_encoder.specs.Fault
+pub use Rattle.cax64_encoder.specs.Message as FaultMessage
 pub use Rattle.cax64_encoder.specs.Notices
 pub use Rattle.cax64_encoder.specs.Relative
 pub use Rattle.cax64_encoder.specs.Instruction
 pub use Rattle.cax64_inst.specs.Inst
 pub use Rattle.cax64_sequence.specs.List
+pub use Rattle.cax64_sequence.specs.Message as RefusedMessage
 pub use Rattle.cax64_renaming.specs.Renamed
 -- Texts and features.
 pub use Rattle.cax64_immediate.specs.Text as ImmediateText

@@ -9,11 +9,15 @@ mod families;
 #[cfg(test)]
 mod fixed_sinks;
 #[cfg(test)]
+mod messages;
+#[cfg(test)]
 mod patched;
 #[cfg(test)]
 mod readme;
 #[cfg(test)]
 mod registers;
+#[cfg(test)]
+mod reused_sinks;
 #[cfg(test)]
 mod sinks;
 #[cfg(test)]

@@ -1,4 +1,4 @@
-use Rattle.std.proofs.Common.{◌≡◌, ◌≢◌, ◌⊎◌, inl, inr, ℕ, suc, zero, ◌+◌, ◌-◌, ◌≤◌, arith, refl, ◌∙◌, ap, sym, List, [], ◌∷◌, ◌++◌, Option, Some, None, Result, Ok, Err, Bool, true, false, length, take, drop, append_assoc, append-nil}
+use Rattle.std.proofs.Common.{◌≡◌, ◌≢◌, ◌⊎◌, inl, inr, ℕ, suc, zero, ◌+◌, ◌-◌, ◌≤◌, arith, refl, ◌∙◌, ap, sym, List, [], ◌∷◌, ◌++◌, Option, Some, None, Result, Ok, Err, Bool, true, false, length, take, drop, append_assoc, append-nil, subst}
 use Rattle.std.specs.Prelude.{if◌then◌else◌, is_ok, OnOk, OnErr}
 use Rattle.std.proofs.Math.Seq.{take-length}
 use Rattle.std.proofs.lemmas.Bool.{cases_lt}
@@ -17,7 +17,9 @@ use Rattle.cax64_machine_code.specs.declared.line.ImmField.{ImmField}
 use Rattle.cax64_machine_code.specs.declared.reading.Place.{Place}
 use Rattle.cax64_machine_code.specs.declared.reading.Place.TheVariants.{Reg, Mem, Rip}
 use Rattle.cax64_machine_code.specs.declared.reading.Reading.{Reading}
-use Rattle.cax64_sink.specs.Call.{Action, Step, bytes_of, notice_of}
+use Rattle.cax64_sink.specs.Call.{Action, Step, bytes_of, notice_of, put}
+use Rattle.cax64_sink.specs.Puts.{puts}
+use Rattle.cax64_sink.specs.Run.{Went, Ran}
 use Rattle.cax64_sink.specs.Sink.{State}
 use Rattle.cax64_sink.specs.declared.Constant.{Constant}
 use Rattle.cax64_sink.specs.declared.DeferredTarget.{DeferredTarget}
@@ -243,6 +245,16 @@ pub stepped : (act : Action) (readings : List Reading) (n : ℕ) (s t : State) (
 stepped act readings n s t r old new none step same h =
     stays readings n s t old new (if is_ok r then bytes_of act else []) (step.bytes ∙ put_bytes r s.bytes (bytes_of act))
     (ap (λ z. places_told (uses_of z)) step.notices ∙ told_same r s.records s.notices (notice_of act (length s.bytes)) (none (length s.bytes))) same h
+
+-- after bytes that are put one by one
+went_put : (bytes : List ℕ) (readings : List Reading) (n : ℕ) (s t : State) (r : Result (Unit {0}) SinkError) (places : DeferredTarget → Option ℕ) → Went (puts bytes) s t r → Filled readings n s places → Filled readings n t places
+unfolding Went
+went_put [] readings n s t r places (_, same) h = subst (λ (x : State). Filled readings n x places) same h
+went_put (byte ∷ bytes) readings n s t r places (inl (u, step, rest)) h = went_put bytes readings n u t r places rest (stepped (put (byte ∷ [])) readings n s u (Ok tt) places places (λ at. refl) step (λ target. refl) h)
+went_put (byte ∷ bytes) readings n s t r places (inr (e, is, step)) h = stepped (put (byte ∷ [])) readings n s t (Err e) places places (λ at. refl) step (λ target. refl) h
+
+pub put_in_turn : (bytes : List ℕ) (readings : List Reading) (n : ℕ) (s t : State) (r : Result (Unit {0}) SinkError) (places : DeferredTarget → Option ℕ) → Ran (puts bytes) s t r → Filled readings n s places → Filled readings n t places
+put_in_turn bytes readings n s t r places run h = went_put bytes readings n s t r places run.went h
 
 pub stays_as : (readings : List Reading) (n : ℕ) (s t : State) (old new : DeferredTarget → Option ℕ) → t.bytes ≡ s.bytes → t.notices ≡ s.notices → ((target : DeferredTarget) → new target ≡ old target) → Filled readings n s old → Filled readings n t new
 stays_as readings n s t old new bytes notices same h = stays readings n s t old new [] (bytes ∙ sym (append-nil s.bytes)) (ap (λ z. places_told (uses_of z)) notices) same h

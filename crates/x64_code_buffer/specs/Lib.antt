@@ -4,5 +4,6 @@ pub mod Binding
 pub mod Use
 pub mod Filled
 pub mod Buffer
+pub mod Message
 -- Steps of the proofs.
 pub mod Patching

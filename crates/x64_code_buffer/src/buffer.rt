@@ -1,13 +1,15 @@
 //! The buffer, its labels and constants, and its end.
 
-ghost use Rattle.std.specs.Prelude.{◌≡◌, ◌↔◌, ◌+◌, ◌⊎◌, ◌≤◌, ℕ, [], Some, None, Ok, Err, IsOk, IsTrue, List, ◌∷◌, IfOk, IfErr, OnOk, OnErr, All, MatchOption, if◌then◌else◌, is_ok, length, slice_index};
+ghost use Rattle.std.specs.Prelude.{◌≡◌, ◌↔◌, ◌+◌, ◌⊎◌, ◌≤◌, ℕ, [], Some, None, Ok, Err, IsOk, IsTrue, List, ◌∷◌, IfOk, IfErr, OnOk, OnErr, All, MatchOption, if◌then◌else◌, is_ok, length, slice_index, take};
 ghost use Rattle.std.specs.Int.{to_le_bytes, w16, w32, w64};
 ghost use Rattle.cax64_encoder.specs.Instruction.{can_encode_in, Adds};
 ghost use Rattle.cax64_machine_code.specs.declared.reading.Reading.{Reading};
 ghost use Rattle.cax64_sink.specs.Call.{Step, put, trap, target};
 ghost use Rattle.cax64_sink.specs.Keeps.{Keeps};
+ghost use Rattle.cax64_sink.specs.Puts.{puts};
 ghost use Rattle.cax64_sink.specs.Recorder.{with_offset};
 ghost use Rattle.cax64_sink.specs.Room.{HasRoom, count};
+ghost use Rattle.cax64_sink.specs.Run.{Ran};
 ghost use Rattle.cax64_sink.specs.declared.DeferredTarget.{DeferredTarget};
 ghost use Rattle.cax64_sink.specs.declared.SinkError.{SinkError};
 ghost use Rattle.x64_code_buffer.specs.declared.errors.BindError.{BindError};
@@ -225,6 +227,17 @@ impl<A: Allocator> CodeSink for CodeBuffer<A> {
         ensures filled { StaysFilled self.old self.new }
     {
         self.recorder.put8(value)
+    }
+
+    fn put_low_bytes(&mut self, word: u64, count: u8) -> Result<(), SinkError>
+        requires least { 1 ≤ count }
+        requires most { count ≤ 8 }
+        ensures run { Ran (puts (take count (to_le_bytes w64 word))) (buffer_state self.old) (buffer_state self.new) result }
+        ensures labels { label_count self.new ≡ label_count self.old }
+        ensures places { SamePlaces (places_of self.old) (places_of self.new) }
+        ensures filled { StaysFilled self.old self.new }
+    {
+        self.recorder.put_low_bytes(word, count)
     }
 
     fn add_trap(&mut self, code: TrapCode) -> Result<(), SinkError>

@@ -7,6 +7,7 @@ mod buffer;
 mod errors;
 mod field;
 pub mod laws;
+mod message;
 mod patch;
 mod refusal;
 

@@ -1,0 +1,12 @@
+-- What a fault prints.
+use Rattle.std.specs.Prelude.{ℕ, List, ◌++◌, codes}
+use Rattle.std.specs.Fmt.{decimal}
+use Rattle.cax64_encoder.specs.declared.fault.Fault.{Fault}
+use Rattle.cax64_encoder.specs.declared.fault.Fault.TheVariants.{Register, Index, Fixed, Unknown, Range}
+
+abbrev pub fault_text : Fault → List ℕ
+fault_text (Register at) = codes "register " ++ decimal at ++ codes " in the order of visits isn't real"
+fault_text (Index at) = codes "register " ++ decimal at ++ codes " in the order of visits is the stack pointer, which can't be an index"
+fault_text (Fixed at) = codes "register " ++ decimal at ++ codes " in the order of visits is fixed and doesn't hold its number"
+fault_text (Unknown key) = codes "the late offset " ++ decimal key ++ codes " isn't known"
+fault_text Range = codes "the late offset plus the displacement doesn't fit in 32 bits"
