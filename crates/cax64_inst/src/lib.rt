@@ -183,7 +183,20 @@ mod from_simd;
 mod operands;
 mod visit;
 
-/// An instruction.
+/// An instruction of any kind, for lists that mix them.
+///
+/// Each struct turns into it by `From`, and it has the same calls. A function over any type of instruction, as
+/// `encode_each`, takes the struct itself, and a proof over that takes less time.
+///
+/// With `counter` an address of base 12 and displacement -128, these two are `lock addl %r9d, -128(%r12)` and
+/// `andb $0xaa, %al`, whose machine code is `f0 45 01 4c 24 80` and `24 aa`:
+///
+/// ```
+/// let insts: [Inst<Numbers>; 2] = [
+///     lock_addl_mr::new(counter, Gpr::new(9)).into(),
+///     andb_i::new(Fixed(0), Imm8::new(0xAA)).into(),
+/// ];
+/// ```
 #[derive(Drop)]
 pub enum Inst<R: Registers> {
     nop_1b(nop_1b),

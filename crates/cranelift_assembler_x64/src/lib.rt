@@ -1,5 +1,25 @@
 //! A verified x64 assembler.
 //!
+//! An instruction is a struct of [`inst`], made of its operands by its `new`, and [`Instruction`] has what each of them
+//! can do. Its registers are of a family, [`Registers`]; [`Numbers`] is that of the hardware's numbers. Bytes go into any
+//! [`CodeSink`], and [`reader::read_inst`] reads them.
+//!
+//! ```
+//! use cranelift_assembler_x64::inst::andb_i;
+//! use cranelift_assembler_x64::{Fixed, Imm8, Instruction, Numbers, Recorder, SinkError};
+//! use std::alloc::Global;
+//!
+//! /// The machine code of `andb $0xaa, %al`, which is `24 aa`.
+//! fn mask(alloc: Global) -> Result<Recorder<Global>, SinkError> {
+//!     let mask = andb_i::<Numbers>::new(Fixed(0), Imm8::new(0xAA));
+//!     let mut sink = Recorder::new(alloc);
+//!     if mask.is_encodable(&sink) {
+//!         mask.encode(&mut sink)?;
+//!     }
+//!     Ok(sink)
+//! }
+//! ```
+//!
 //! Each item stands in a crate of its layer; this crate gives it its public path.
 #![tactic(auto)]
 
