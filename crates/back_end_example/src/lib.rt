@@ -1,0 +1,11 @@
+//! A back end in small, which stands on the assembler and its code buffer alone. `docs/BACK_END.md` goes through it.
+#![tactic(auto)]
+
+pub mod assignment;
+pub mod checked;
+pub mod counted_loop;
+#[cfg(test)]
+mod examples;
+pub mod notices;
+pub mod places;
+pub mod registers;
