@@ -40,7 +40,8 @@ pub fn put_each_if_encodable<I: Instruction, S: CodeSink>(
     insts: &[I],
     sink: &mut S,
 ) -> Result<bool, Refused>
-    ensures { IfOk result (λ done. IsTrue done ↔ All (λ i. IsTrue (can_encode_in (S.state sink.old) (I.meant i))) insts.now) }
+    ensures { IfOk result (λ done.
+        IsTrue done ↔ All (λ i. IsTrue (can_encode_in (S.state sink.old) (I.meant i))) insts.now) }
 {
     if all_encodable(insts, &*sink) {
         encode_each(insts, sink)?;

@@ -3,14 +3,15 @@
 use crate::places::at;
 use crate::registers::{Reg, Regs};
 use cranelift_assembler_x64::inst::{andps_a, jne_d8, lock_addl_mi_sxb, lock_addl_mr};
+use cranelift_assembler_x64::reader::{Place, read_inst};
 use cranelift_assembler_x64::{
-    CodeSink, Constant, DeferredTarget, Gpr, Instruction, Label, Simm8, SinkError, Xmm, XmmMem,
+    CodeSink, Constant, DeferredTarget, Gpr, Instruction, Label, Row, Simm8, SinkError, Xmm, XmmMem,
 };
 use std::alloc::Allocator;
 use x64_code_buffer::CodeBuffer;
 
 /// The key of a constant of sixteen bytes. Keys are the caller's to choose.
-pub const MASK: Constant = Constant(7);
+const MASK: Constant = Constant(7);
 
 /// Pushes an instruction. One that can't be encoded is as good as a full buffer.
 fn push<I: Instruction, A: Allocator>(
@@ -23,7 +24,7 @@ fn push<I: Instruction, A: Allocator>(
     buffer.push(inst)
 }
 
-/// A jump of two bytes from here back to the top, while the last result isn't 0. It has no label: it holds the distance.
+/// A jump of two bytes from here back to the top, while the last result isn't 0. `None` where that is too far.
 fn jump_back(top: usize, here: usize) -> Option<jne_d8> {
     let distance = top as i128 - (here as i128 + 2);
     let distance = i8::try_from(distance).ok()?;
@@ -51,7 +52,7 @@ fn push_loop<A: Allocator>(
 
 /// A word in front, the loop, a word behind it, and the pool. `None` where a label or the constant was bound before, or
 /// what a place refers to wasn't bound at all or is too far.
-pub fn counted_loop<A: Allocator + Copy>(alloc: A) -> Result<Option<Vec<u8, A>>, SinkError> {
+fn counted_loop<A: Allocator + Copy>(alloc: A) -> Result<Option<Vec<u8, A>>, SinkError> {
     let mut buffer = CodeBuffer::new(alloc);
     let total = buffer.new_label()?;
     let left = buffer.new_label()?;
@@ -72,4 +73,34 @@ pub fn counted_loop<A: Allocator + Copy>(alloc: A) -> Result<Option<Vec<u8, A>>,
         Ok(code) => Ok(Some(code)),
         Err((_buffer, _error)) => Ok(None),
     }
+}
+
+const LOOP: [u8; 48] = [
+    0, 0, 0, 0, 0xF0, 0x01, 0x0D, 0xF5, 0xFF, 0xFF, 0xFF, 0x0F, 0x54, 0x05, 14, 0, 0, 0, 0xF0,
+    0x83, 0x05, 2, 0, 0, 0, 0xFF, 0x75, 0xE8, 3, 0, 0, 0, 0xFF, 0xFF, 0xFF, 0x7F, 0xFF, 0xFF, 0xFF,
+    0x7F, 0xFF, 0xFF, 0xFF, 0x7F, 0xFF, 0xFF, 0xFF, 0x7F,
+];
+
+#[test]
+fn a_loop_has_labels_and_a_pool(rt: HostRuntime) {
+    let code = counted_loop(rt.alloc()).expect(&rt, "memory");
+    let code = code.expect(&rt, "all is bound");
+    assert_eq!(rt; code.as_slice(), LOOP.as_slice());
+}
+
+/// The row that is read at a place, its number of bytes, and the distance of its target where it has one.
+fn read_at(code: &[u8], at: usize) -> Option<(Row, u8, Option<i32>)> {
+    let reading = read_inst(code.get(at..)?)?;
+    match reading.place {
+        Some(Place::Rip(distance)) => Some((reading.row, reading.length, Some(distance))),
+        _ => Some((reading.row, reading.length, None)),
+    }
+}
+
+#[test]
+fn the_loop_reads_back(rt: HostRuntime) {
+    assert!(rt; read_at(&LOOP, 4) == Some((Row::lock_addl_mr, 7, Some(-11))));
+    assert!(rt; read_at(&LOOP, 11) == Some((Row::andps_a, 7, Some(14))));
+    assert!(rt; read_at(&LOOP, 18) == Some((Row::lock_addl_mi_sxb, 8, Some(2))));
+    assert!(rt; read_at(&LOOP, 26) == Some((Row::jne_d8, 2, None)));
 }

@@ -1,16 +1,13 @@
-//! The bytes of it all.
+//! Instructions, and the bytes that they are encoded as.
 
 use crate::assignment::{Function, Homes};
 use crate::checked::{put_each_if_encodable, put_if_encodable, put_or_tell};
-use crate::counted_loop::counted_loop;
-use crate::notices::patch_label;
-use crate::places::{FRAME, argument, at, behind, element};
+use crate::places::{FRAME, argument, behind, element};
 use crate::registers::{Reg, Regs};
-use cranelift_assembler_x64::inst::{andb_i, lock_addl_mi_sxb, lock_addl_mr, lock_cmpxchgl_mr};
-use cranelift_assembler_x64::reader::{Place, read_inst};
+use cranelift_assembler_x64::inst::{andb_i, lock_addl_mr, lock_cmpxchgl_mr};
 use cranelift_assembler_x64::{
-    Amode, DeferredTarget, Fault, Fixed, FixedSink, Gpr, Imm8, Instruction, Label, Notice, Numbers,
-    Recorder, Refused, Row, Simm8, SinkError, Size,
+    Amode, Fault, Fixed, FixedSink, Gpr, Imm8, Instruction, Numbers, Recorder, Refused, SinkError,
+    Size,
 };
 use std::alloc::Global;
 use std::test::Fail;
@@ -140,53 +137,4 @@ fn a_full_sink_holds_whole_instructions(rt: HostRuntime) {
     );
     let mut large = FixedSink::<12>::new();
     assert_eq!(rt; put_each_if_encodable(&counts, &mut large), Ok(true));
-}
-
-const LOOP: [u8; 48] = [
-    0, 0, 0, 0, 0xF0, 0x01, 0x0D, 0xF5, 0xFF, 0xFF, 0xFF, 0x0F, 0x54, 0x05, 14, 0, 0, 0, 0xF0,
-    0x83, 0x05, 2, 0, 0, 0, 0xFF, 0x75, 0xE8, 3, 0, 0, 0, 0xFF, 0xFF, 0xFF, 0x7F, 0xFF, 0xFF, 0xFF,
-    0x7F, 0xFF, 0xFF, 0xFF, 0x7F, 0xFF, 0xFF, 0xFF, 0x7F,
-];
-
-#[test]
-fn a_loop_has_labels_and_a_pool(rt: HostRuntime) {
-    let code = counted_loop(rt.alloc()).expect(&rt, "memory");
-    let code = code.expect(&rt, "all is bound");
-    assert_eq!(rt; code.as_slice(), LOOP.as_slice());
-}
-
-/// The row that is read at a place, its number of bytes, and the distance of its target where it has one.
-fn read_at(code: &[u8], at: usize) -> Option<(Row, u8, Option<i32>)> {
-    let reading = read_inst(code.get(at..)?)?;
-    match reading.place {
-        Some(Place::Rip(distance)) => Some((reading.row, reading.length, Some(distance))),
-        _ => Some((reading.row, reading.length, None)),
-    }
-}
-
-#[test]
-fn the_loop_reads_back(rt: HostRuntime) {
-    assert!(rt; read_at(&LOOP, 4) == Some((Row::lock_addl_mr, 7, Some(-11))));
-    assert!(rt; read_at(&LOOP, 11) == Some((Row::andps_a, 7, Some(14))));
-    assert!(rt; read_at(&LOOP, 18) == Some((Row::lock_addl_mi_sxb, 8, Some(2))));
-    assert!(rt; read_at(&LOOP, 26) == Some((Row::jne_d8, 2, None)));
-}
-
-#[test]
-fn a_field_is_patched_by_hand(rt: HostRuntime) {
-    let label = Label(5);
-    let target = DeferredTarget::Label(label);
-    let count: lock_addl_mi_sxb<Regs> = lock_addl_mi_sxb::new(at(target), Simm8::new(-1));
-    let mut code = Recorder::new(rt.alloc());
-    assert_eq!(rt; put_if_encodable(&count, &mut code), Ok(true));
-    assert_eq!(rt; code.notices(), [Notice::Target(3, target)].as_slice());
-    assert_eq!(rt;
-        code.bytes(),
-        [0xF0, 0x83, 0x05, 0xFF, 0xFF, 0xFF, 0xFF, 0xFF].as_slice()
-    );
-    assert!(rt; patch_label(&mut code, label, 10).is_some());
-    assert_eq!(rt;
-        code.bytes(),
-        [0xF0, 0x83, 0x05, 2, 0, 0, 0, 0xFF].as_slice()
-    );
 }

@@ -2,8 +2,11 @@
 #![tactic(auto)]
 
 pub mod assignment;
+#[cfg(test)]
+mod by_hand;
 pub mod checked;
-pub mod counted_loop;
+#[cfg(test)]
+mod counted_loop;
 #[cfg(test)]
 mod examples;
 pub mod notices;
