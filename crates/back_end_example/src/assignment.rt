@@ -20,8 +20,8 @@ impl Function {
     /// Goes over the registers of both instructions.
     pub fn visit<V: RegisterVisitor<Regs>>(&mut self, visitor: &mut V)
         ensures { Then
-            (λ u. OperandsRun Reg.eq V.steps visitor.old self.old.count self.new.count u)
-            (λ u. OperandsRun Reg.eq V.steps u self.old.take self.new.take visitor.new) }
+            (λ u. OperandsRun ⟦<Reg as PartialEq>⟧.eq V.steps visitor.old self.old.count self.new.count u)
+            (λ u. OperandsRun ⟦<Reg as PartialEq>⟧.eq V.steps u self.old.take self.new.take visitor.new) }
     {
         Instruction::visit(&mut self.count, visitor);
         Instruction::visit(&mut self.take, visitor);

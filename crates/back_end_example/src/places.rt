@@ -1,6 +1,6 @@
 //! Places in memory.
 
-ghost use Rattle.std.specs.Prelude.{◌≡◌, None, Some};
+ghost use Rattle.std.specs.Prelude.{◌≡◌, None, Some, pos};
 
 use crate::registers::Reg;
 use cranelift_assembler_x64::{
@@ -40,7 +40,7 @@ pub fn argument(bytes: i32) -> Amode<Reg>
 
 /// A word of four bytes in an array.
 pub fn element(base: Reg, index: Reg) -> Amode<Reg>
-    ensures { result ≡ Amode.ImmRegRegShift base index Scale.Four 0 None }
+    ensures { result ≡ Amode.ImmRegRegShift base index Scale.Four (pos 0) None }
 {
     Amode::ImmRegRegShift {
         base,
