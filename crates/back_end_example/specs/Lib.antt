@@ -1,0 +1,2 @@
+-- The words that the clauses of public functions cite.
+pub mod Homes

@@ -1,0 +1,106 @@
+//! A loop, with a word in front of it, a word behind it and a pool of constants.
+
+use crate::places::at;
+use crate::registers::{Reg, Regs};
+use cranelift_assembler_x64::inst::{andps_a, jne_d8, lock_addl_mi_sxb, lock_addl_mr};
+use cranelift_assembler_x64::reader::{Place, read_inst};
+use cranelift_assembler_x64::{
+    CodeSink, Constant, DeferredTarget, Gpr, Instruction, Label, Row, Simm8, SinkError, Xmm, XmmMem,
+};
+use std::alloc::Allocator;
+use x64_code_buffer::CodeBuffer;
+
+/// The key of a constant of sixteen bytes. Keys are the caller's to choose.
+const MASK: Constant = Constant(7);
+
+/// Pushes an instruction. One that can't be encoded is as good as a full buffer.
+fn push<I: Instruction, A: Allocator>(
+    buffer: &mut CodeBuffer<A>,
+    inst: &I,
+) -> Result<(), SinkError> {
+    if !inst.is_encodable(&*buffer) {
+        return Err(SinkError::Full);
+    }
+    buffer.push(inst)
+}
+
+/// A jump of two bytes from here back to the top, while the last result isn't 0. `None` where that is too far.
+fn jump_back(top: usize, here: usize) -> Option<jne_d8> {
+    let distance = top as i128 - (here as i128 + 2);
+    let distance = i8::try_from(distance).ok()?;
+    Some(jne_d8::new(Simm8::new(distance)))
+}
+
+/// Adds register 1 to a word, masks vector register 0, and counts another word down to 0.
+fn push_loop<A: Allocator>(
+    buffer: &mut CodeBuffer<A>,
+    total: Label,
+    left: Label,
+) -> Result<(), SinkError> {
+    let top = buffer.bytes().len();
+    let total = at(DeferredTarget::Label(total));
+    let left = at(DeferredTarget::Label(left));
+    let mask = XmmMem::Mem(at(DeferredTarget::Constant(MASK)));
+    push(buffer, &lock_addl_mr::<Regs>::new(total, Gpr::new(Reg(1))))?;
+    push(buffer, &andps_a::<Regs>::new(Xmm::new(Reg(0)), mask))?;
+    push(buffer, &lock_addl_mi_sxb::<Regs>::new(left, Simm8::new(-1)))?;
+    match jump_back(top, buffer.bytes().len()) {
+        Some(jump) => push(buffer, &jump),
+        None => Err(SinkError::Full),
+    }
+}
+
+/// A word in front, the loop, a word behind it, and the pool. `None` where a label or the constant was bound before, or
+/// what a place refers to wasn't bound at all or is too far.
+fn counted_loop<A: Allocator + Copy>(alloc: A) -> Result<Option<Vec<u8, A>>, SinkError> {
+    let mut buffer = CodeBuffer::new(alloc);
+    let total = buffer.new_label()?;
+    let left = buffer.new_label()?;
+
+    let total_is_bound = buffer.bind(total).is_ok();
+    buffer.put4(0)?;
+    push_loop(&mut buffer, total, left)?;
+    let left_is_bound = buffer.bind(left).is_ok();
+    buffer.put4(3)?;
+    let mask_is_bound = buffer.bind_constant(MASK).is_ok();
+    buffer.put8(0x7FFF_FFFF_7FFF_FFFF)?;
+    buffer.put8(0x7FFF_FFFF_7FFF_FFFF)?;
+
+    if !(total_is_bound && left_is_bound && mask_is_bound) {
+        return Ok(None);
+    }
+    match buffer.finish() {
+        Ok(code) => Ok(Some(code)),
+        Err((_buffer, _error)) => Ok(None),
+    }
+}
+
+const LOOP: [u8; 48] = [
+    0, 0, 0, 0, 0xF0, 0x01, 0x0D, 0xF5, 0xFF, 0xFF, 0xFF, 0x0F, 0x54, 0x05, 14, 0, 0, 0, 0xF0,
+    0x83, 0x05, 2, 0, 0, 0, 0xFF, 0x75, 0xE8, 3, 0, 0, 0, 0xFF, 0xFF, 0xFF, 0x7F, 0xFF, 0xFF, 0xFF,
+    0x7F, 0xFF, 0xFF, 0xFF, 0x7F, 0xFF, 0xFF, 0xFF, 0x7F,
+];
+
+#[test]
+fn a_loop_has_labels_and_a_pool(rt: HostRuntime) {
+    let code = counted_loop(rt.alloc()).expect(&rt, "memory");
+    let code = code.expect(&rt, "all is bound");
+    assert_eq!(rt; code.as_slice(), LOOP.as_slice());
+}
+
+/// The row that is read at a place, its number of bytes, and the distance of its target where it has one.
+fn read_at(code: &[u8], at: usize) -> Option<(Row, u8, Option<i32>)> {
+    let reading = read_inst(code.get(at..)?)?;
+    match reading.place {
+        Some(Place::Rip(distance)) => Some((reading.row, reading.length, Some(distance))),
+        _ => Some((reading.row, reading.length, None)),
+    }
+}
+
+#[test]
+fn the_loop_reads_back(rt: HostRuntime) {
+    assert!(rt; read_at(&LOOP, 4) == Some((Row::lock_addl_mr, 7, Some(-11))));
+    assert!(rt; read_at(&LOOP, 11) == Some((Row::andps_a, 7, Some(14))));
+    assert!(rt; read_at(&LOOP, 18) == Some((Row::lock_addl_mi_sxb, 8, Some(2))));
+    assert!(rt; read_at(&LOOP, 26) == Some((Row::jne_d8, 2, None)));
+}
