@@ -193,7 +193,7 @@ impl<R: Registers> Inst<R> {
             Inst::jge_d32(i) => for_any_family(operands_of(i)),
             Inst::jle_d32(i) => for_any_family(operands_of(i)),
             Inst::jg_d32(i) => for_any_family(operands_of(i)),
-            _ => Operands::Zero,
+            _ => T::none(),
         }
     }
 }
