@@ -9,7 +9,9 @@ ghost use Rattle.cax64_register.specs.declared.gpr.Size.TheVariants.{Doubleword,
 
 use cax64_address::operand::GprMem;
 use cax64_machine_code::row::Row;
-use cax64_operand::{FromOperands, Operand, RegisterVisitor, RowAndOperands, of_three, visit_two_gprs};
+use cax64_operand::{
+    FromOperands, Operand, RegisterVisitor, RowAndOperands, of_three, visit_two_gprs,
+};
 use cax64_register::{Fixed, Gpr, Registers, Size};
 use std::marker::Model;
 

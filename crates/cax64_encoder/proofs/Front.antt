@@ -113,7 +113,7 @@ line_is code =
     let r = tail_rest code.tail in
     let i = optional_imm_actions code.imm in
     let whole : puts (front_bytes code) ++ (r ++ i) ≡ p ++ (o ++ (tail_actions code.tail ++ i)) =
-        ap (λ (x : List Action). x ++ (r ++ i)) (front_puts code) ∙ append_assoc p (o ++ t) (r ++ i) ∙ ap (λ (x : List Action). p ++ x) (append_assoc o t (r ++ i) ∙ ap (λ (x : List Action). o ++ x) (sym (append_assoc t r i) ∙ ap (λ (x : List Action). x ++ i) (tail_puts code.tail))) in
+    ap (λ (x : List Action). x ++ (r ++ i)) (front_puts code) ∙ append_assoc p (o ++ t) (r ++ i) ∙ ap (λ (x : List Action). p ++ x) (append_assoc o t (r ++ i) ∙ ap (λ (x : List Action). o ++ x) (sym (append_assoc t r i) ∙ ap (λ (x : List Action). x ++ i) (tail_puts code.tail))) in
     ap (λ (x : List Action). trap_actions code.trap ++ x) whole
 
 pub as_line : (code : LineCode) (s t : State) (r : Result (Unit {0}) SinkError) → Ran (trap_actions code.trap ++ (puts (front_bytes code) ++ (tail_rest code.tail ++ optional_imm_actions code.imm))) s t r → Ran (line_actions code) s t r

@@ -61,7 +61,10 @@ fn put_trap<S: CodeSink>(sink: &mut S, trap: Option<TrapCode>) -> Result<(), Sin
 
 /// Puts a displacement, and tells the sink first of what it refers to.
 #[inline(always)]
-fn put_displacement<S: CodeSink>(sink: &mut S, displacement: DisplacementCode) -> Result<(), SinkError>
+fn put_displacement<S: CodeSink>(
+    sink: &mut S,
+    displacement: DisplacementCode,
+) -> Result<(), SinkError>
     ensures { Ran (displacement_actions displacement) (S.state sink.old) (S.state sink.new) result }
 {
     match displacement {
@@ -131,7 +134,9 @@ impl LineCode {
         ensures some { 1 ≤ length result }
     {
         let prefix = self.prefix.bytes();
-        let opcode = prefix.push_if(self.opcode.escape, 0x0F).push(self.opcode.byte);
+        let opcode = prefix
+            .push_if(self.opcode.escape, 0x0F)
+            .push(self.opcode.byte);
         self.tail.behind(opcode)
     }
 

@@ -41,9 +41,7 @@ fn before<R: Registers>(operands: &Operands<R>, operand: Operand<R>) -> Operands
         Operands::Zero => Operands::One(operand),
         Operands::One(b) => Operands::Two(operand, b.copied()),
         Operands::Two(b, c) => Operands::Three(operand, b.copied(), c.copied()),
-        Operands::Three(b, c, d) => {
-            Operands::Four(operand, b.copied(), c.copied(), d.copied())
-        }
+        Operands::Three(b, c, d) => { Operands::Four(operand, b.copied(), c.copied(), d.copied()) }
         Operands::Four(b, c, d, e) => {
             Operands::Five(operand, b.copied(), c.copied(), d.copied(), e.copied())
         }

@@ -6,9 +6,7 @@ ghost use Rattle.std.specs.Prelude.{◌≡◌};
 ghost use Rattle.inst_twin.specs.Twin.{row_of, operands_of};
 
 use cax64_machine_code::row::Row;
-use cax64_operand::{
-    FromOperands, RegisterVisitor, RowAndOperands, for_any_family, operands_of,
-};
+use cax64_operand::{FromOperands, RegisterVisitor, RowAndOperands, for_any_family, operands_of};
 use cax64_register::Registers;
 use lock_x::lock_xaddb_mr;
 use nop::nop_1b;

@@ -7,7 +7,9 @@ ghost use Rattle.jump.specs.Operands.{operands_callq_d, operands_jmp_d32, operan
 
 use cax64_immediate::Simm32;
 use cax64_machine_code::row::Row;
-use cax64_operand::{FromOperands, Immediate, Numbers, Operand, RegisterVisitor, RowAndOperands, of_one};
+use cax64_operand::{
+    FromOperands, Immediate, Numbers, Operand, RegisterVisitor, RowAndOperands, of_one,
+};
 use cax64_register::Registers;
 
 /// Call near, relative, by a 32-bit displacement from the next instruction.

@@ -7,7 +7,9 @@ ghost use Rattle.jump.specs.Operands.{operands_jmp_d8, operands_jo_d8, operands_
 
 use cax64_immediate::Simm8;
 use cax64_machine_code::row::Row;
-use cax64_operand::{FromOperands, Immediate, Numbers, Operand, RegisterVisitor, RowAndOperands, of_one};
+use cax64_operand::{
+    FromOperands, Immediate, Numbers, Operand, RegisterVisitor, RowAndOperands, of_one,
+};
 use cax64_register::Registers;
 
 /// Jump short, by an 8-bit displacement from the next instruction.
