@@ -47,6 +47,7 @@ pub use Rattle.cax64_machine_code.specs.Len
 pub use Rattle.cax64_operand.specs.Family
 pub use Rattle.cax64_operand.specs.Immediate
 pub use Rattle.cax64_operand.specs.OperandList
+pub use Rattle.cax64_operand.specs.Fold
 pub use Rattle.cax64_operand.specs.NopRow
 pub use Rattle.cax64_operand.specs.Shape
 pub use Rattle.cax64_operand.specs.VisitSteps
