@@ -1,6 +1,6 @@
 //! From a line of the table and operands to the code of an instruction.
 
-ghost use Rattle.std.specs.Prelude.{◌≡◌, ◌==◌, ◌<◌, ◌/◌, ◌&&◌, ◌||◌, ◌↔◌, false, IsTrue, IsSome, IfSome, Option, unwrap_or, pos, length};
+ghost use Rattle.std.specs.Prelude.{◌≡◌, ◌==◌, ◌<◌, ◌/◌, ◌&&◌, ◌||◌, ◌↔◌, nat_le, false, IsTrue, IsSome, Option, pos, length};
 ghost use Rattle.std.specs.Int.{from_bool};
 ghost use Rattle.cax64_encoder.specs.Code.{IsShort, IsShortCode, prefix_actions, tail_actions, line_actions, code_actions};
 ghost use Rattle.cax64_encoder.specs.Encodes.{TailPartOf, EncodesParts, EncodesAs, form_parts};
@@ -10,7 +10,7 @@ ghost use Rattle.cax64_encoder.specs.Line.{has_8bit, has_tail, is_w, is_w0, is_l
 ghost use Rattle.cax64_encoder.specs.Meant.{meant_of};
 ghost use Rattle.cax64_encoder.specs.Number.{number_value};
 ghost use Rattle.cax64_encoder.specs.Place.{memory_in, place_read};
-ghost use Rattle.cax64_encoder.specs.Prefix.{reg_number, register_number, rex_stands, PrefixFor};
+ghost use Rattle.cax64_encoder.specs.Prefix.{reg_number, register_number, place_high, place_special, PrefixFor};
 ghost use Rattle.cax64_encoder.specs.Real.{form_is_real, place_is_real, is_absent_or_real, place_x, place_b, trap_in};
 ghost use Rattle.cax64_machine_code.specs.Fields.{IsBytes};
 ghost use Rattle.cax64_machine_code.specs.Len.{is_w1, tail_len, len_of};
@@ -18,6 +18,7 @@ ghost use Rattle.cax64_machine_code.specs.Line.{w_matches};
 ghost use Rattle.cax64_machine_code.specs.Prefix.{rex_bits};
 ghost use Rattle.cax64_machine_code.specs.Rows.{line_of};
 ghost use Rattle.cax64_machine_code.specs.declared.row.Row.{Row};
+ghost use Rattle.cax64_prefix.specs.Rex.{is_special_if_8bit};
 ghost use Rattle.cax64_operand.specs.Immediate.{imm_size};
 ghost use Rattle.cax64_operand.specs.Shape.{HasShape};
 ghost use Rattle.cax64_sink.specs.Run.{all_bytes};
@@ -33,7 +34,7 @@ use cax64_address::disp::encode_modrm;
 use cax64_address::tail::tail_of;
 use cax64_machine_code::line::{Line, PlaceField, PrefixField, RegField, TailField};
 use cax64_operand::{RegisterFamily, RowAndOperands};
-use cax64_prefix::rex::RexPrefix;
+use cax64_prefix::rex::{RexPrefix, is_special_if_8bit};
 use cax64_prefix::vex::VexPrefix;
 use cax64_register::AsReg;
 use cax64_sink::{CodeSink, TrapCode};
@@ -67,47 +68,55 @@ fn reg_number(tail: TailField, reg: Option<Number>) -> u8
     }
 }
 
-/// The REX prefix of a number in reg and a place.
+/// The numbers that a prefix holds of a place.
+#[derive(Clone, Copy)]
+struct PlaceNumbers {
+    /// Of the register or the base, 0 where there is neither.
+    base: u8,
+    /// Of the index, 0 where there is none.
+    index: u8,
+    /// Of the register once more, 0 where there is none.
+    register: u8,
+}
+
+/// The numbers that a prefix holds of a place.
 #[inline(always)]
-fn rex_of<M: AsReg>(w: bool, uses_8bit: bool, reg: u8, place: &PlaceOperand<M>) -> RexPrefix
-    requires reg { reg < 16 }
-    requires place { IsTrue (place_is_real M.settled M.enc place.now) }
-    ensures bits { rex_bits result ≡ record { w = from_bool w; r = reg / 8; x = place_x M.enc place.now; b = place_b M.enc place.now } }
-    ensures stands { IsSome result ↔ IsTrue (rex_stands M.enc w uses_8bit reg place.now) }
+fn numbers_of<M: AsReg>(place: &PlaceOperand<M>) -> PlaceNumbers
+    requires { IsTrue (place_is_real M.settled M.enc place.now) }
+    ensures b { result.base / 8 ≡ place_b M.enc place.now }
+    ensures x { result.index / 8 ≡ place_x M.enc place.now }
+    ensures base { result.base < 16 }
+    ensures index { result.index < 16 }
+    ensures high { (nat_le 8 result.index || nat_le 8 result.base) ≡ place_high M.enc place.now }
+    ensures special { is_special_if_8bit result.register ≡ place_special place.now }
 {
-    match *place {
-        PlaceOperand::NoPlace => RexPrefix::two_op(reg, 0, w, uses_8bit),
-        PlaceOperand::Register(number) => RexPrefix::two_op(reg, number.value(), w, uses_8bit),
-        PlaceOperand::Memory(Amode::ImmReg { base, .. }) => {
-            RexPrefix::mem_op(reg, base.enc(), w, uses_8bit)
-        }
+    let (base, index, register) = match *place {
+        PlaceOperand::NoPlace => (0, 0, 0),
+        PlaceOperand::Register(number) => (number.value(), 0, number.value()),
+        PlaceOperand::Memory(Amode::ImmReg { base, .. }) => (base.enc(), 0, 0),
         PlaceOperand::Memory(Amode::ImmRegRegShift { base, index, .. }) => {
-            RexPrefix::three_op(reg, index.enc(), base.enc(), w, uses_8bit)
+            (base.enc(), index.enc(), 0)
         }
-        PlaceOperand::Memory(Amode::RipRelative { .. }) => {
-            RexPrefix::two_op(reg, 0, w, uses_8bit)
-        }
+        PlaceOperand::Memory(Amode::RipRelative { .. }) => (0, 0, 0),
+    };
+    PlaceNumbers {
+        base,
+        index,
+        register,
     }
 }
 
-/// The register or base of a place, and its index, as VEX takes them.
+/// The REX prefix of a number in reg and the numbers of a place.
 #[inline(always)]
-fn operand_registers<M: AsReg>(place: &PlaceOperand<M>) -> (Option<u8>, Option<u8>)
-    requires { IsTrue (place_is_real M.settled M.enc place.now) }
-    ensures b { unwrap_or result.0 0 / 8 ≡ place_b M.enc place.now }
-    ensures x { unwrap_or result.1 0 / 8 ≡ place_x M.enc place.now }
-    ensures base { IfSome result.0 (λ b. b < 16) }
-    ensures index { IfSome result.1 (λ x. x < 16) }
+fn rex_of(w: bool, uses_8bit: bool, reg: u8, place: PlaceNumbers) -> RexPrefix
+    requires reg { reg < 16 }
+    requires base { place.base < 16 }
+    requires index { place.index < 16 }
+    ensures bits { rex_bits result ≡ record { w = from_bool w; r = reg / 8; x = place.index / 8; b = place.base / 8 } }
+    ensures stands { IsSome result ↔ IsTrue (w || (nat_le 8 reg || ((nat_le 8 place.index || nat_le 8 place.base) || (uses_8bit && (is_special_if_8bit reg || is_special_if_8bit place.register))))) }
 {
-    match *place {
-        PlaceOperand::NoPlace => (None, None),
-        PlaceOperand::Register(number) => (Some(number.value()), None),
-        PlaceOperand::Memory(Amode::ImmReg { base, .. }) => (Some(base.enc()), None),
-        PlaceOperand::Memory(Amode::ImmRegRegShift { base, index, .. }) => {
-            (Some(base.enc()), Some(index.enc()))
-        }
-        PlaceOperand::Memory(Amode::RipRelative { .. }) => (None, None),
-    }
+    let special = is_special_if_8bit(reg) | is_special_if_8bit(place.register);
+    RexPrefix::of_registers(reg, place.index, place.base, w, uses_8bit & special)
 }
 
 /// The number of a register in reg or in vvvv, 0 where there is none.
@@ -155,14 +164,15 @@ fn prefix_of<M: AsReg>(
     ensures short { IsShort result }
 {
     let w = w_bit(line.w);
+    let numbers = numbers_of(place);
     match line.prefix {
         PrefixField::LegacyField(set, _) => {
-            PrefixCode::Legacy(set, rex_of(w, has_8bit(line.tail), reg, place))
+            PrefixCode::Legacy(set, rex_of(w, has_8bit(line.tail), reg, numbers))
         }
         PrefixField::VexField(pp, map, l, _) => PrefixCode::Vex(VexPrefix::three_op(
             reg,
             register_number(vvvv),
-            operand_registers(place),
+            (Some(numbers.base), Some(numbers.index)),
             l,
             pp,
             map,

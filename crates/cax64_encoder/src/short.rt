@@ -36,10 +36,10 @@ impl Short {
 
     /// The same with one more byte behind the others.
     #[inline(always)]
-    pub fn push(self, byte: u8) -> Short
-        requires { length self < 8 }
-        ensures bytes { result ≡ self ++ (byte ∷ []) }
-        ensures length { length result ≡ length self + 1 }
+    fn longer(&self, byte: u8) -> Short
+        requires { length self.now < 8 }
+        ensures bytes { result ≡ self.now ++ (byte ∷ []) }
+        ensures length { length result ≡ length self.now + 1 }
     {
         Short {
             word: self.word + (u64::from(byte) << (8 * u32::from(self.len))),
@@ -47,14 +47,26 @@ impl Short {
         }
     }
 
-    /// The same with a byte behind the others, if it stands.
+    /// The same with one more byte behind the others.
+    #[inline(always)]
+    pub fn push(self, byte: u8) -> Short
+        requires { length self < 8 }
+        ensures bytes { result ≡ self ++ (byte ∷ []) }
+        ensures length { length result ≡ length self + 1 }
+    {
+        self.longer(byte)
+    }
+
+    /// The same with a byte behind the others, if it stands. The longer word is made either way, and one of the two
+    /// taken: a branch would cost more.
     #[inline(always)]
     pub fn push_if(self, stands: bool, byte: u8) -> Short
         requires { length self < 8 }
         ensures bytes { result ≡ self ++ byte_when stands byte }
         ensures length { length result ≤ length self + 1 }
     {
-        if stands { self.push(byte) } else { self }
+        let longer = self.longer(byte);
+        if stands { longer } else { self }
     }
 
     /// The same with a byte behind the others, if there is one.
@@ -64,10 +76,8 @@ impl Short {
         ensures bytes { result ≡ self ++ byte_of byte }
         ensures length { length result ≤ length self + 1 }
     {
-        match byte {
-            Some(byte) => self.push(byte),
-            None => self,
-        }
+        let longer = self.longer(byte.unwrap_or(0));
+        if byte.is_some() { longer } else { self }
     }
 
     /// Puts the bytes, at least one, as one by one.

@@ -24,9 +24,3 @@ nop_of (operands.Three a b c) = None
 nop_of (operands.Four a b c d) = None
 nop_of (operands.Five a b c d e) = None
 nop_of (operands.Nop nop) = Some nop
-
--- operands without registers, for any family; others are left out
-abbrev pub without_registers : {R A B C D E F S G H I J K L : Type 0} → Operands R A B C D E F → Operands S G H I J K L
-without_registers (operands.One (operand.Imm imm)) = operands.One (operand.Imm imm)
-without_registers (operands.Nop nop) = operands.Nop nop
-without_registers others = operands.Zero

@@ -1,8 +1,7 @@
 //! What is made of operands where they are listed, so that the list itself need not be kept.
 
 ghost use Rattle.std.specs.Prelude.{◌≡◌};
-ghost use Rattle.cax64_operand.specs.Fold.{before, fold};
-ghost use Rattle.cax64_operand.specs.OperandList.{without_registers};
+ghost use Rattle.cax64_operand.specs.Fold.{before};
 ghost use Rattle.cax64_operand.specs.declared.nop.Nop.{Nop};
 ghost use Rattle.cax64_operand.specs.declared.operand.Operand.{Operand};
 ghost use Rattle.cax64_operand.specs.declared.operand.Operands.TheVariants as operands;
@@ -131,16 +130,4 @@ pub fn of_five<R: Registers, T: FromOperands<R>>(
     ensures { result ≡ T.made_with a (T.made_with b (T.made_with c (T.made_with d (T.made_with e T.made_of_none)))) }
 {
     T::none().with(e).with(d).with(c).with(b).with(a)
-}
-
-/// What is made, for any family, of operands without registers. Others would be left out.
-#[inline(always)]
-pub fn for_any_family<R: Registers, S: Registers, T: FromOperands<S>>(operands: Operands<R>) -> T
-    ensures { result ≡ fold T.made_of_none T.made_with T.made_of_nop (without_registers operands) }
-{
-    match operands {
-        Operands::One(Operand::Imm(imm)) => of_one(Operand::Imm(imm)),
-        Operands::Nop(nop) => T::nop(nop),
-        _ => T::none(),
-    }
 }

@@ -10,7 +10,7 @@ pub mod operand;
 pub mod visitor;
 
 pub use family::RegisterFamily;
-pub use fold::{FromOperands, for_any_family, of_five, of_four, of_one, of_three, of_two};
+pub use fold::{FromOperands, of_five, of_four, of_one, of_three, of_two};
 pub use immediate::{ImmOperand, Immediate};
 pub use instruction::{Numbers, RowAndOperands, operands_of};
 pub use nop::Nop;

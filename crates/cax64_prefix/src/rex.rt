@@ -37,7 +37,7 @@ impl Model for RexPrefix {
 }
 
 /// Whether a code of an 8-bit register means another one without a REX byte.
-fn is_special_if_8bit(enc: u8) -> bool
+pub fn is_special_if_8bit(enc: u8) -> bool
     ensures { result ≡ is_special_if_8bit enc }
 {
     enc >= 4 && enc <= 7
@@ -58,8 +58,9 @@ fn rex_byte(w_bit: bool, enc_reg: u8, enc_index: u8, enc_base: u8) -> u8
 }
 
 impl RexPrefix {
-    /// The prefix of a register in reg, an index and a base. Where no bit is set, a byte stands if `must_emit` holds.
-    fn of_registers(enc_reg: u8, enc_index: u8, enc_base: u8, w_bit: bool, must_emit: bool) -> Self
+    /// The prefix of a register in reg, an index, and a base or a register, each below 16. Where no bit is set, a byte
+    /// stands if `must_emit` holds.
+    pub fn of_registers(enc_reg: u8, enc_index: u8, enc_base: u8, w_bit: bool, must_emit: bool) -> Self
         requires reg { enc_reg < 16 }
         requires index { enc_index < 16 }
         requires base { enc_base < 16 }
@@ -68,7 +69,7 @@ impl RexPrefix {
             IsTrue (w_bit || nat_le 8 enc_reg || nat_le 8 enc_index || nat_le 8 enc_base || must_emit) }
     {
         let byte = rex_byte(w_bit, enc_reg, enc_index, enc_base);
-        if must_emit || byte != 0x40 {
+        if must_emit | (byte != 0x40) {
             RexPrefix { byte: Some(byte) }
         } else {
             RexPrefix { byte: None }

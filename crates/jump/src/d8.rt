@@ -2,6 +2,8 @@
 
 ghost use Rattle.std.specs.Prelude.{◌≡◌};
 ghost use Rattle.cax64_machine_code.specs.declared.row.Row.TheVariants as row;
+ghost use Rattle.cax64_operand.specs.Fold.{fold};
+ghost use Rattle.cax64_operand.specs.Shape.{HasShape};
 ghost use Rattle.cax64_operand.specs.Visit.{OperandsRun};
 ghost use Rattle.jump.specs.Operands.{operands_jmp_d8, operands_jo_d8, operands_jno_d8, operands_jb_d8, operands_jae_d8, operands_je_d8, operands_jne_d8, operands_jbe_d8, operands_ja_d8, operands_js_d8, operands_jns_d8, operands_jp_d8, operands_jnp_d8, operands_jl_d8, operands_jge_d8, operands_jle_d8, operands_jg_d8};
 
@@ -25,6 +27,15 @@ impl jmp_d8 {
         jmp_d8 { imm8 }
     }
 
+    /// What is made of the operands, for any family.
+    #[tactic(auto, unfolding(cax64_machine_code::specs::Rows::line_of))]
+    pub fn fold_operands<R: Registers, T: FromOperands<R>>(&self) -> T
+        ensures value { result ≡ fold T.made_of_none T.made_with T.made_of_nop (operands_jmp_d8 {R = R} self.now) }
+        ensures shape { HasShape row.jmp_d8 (operands_jmp_d8 {R = R} self.now) }
+    {
+        of_one(Operand::Imm(Immediate::Distance8(self.imm8.value())))
+    }
+
     /// It has no registers; the visitor stays as it is.
     pub fn visit<R: Registers, V: RegisterVisitor<R>>(&mut self, visitor: &mut V)
         ensures { OperandsRun R.WriteGpr.eq V.steps visitor.old (operands_jmp_d8 {R = R} self.old) (operands_jmp_d8 {R = R} self.new) visitor.new }
@@ -42,9 +53,8 @@ impl RowAndOperands for jmp_d8 {
         Row::jmp_d8
     }
 
-    #[tactic(auto, unfolding(cax64_machine_code::specs::Rows::line_of))]
     fn fold_operands<T: FromOperands<Numbers>>(&self) -> T {
-        of_one(Operand::Imm(Immediate::Distance8(self.imm8.value())))
+        jmp_d8::fold_operands(self)
     }
 
     fn visit<V: RegisterVisitor<Numbers>>(&mut self, visitor: &mut V) {
@@ -65,6 +75,15 @@ impl jo_d8 {
         jo_d8 { imm8 }
     }
 
+    /// What is made of the operands, for any family.
+    #[tactic(auto, unfolding(cax64_machine_code::specs::Rows::line_of))]
+    pub fn fold_operands<R: Registers, T: FromOperands<R>>(&self) -> T
+        ensures value { result ≡ fold T.made_of_none T.made_with T.made_of_nop (operands_jo_d8 {R = R} self.now) }
+        ensures shape { HasShape row.jo_d8 (operands_jo_d8 {R = R} self.now) }
+    {
+        of_one(Operand::Imm(Immediate::Distance8(self.imm8.value())))
+    }
+
     /// It has no registers; the visitor stays as it is.
     pub fn visit<R: Registers, V: RegisterVisitor<R>>(&mut self, visitor: &mut V)
         ensures { OperandsRun R.WriteGpr.eq V.steps visitor.old (operands_jo_d8 {R = R} self.old) (operands_jo_d8 {R = R} self.new) visitor.new }
@@ -82,9 +101,8 @@ impl RowAndOperands for jo_d8 {
         Row::jo_d8
     }
 
-    #[tactic(auto, unfolding(cax64_machine_code::specs::Rows::line_of))]
     fn fold_operands<T: FromOperands<Numbers>>(&self) -> T {
-        of_one(Operand::Imm(Immediate::Distance8(self.imm8.value())))
+        jo_d8::fold_operands(self)
     }
 
     fn visit<V: RegisterVisitor<Numbers>>(&mut self, visitor: &mut V) {
@@ -105,6 +123,15 @@ impl jno_d8 {
         jno_d8 { imm8 }
     }
 
+    /// What is made of the operands, for any family.
+    #[tactic(auto, unfolding(cax64_machine_code::specs::Rows::line_of))]
+    pub fn fold_operands<R: Registers, T: FromOperands<R>>(&self) -> T
+        ensures value { result ≡ fold T.made_of_none T.made_with T.made_of_nop (operands_jno_d8 {R = R} self.now) }
+        ensures shape { HasShape row.jno_d8 (operands_jno_d8 {R = R} self.now) }
+    {
+        of_one(Operand::Imm(Immediate::Distance8(self.imm8.value())))
+    }
+
     /// It has no registers; the visitor stays as it is.
     pub fn visit<R: Registers, V: RegisterVisitor<R>>(&mut self, visitor: &mut V)
         ensures { OperandsRun R.WriteGpr.eq V.steps visitor.old (operands_jno_d8 {R = R} self.old) (operands_jno_d8 {R = R} self.new) visitor.new }
@@ -122,9 +149,8 @@ impl RowAndOperands for jno_d8 {
         Row::jno_d8
     }
 
-    #[tactic(auto, unfolding(cax64_machine_code::specs::Rows::line_of))]
     fn fold_operands<T: FromOperands<Numbers>>(&self) -> T {
-        of_one(Operand::Imm(Immediate::Distance8(self.imm8.value())))
+        jno_d8::fold_operands(self)
     }
 
     fn visit<V: RegisterVisitor<Numbers>>(&mut self, visitor: &mut V) {
@@ -145,6 +171,15 @@ impl jb_d8 {
         jb_d8 { imm8 }
     }
 
+    /// What is made of the operands, for any family.
+    #[tactic(auto, unfolding(cax64_machine_code::specs::Rows::line_of))]
+    pub fn fold_operands<R: Registers, T: FromOperands<R>>(&self) -> T
+        ensures value { result ≡ fold T.made_of_none T.made_with T.made_of_nop (operands_jb_d8 {R = R} self.now) }
+        ensures shape { HasShape row.jb_d8 (operands_jb_d8 {R = R} self.now) }
+    {
+        of_one(Operand::Imm(Immediate::Distance8(self.imm8.value())))
+    }
+
     /// It has no registers; the visitor stays as it is.
     pub fn visit<R: Registers, V: RegisterVisitor<R>>(&mut self, visitor: &mut V)
         ensures { OperandsRun R.WriteGpr.eq V.steps visitor.old (operands_jb_d8 {R = R} self.old) (operands_jb_d8 {R = R} self.new) visitor.new }
@@ -162,9 +197,8 @@ impl RowAndOperands for jb_d8 {
         Row::jb_d8
     }
 
-    #[tactic(auto, unfolding(cax64_machine_code::specs::Rows::line_of))]
     fn fold_operands<T: FromOperands<Numbers>>(&self) -> T {
-        of_one(Operand::Imm(Immediate::Distance8(self.imm8.value())))
+        jb_d8::fold_operands(self)
     }
 
     fn visit<V: RegisterVisitor<Numbers>>(&mut self, visitor: &mut V) {
@@ -185,6 +219,15 @@ impl jae_d8 {
         jae_d8 { imm8 }
     }
 
+    /// What is made of the operands, for any family.
+    #[tactic(auto, unfolding(cax64_machine_code::specs::Rows::line_of))]
+    pub fn fold_operands<R: Registers, T: FromOperands<R>>(&self) -> T
+        ensures value { result ≡ fold T.made_of_none T.made_with T.made_of_nop (operands_jae_d8 {R = R} self.now) }
+        ensures shape { HasShape row.jae_d8 (operands_jae_d8 {R = R} self.now) }
+    {
+        of_one(Operand::Imm(Immediate::Distance8(self.imm8.value())))
+    }
+
     /// It has no registers; the visitor stays as it is.
     pub fn visit<R: Registers, V: RegisterVisitor<R>>(&mut self, visitor: &mut V)
         ensures { OperandsRun R.WriteGpr.eq V.steps visitor.old (operands_jae_d8 {R = R} self.old) (operands_jae_d8 {R = R} self.new) visitor.new }
@@ -202,9 +245,8 @@ impl RowAndOperands for jae_d8 {
         Row::jae_d8
     }
 
-    #[tactic(auto, unfolding(cax64_machine_code::specs::Rows::line_of))]
     fn fold_operands<T: FromOperands<Numbers>>(&self) -> T {
-        of_one(Operand::Imm(Immediate::Distance8(self.imm8.value())))
+        jae_d8::fold_operands(self)
     }
 
     fn visit<V: RegisterVisitor<Numbers>>(&mut self, visitor: &mut V) {
@@ -225,6 +267,15 @@ impl je_d8 {
         je_d8 { imm8 }
     }
 
+    /// What is made of the operands, for any family.
+    #[tactic(auto, unfolding(cax64_machine_code::specs::Rows::line_of))]
+    pub fn fold_operands<R: Registers, T: FromOperands<R>>(&self) -> T
+        ensures value { result ≡ fold T.made_of_none T.made_with T.made_of_nop (operands_je_d8 {R = R} self.now) }
+        ensures shape { HasShape row.je_d8 (operands_je_d8 {R = R} self.now) }
+    {
+        of_one(Operand::Imm(Immediate::Distance8(self.imm8.value())))
+    }
+
     /// It has no registers; the visitor stays as it is.
     pub fn visit<R: Registers, V: RegisterVisitor<R>>(&mut self, visitor: &mut V)
         ensures { OperandsRun R.WriteGpr.eq V.steps visitor.old (operands_je_d8 {R = R} self.old) (operands_je_d8 {R = R} self.new) visitor.new }
@@ -242,9 +293,8 @@ impl RowAndOperands for je_d8 {
         Row::je_d8
     }
 
-    #[tactic(auto, unfolding(cax64_machine_code::specs::Rows::line_of))]
     fn fold_operands<T: FromOperands<Numbers>>(&self) -> T {
-        of_one(Operand::Imm(Immediate::Distance8(self.imm8.value())))
+        je_d8::fold_operands(self)
     }
 
     fn visit<V: RegisterVisitor<Numbers>>(&mut self, visitor: &mut V) {
@@ -265,6 +315,15 @@ impl jne_d8 {
         jne_d8 { imm8 }
     }
 
+    /// What is made of the operands, for any family.
+    #[tactic(auto, unfolding(cax64_machine_code::specs::Rows::line_of))]
+    pub fn fold_operands<R: Registers, T: FromOperands<R>>(&self) -> T
+        ensures value { result ≡ fold T.made_of_none T.made_with T.made_of_nop (operands_jne_d8 {R = R} self.now) }
+        ensures shape { HasShape row.jne_d8 (operands_jne_d8 {R = R} self.now) }
+    {
+        of_one(Operand::Imm(Immediate::Distance8(self.imm8.value())))
+    }
+
     /// It has no registers; the visitor stays as it is.
     pub fn visit<R: Registers, V: RegisterVisitor<R>>(&mut self, visitor: &mut V)
         ensures { OperandsRun R.WriteGpr.eq V.steps visitor.old (operands_jne_d8 {R = R} self.old) (operands_jne_d8 {R = R} self.new) visitor.new }
@@ -282,9 +341,8 @@ impl RowAndOperands for jne_d8 {
         Row::jne_d8
     }
 
-    #[tactic(auto, unfolding(cax64_machine_code::specs::Rows::line_of))]
     fn fold_operands<T: FromOperands<Numbers>>(&self) -> T {
-        of_one(Operand::Imm(Immediate::Distance8(self.imm8.value())))
+        jne_d8::fold_operands(self)
     }
 
     fn visit<V: RegisterVisitor<Numbers>>(&mut self, visitor: &mut V) {
@@ -305,6 +363,15 @@ impl jbe_d8 {
         jbe_d8 { imm8 }
     }
 
+    /// What is made of the operands, for any family.
+    #[tactic(auto, unfolding(cax64_machine_code::specs::Rows::line_of))]
+    pub fn fold_operands<R: Registers, T: FromOperands<R>>(&self) -> T
+        ensures value { result ≡ fold T.made_of_none T.made_with T.made_of_nop (operands_jbe_d8 {R = R} self.now) }
+        ensures shape { HasShape row.jbe_d8 (operands_jbe_d8 {R = R} self.now) }
+    {
+        of_one(Operand::Imm(Immediate::Distance8(self.imm8.value())))
+    }
+
     /// It has no registers; the visitor stays as it is.
     pub fn visit<R: Registers, V: RegisterVisitor<R>>(&mut self, visitor: &mut V)
         ensures { OperandsRun R.WriteGpr.eq V.steps visitor.old (operands_jbe_d8 {R = R} self.old) (operands_jbe_d8 {R = R} self.new) visitor.new }
@@ -322,9 +389,8 @@ impl RowAndOperands for jbe_d8 {
         Row::jbe_d8
     }
 
-    #[tactic(auto, unfolding(cax64_machine_code::specs::Rows::line_of))]
     fn fold_operands<T: FromOperands<Numbers>>(&self) -> T {
-        of_one(Operand::Imm(Immediate::Distance8(self.imm8.value())))
+        jbe_d8::fold_operands(self)
     }
 
     fn visit<V: RegisterVisitor<Numbers>>(&mut self, visitor: &mut V) {
@@ -345,6 +411,15 @@ impl ja_d8 {
         ja_d8 { imm8 }
     }
 
+    /// What is made of the operands, for any family.
+    #[tactic(auto, unfolding(cax64_machine_code::specs::Rows::line_of))]
+    pub fn fold_operands<R: Registers, T: FromOperands<R>>(&self) -> T
+        ensures value { result ≡ fold T.made_of_none T.made_with T.made_of_nop (operands_ja_d8 {R = R} self.now) }
+        ensures shape { HasShape row.ja_d8 (operands_ja_d8 {R = R} self.now) }
+    {
+        of_one(Operand::Imm(Immediate::Distance8(self.imm8.value())))
+    }
+
     /// It has no registers; the visitor stays as it is.
     pub fn visit<R: Registers, V: RegisterVisitor<R>>(&mut self, visitor: &mut V)
         ensures { OperandsRun R.WriteGpr.eq V.steps visitor.old (operands_ja_d8 {R = R} self.old) (operands_ja_d8 {R = R} self.new) visitor.new }
@@ -362,9 +437,8 @@ impl RowAndOperands for ja_d8 {
         Row::ja_d8
     }
 
-    #[tactic(auto, unfolding(cax64_machine_code::specs::Rows::line_of))]
     fn fold_operands<T: FromOperands<Numbers>>(&self) -> T {
-        of_one(Operand::Imm(Immediate::Distance8(self.imm8.value())))
+        ja_d8::fold_operands(self)
     }
 
     fn visit<V: RegisterVisitor<Numbers>>(&mut self, visitor: &mut V) {
@@ -385,6 +459,15 @@ impl js_d8 {
         js_d8 { imm8 }
     }
 
+    /// What is made of the operands, for any family.
+    #[tactic(auto, unfolding(cax64_machine_code::specs::Rows::line_of))]
+    pub fn fold_operands<R: Registers, T: FromOperands<R>>(&self) -> T
+        ensures value { result ≡ fold T.made_of_none T.made_with T.made_of_nop (operands_js_d8 {R = R} self.now) }
+        ensures shape { HasShape row.js_d8 (operands_js_d8 {R = R} self.now) }
+    {
+        of_one(Operand::Imm(Immediate::Distance8(self.imm8.value())))
+    }
+
     /// It has no registers; the visitor stays as it is.
     pub fn visit<R: Registers, V: RegisterVisitor<R>>(&mut self, visitor: &mut V)
         ensures { OperandsRun R.WriteGpr.eq V.steps visitor.old (operands_js_d8 {R = R} self.old) (operands_js_d8 {R = R} self.new) visitor.new }
@@ -402,9 +485,8 @@ impl RowAndOperands for js_d8 {
         Row::js_d8
     }
 
-    #[tactic(auto, unfolding(cax64_machine_code::specs::Rows::line_of))]
     fn fold_operands<T: FromOperands<Numbers>>(&self) -> T {
-        of_one(Operand::Imm(Immediate::Distance8(self.imm8.value())))
+        js_d8::fold_operands(self)
     }
 
     fn visit<V: RegisterVisitor<Numbers>>(&mut self, visitor: &mut V) {
@@ -425,6 +507,15 @@ impl jns_d8 {
         jns_d8 { imm8 }
     }
 
+    /// What is made of the operands, for any family.
+    #[tactic(auto, unfolding(cax64_machine_code::specs::Rows::line_of))]
+    pub fn fold_operands<R: Registers, T: FromOperands<R>>(&self) -> T
+        ensures value { result ≡ fold T.made_of_none T.made_with T.made_of_nop (operands_jns_d8 {R = R} self.now) }
+        ensures shape { HasShape row.jns_d8 (operands_jns_d8 {R = R} self.now) }
+    {
+        of_one(Operand::Imm(Immediate::Distance8(self.imm8.value())))
+    }
+
     /// It has no registers; the visitor stays as it is.
     pub fn visit<R: Registers, V: RegisterVisitor<R>>(&mut self, visitor: &mut V)
         ensures { OperandsRun R.WriteGpr.eq V.steps visitor.old (operands_jns_d8 {R = R} self.old) (operands_jns_d8 {R = R} self.new) visitor.new }
@@ -442,9 +533,8 @@ impl RowAndOperands for jns_d8 {
         Row::jns_d8
     }
 
-    #[tactic(auto, unfolding(cax64_machine_code::specs::Rows::line_of))]
     fn fold_operands<T: FromOperands<Numbers>>(&self) -> T {
-        of_one(Operand::Imm(Immediate::Distance8(self.imm8.value())))
+        jns_d8::fold_operands(self)
     }
 
     fn visit<V: RegisterVisitor<Numbers>>(&mut self, visitor: &mut V) {
@@ -465,6 +555,15 @@ impl jp_d8 {
         jp_d8 { imm8 }
     }
 
+    /// What is made of the operands, for any family.
+    #[tactic(auto, unfolding(cax64_machine_code::specs::Rows::line_of))]
+    pub fn fold_operands<R: Registers, T: FromOperands<R>>(&self) -> T
+        ensures value { result ≡ fold T.made_of_none T.made_with T.made_of_nop (operands_jp_d8 {R = R} self.now) }
+        ensures shape { HasShape row.jp_d8 (operands_jp_d8 {R = R} self.now) }
+    {
+        of_one(Operand::Imm(Immediate::Distance8(self.imm8.value())))
+    }
+
     /// It has no registers; the visitor stays as it is.
     pub fn visit<R: Registers, V: RegisterVisitor<R>>(&mut self, visitor: &mut V)
         ensures { OperandsRun R.WriteGpr.eq V.steps visitor.old (operands_jp_d8 {R = R} self.old) (operands_jp_d8 {R = R} self.new) visitor.new }
@@ -482,9 +581,8 @@ impl RowAndOperands for jp_d8 {
         Row::jp_d8
     }
 
-    #[tactic(auto, unfolding(cax64_machine_code::specs::Rows::line_of))]
     fn fold_operands<T: FromOperands<Numbers>>(&self) -> T {
-        of_one(Operand::Imm(Immediate::Distance8(self.imm8.value())))
+        jp_d8::fold_operands(self)
     }
 
     fn visit<V: RegisterVisitor<Numbers>>(&mut self, visitor: &mut V) {
@@ -505,6 +603,15 @@ impl jnp_d8 {
         jnp_d8 { imm8 }
     }
 
+    /// What is made of the operands, for any family.
+    #[tactic(auto, unfolding(cax64_machine_code::specs::Rows::line_of))]
+    pub fn fold_operands<R: Registers, T: FromOperands<R>>(&self) -> T
+        ensures value { result ≡ fold T.made_of_none T.made_with T.made_of_nop (operands_jnp_d8 {R = R} self.now) }
+        ensures shape { HasShape row.jnp_d8 (operands_jnp_d8 {R = R} self.now) }
+    {
+        of_one(Operand::Imm(Immediate::Distance8(self.imm8.value())))
+    }
+
     /// It has no registers; the visitor stays as it is.
     pub fn visit<R: Registers, V: RegisterVisitor<R>>(&mut self, visitor: &mut V)
         ensures { OperandsRun R.WriteGpr.eq V.steps visitor.old (operands_jnp_d8 {R = R} self.old) (operands_jnp_d8 {R = R} self.new) visitor.new }
@@ -522,9 +629,8 @@ impl RowAndOperands for jnp_d8 {
         Row::jnp_d8
     }
 
-    #[tactic(auto, unfolding(cax64_machine_code::specs::Rows::line_of))]
     fn fold_operands<T: FromOperands<Numbers>>(&self) -> T {
-        of_one(Operand::Imm(Immediate::Distance8(self.imm8.value())))
+        jnp_d8::fold_operands(self)
     }
 
     fn visit<V: RegisterVisitor<Numbers>>(&mut self, visitor: &mut V) {
@@ -545,6 +651,15 @@ impl jl_d8 {
         jl_d8 { imm8 }
     }
 
+    /// What is made of the operands, for any family.
+    #[tactic(auto, unfolding(cax64_machine_code::specs::Rows::line_of))]
+    pub fn fold_operands<R: Registers, T: FromOperands<R>>(&self) -> T
+        ensures value { result ≡ fold T.made_of_none T.made_with T.made_of_nop (operands_jl_d8 {R = R} self.now) }
+        ensures shape { HasShape row.jl_d8 (operands_jl_d8 {R = R} self.now) }
+    {
+        of_one(Operand::Imm(Immediate::Distance8(self.imm8.value())))
+    }
+
     /// It has no registers; the visitor stays as it is.
     pub fn visit<R: Registers, V: RegisterVisitor<R>>(&mut self, visitor: &mut V)
         ensures { OperandsRun R.WriteGpr.eq V.steps visitor.old (operands_jl_d8 {R = R} self.old) (operands_jl_d8 {R = R} self.new) visitor.new }
@@ -562,9 +677,8 @@ impl RowAndOperands for jl_d8 {
         Row::jl_d8
     }
 
-    #[tactic(auto, unfolding(cax64_machine_code::specs::Rows::line_of))]
     fn fold_operands<T: FromOperands<Numbers>>(&self) -> T {
-        of_one(Operand::Imm(Immediate::Distance8(self.imm8.value())))
+        jl_d8::fold_operands(self)
     }
 
     fn visit<V: RegisterVisitor<Numbers>>(&mut self, visitor: &mut V) {
@@ -585,6 +699,15 @@ impl jge_d8 {
         jge_d8 { imm8 }
     }
 
+    /// What is made of the operands, for any family.
+    #[tactic(auto, unfolding(cax64_machine_code::specs::Rows::line_of))]
+    pub fn fold_operands<R: Registers, T: FromOperands<R>>(&self) -> T
+        ensures value { result ≡ fold T.made_of_none T.made_with T.made_of_nop (operands_jge_d8 {R = R} self.now) }
+        ensures shape { HasShape row.jge_d8 (operands_jge_d8 {R = R} self.now) }
+    {
+        of_one(Operand::Imm(Immediate::Distance8(self.imm8.value())))
+    }
+
     /// It has no registers; the visitor stays as it is.
     pub fn visit<R: Registers, V: RegisterVisitor<R>>(&mut self, visitor: &mut V)
         ensures { OperandsRun R.WriteGpr.eq V.steps visitor.old (operands_jge_d8 {R = R} self.old) (operands_jge_d8 {R = R} self.new) visitor.new }
@@ -602,9 +725,8 @@ impl RowAndOperands for jge_d8 {
         Row::jge_d8
     }
 
-    #[tactic(auto, unfolding(cax64_machine_code::specs::Rows::line_of))]
     fn fold_operands<T: FromOperands<Numbers>>(&self) -> T {
-        of_one(Operand::Imm(Immediate::Distance8(self.imm8.value())))
+        jge_d8::fold_operands(self)
     }
 
     fn visit<V: RegisterVisitor<Numbers>>(&mut self, visitor: &mut V) {
@@ -625,6 +747,15 @@ impl jle_d8 {
         jle_d8 { imm8 }
     }
 
+    /// What is made of the operands, for any family.
+    #[tactic(auto, unfolding(cax64_machine_code::specs::Rows::line_of))]
+    pub fn fold_operands<R: Registers, T: FromOperands<R>>(&self) -> T
+        ensures value { result ≡ fold T.made_of_none T.made_with T.made_of_nop (operands_jle_d8 {R = R} self.now) }
+        ensures shape { HasShape row.jle_d8 (operands_jle_d8 {R = R} self.now) }
+    {
+        of_one(Operand::Imm(Immediate::Distance8(self.imm8.value())))
+    }
+
     /// It has no registers; the visitor stays as it is.
     pub fn visit<R: Registers, V: RegisterVisitor<R>>(&mut self, visitor: &mut V)
         ensures { OperandsRun R.WriteGpr.eq V.steps visitor.old (operands_jle_d8 {R = R} self.old) (operands_jle_d8 {R = R} self.new) visitor.new }
@@ -642,9 +773,8 @@ impl RowAndOperands for jle_d8 {
         Row::jle_d8
     }
 
-    #[tactic(auto, unfolding(cax64_machine_code::specs::Rows::line_of))]
     fn fold_operands<T: FromOperands<Numbers>>(&self) -> T {
-        of_one(Operand::Imm(Immediate::Distance8(self.imm8.value())))
+        jle_d8::fold_operands(self)
     }
 
     fn visit<V: RegisterVisitor<Numbers>>(&mut self, visitor: &mut V) {
@@ -665,6 +795,15 @@ impl jg_d8 {
         jg_d8 { imm8 }
     }
 
+    /// What is made of the operands, for any family.
+    #[tactic(auto, unfolding(cax64_machine_code::specs::Rows::line_of))]
+    pub fn fold_operands<R: Registers, T: FromOperands<R>>(&self) -> T
+        ensures value { result ≡ fold T.made_of_none T.made_with T.made_of_nop (operands_jg_d8 {R = R} self.now) }
+        ensures shape { HasShape row.jg_d8 (operands_jg_d8 {R = R} self.now) }
+    {
+        of_one(Operand::Imm(Immediate::Distance8(self.imm8.value())))
+    }
+
     /// It has no registers; the visitor stays as it is.
     pub fn visit<R: Registers, V: RegisterVisitor<R>>(&mut self, visitor: &mut V)
         ensures { OperandsRun R.WriteGpr.eq V.steps visitor.old (operands_jg_d8 {R = R} self.old) (operands_jg_d8 {R = R} self.new) visitor.new }
@@ -682,9 +821,8 @@ impl RowAndOperands for jg_d8 {
         Row::jg_d8
     }
 
-    #[tactic(auto, unfolding(cax64_machine_code::specs::Rows::line_of))]
     fn fold_operands<T: FromOperands<Numbers>>(&self) -> T {
-        of_one(Operand::Imm(Immediate::Distance8(self.imm8.value())))
+        jg_d8::fold_operands(self)
     }
 
     fn visit<V: RegisterVisitor<Numbers>>(&mut self, visitor: &mut V) {

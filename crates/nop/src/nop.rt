@@ -1,6 +1,9 @@
 //! Instructions that do nothing. (Intel SDM, volume 2, `NOP`, table 4-12.)
 
+ghost use Rattle.std.specs.Prelude.{◌≡◌};
 ghost use Rattle.cax64_machine_code.specs.declared.row.Row.TheVariants as row;
+ghost use Rattle.cax64_operand.specs.Fold.{fold};
+ghost use Rattle.cax64_operand.specs.Shape.{HasShape};
 ghost use Rattle.cax64_operand.specs.Visit.{OperandsRun};
 ghost use Rattle.nop.specs.Operands.{operands_nop_1b, operands_nop_2b, operands_nop_3b, operands_nop_4b, operands_nop_5b, operands_nop_6b, operands_nop_7b, operands_nop_8b, operands_nop_9b};
 
@@ -15,6 +18,14 @@ pub struct nop_1b;
 impl nop_1b {
     pub fn new() -> Self {
         nop_1b
+    }
+
+    /// What is made of the operands, for any family.
+    pub fn fold_operands<R: Registers, T: FromOperands<R>>(&self) -> T
+        ensures value { result ≡ fold T.made_of_none T.made_with T.made_of_nop (operands_nop_1b {R = R} self.now) }
+        ensures shape { HasShape row.nop_1b (operands_nop_1b {R = R} self.now) }
+    {
+        T::nop(Nop::One)
     }
 
     /// It has no registers; the visitor stays as it is.
@@ -35,7 +46,7 @@ impl RowAndOperands for nop_1b {
     }
 
     fn fold_operands<T: FromOperands<Numbers>>(&self) -> T {
-        T::nop(Nop::One)
+        nop_1b::fold_operands(self)
     }
 
     fn visit<V: RegisterVisitor<Numbers>>(&mut self, visitor: &mut V) {
@@ -50,6 +61,14 @@ pub struct nop_2b;
 impl nop_2b {
     pub fn new() -> Self {
         nop_2b
+    }
+
+    /// What is made of the operands, for any family.
+    pub fn fold_operands<R: Registers, T: FromOperands<R>>(&self) -> T
+        ensures value { result ≡ fold T.made_of_none T.made_with T.made_of_nop (operands_nop_2b {R = R} self.now) }
+        ensures shape { HasShape row.nop_2b (operands_nop_2b {R = R} self.now) }
+    {
+        T::nop(Nop::Two)
     }
 
     /// It has no registers; the visitor stays as it is.
@@ -70,7 +89,7 @@ impl RowAndOperands for nop_2b {
     }
 
     fn fold_operands<T: FromOperands<Numbers>>(&self) -> T {
-        T::nop(Nop::Two)
+        nop_2b::fold_operands(self)
     }
 
     fn visit<V: RegisterVisitor<Numbers>>(&mut self, visitor: &mut V) {
@@ -85,6 +104,14 @@ pub struct nop_3b;
 impl nop_3b {
     pub fn new() -> Self {
         nop_3b
+    }
+
+    /// What is made of the operands, for any family.
+    pub fn fold_operands<R: Registers, T: FromOperands<R>>(&self) -> T
+        ensures value { result ≡ fold T.made_of_none T.made_with T.made_of_nop (operands_nop_3b {R = R} self.now) }
+        ensures shape { HasShape row.nop_3b (operands_nop_3b {R = R} self.now) }
+    {
+        T::nop(Nop::Three)
     }
 
     /// It has no registers; the visitor stays as it is.
@@ -105,7 +132,7 @@ impl RowAndOperands for nop_3b {
     }
 
     fn fold_operands<T: FromOperands<Numbers>>(&self) -> T {
-        T::nop(Nop::Three)
+        nop_3b::fold_operands(self)
     }
 
     fn visit<V: RegisterVisitor<Numbers>>(&mut self, visitor: &mut V) {
@@ -120,6 +147,14 @@ pub struct nop_4b;
 impl nop_4b {
     pub fn new() -> Self {
         nop_4b
+    }
+
+    /// What is made of the operands, for any family.
+    pub fn fold_operands<R: Registers, T: FromOperands<R>>(&self) -> T
+        ensures value { result ≡ fold T.made_of_none T.made_with T.made_of_nop (operands_nop_4b {R = R} self.now) }
+        ensures shape { HasShape row.nop_4b (operands_nop_4b {R = R} self.now) }
+    {
+        T::nop(Nop::Four)
     }
 
     /// It has no registers; the visitor stays as it is.
@@ -140,7 +175,7 @@ impl RowAndOperands for nop_4b {
     }
 
     fn fold_operands<T: FromOperands<Numbers>>(&self) -> T {
-        T::nop(Nop::Four)
+        nop_4b::fold_operands(self)
     }
 
     fn visit<V: RegisterVisitor<Numbers>>(&mut self, visitor: &mut V) {
@@ -155,6 +190,14 @@ pub struct nop_5b;
 impl nop_5b {
     pub fn new() -> Self {
         nop_5b
+    }
+
+    /// What is made of the operands, for any family.
+    pub fn fold_operands<R: Registers, T: FromOperands<R>>(&self) -> T
+        ensures value { result ≡ fold T.made_of_none T.made_with T.made_of_nop (operands_nop_5b {R = R} self.now) }
+        ensures shape { HasShape row.nop_5b (operands_nop_5b {R = R} self.now) }
+    {
+        T::nop(Nop::Five)
     }
 
     /// It has no registers; the visitor stays as it is.
@@ -175,7 +218,7 @@ impl RowAndOperands for nop_5b {
     }
 
     fn fold_operands<T: FromOperands<Numbers>>(&self) -> T {
-        T::nop(Nop::Five)
+        nop_5b::fold_operands(self)
     }
 
     fn visit<V: RegisterVisitor<Numbers>>(&mut self, visitor: &mut V) {
@@ -190,6 +233,14 @@ pub struct nop_6b;
 impl nop_6b {
     pub fn new() -> Self {
         nop_6b
+    }
+
+    /// What is made of the operands, for any family.
+    pub fn fold_operands<R: Registers, T: FromOperands<R>>(&self) -> T
+        ensures value { result ≡ fold T.made_of_none T.made_with T.made_of_nop (operands_nop_6b {R = R} self.now) }
+        ensures shape { HasShape row.nop_6b (operands_nop_6b {R = R} self.now) }
+    {
+        T::nop(Nop::Six)
     }
 
     /// It has no registers; the visitor stays as it is.
@@ -210,7 +261,7 @@ impl RowAndOperands for nop_6b {
     }
 
     fn fold_operands<T: FromOperands<Numbers>>(&self) -> T {
-        T::nop(Nop::Six)
+        nop_6b::fold_operands(self)
     }
 
     fn visit<V: RegisterVisitor<Numbers>>(&mut self, visitor: &mut V) {
@@ -225,6 +276,14 @@ pub struct nop_7b;
 impl nop_7b {
     pub fn new() -> Self {
         nop_7b
+    }
+
+    /// What is made of the operands, for any family.
+    pub fn fold_operands<R: Registers, T: FromOperands<R>>(&self) -> T
+        ensures value { result ≡ fold T.made_of_none T.made_with T.made_of_nop (operands_nop_7b {R = R} self.now) }
+        ensures shape { HasShape row.nop_7b (operands_nop_7b {R = R} self.now) }
+    {
+        T::nop(Nop::Seven)
     }
 
     /// It has no registers; the visitor stays as it is.
@@ -245,7 +304,7 @@ impl RowAndOperands for nop_7b {
     }
 
     fn fold_operands<T: FromOperands<Numbers>>(&self) -> T {
-        T::nop(Nop::Seven)
+        nop_7b::fold_operands(self)
     }
 
     fn visit<V: RegisterVisitor<Numbers>>(&mut self, visitor: &mut V) {
@@ -260,6 +319,14 @@ pub struct nop_8b;
 impl nop_8b {
     pub fn new() -> Self {
         nop_8b
+    }
+
+    /// What is made of the operands, for any family.
+    pub fn fold_operands<R: Registers, T: FromOperands<R>>(&self) -> T
+        ensures value { result ≡ fold T.made_of_none T.made_with T.made_of_nop (operands_nop_8b {R = R} self.now) }
+        ensures shape { HasShape row.nop_8b (operands_nop_8b {R = R} self.now) }
+    {
+        T::nop(Nop::Eight)
     }
 
     /// It has no registers; the visitor stays as it is.
@@ -280,7 +347,7 @@ impl RowAndOperands for nop_8b {
     }
 
     fn fold_operands<T: FromOperands<Numbers>>(&self) -> T {
-        T::nop(Nop::Eight)
+        nop_8b::fold_operands(self)
     }
 
     fn visit<V: RegisterVisitor<Numbers>>(&mut self, visitor: &mut V) {
@@ -295,6 +362,14 @@ pub struct nop_9b;
 impl nop_9b {
     pub fn new() -> Self {
         nop_9b
+    }
+
+    /// What is made of the operands, for any family.
+    pub fn fold_operands<R: Registers, T: FromOperands<R>>(&self) -> T
+        ensures value { result ≡ fold T.made_of_none T.made_with T.made_of_nop (operands_nop_9b {R = R} self.now) }
+        ensures shape { HasShape row.nop_9b (operands_nop_9b {R = R} self.now) }
+    {
+        T::nop(Nop::Nine)
     }
 
     /// It has no registers; the visitor stays as it is.
@@ -315,7 +390,7 @@ impl RowAndOperands for nop_9b {
     }
 
     fn fold_operands<T: FromOperands<Numbers>>(&self) -> T {
-        T::nop(Nop::Nine)
+        nop_9b::fold_operands(self)
     }
 
     fn visit<V: RegisterVisitor<Numbers>>(&mut self, visitor: &mut V) {

@@ -1,6 +1,6 @@
 use Rattle.std.proofs.Common.{◌≡◌, ◌<◌, ◌≤◌, ◌+◌, ◌*◌, ◌%◌, ◌^◌, ◌∙◌, ap, sym, ℕ, suc, length, rules, arith}
 use Rattle.cax64_encoder.proofs.LowBytes.{shifted, sum_fits, word_fits, view_push, view_length}
-use Rattle.cax64_encoder.proofs.short.Short.push.Goals as goal
+use Rattle.cax64_encoder.proofs.short.Short.longer.Goals as goal
 
 pub overflow_add-result : goal.overflow_add-result
 overflow_add-result c =
