@@ -31,7 +31,7 @@ impl callq_d {
     #[tactic(auto, unfolding(cax64_machine_code::specs::Rows::line_of))]
     pub fn fold_operands<R: Registers, T: FromOperands<R>>(&self) -> T
         ensures value { result ≡ fold T.made_of_none T.made_with T.made_of_nop (operands_callq_d {R = R} self.now) }
-        ensures shape { HasShape row.callq_d (operands_callq_d {R = R} self.now) }
+        ensures shape { HasShape {F = R.WriteXmm} row.callq_d (operands_callq_d {R = R} {A = R.ReadGpr} {B = R.ReadWriteGpr} {C = R.WriteGpr} {D = R.ReadXmm} {E = R.ReadWriteXmm} self.now) }
     {
         of_one(Operand::Imm(Immediate::Distance32(self.imm32.value())))
     }
@@ -79,7 +79,7 @@ impl jmp_d32 {
     #[tactic(auto, unfolding(cax64_machine_code::specs::Rows::line_of))]
     pub fn fold_operands<R: Registers, T: FromOperands<R>>(&self) -> T
         ensures value { result ≡ fold T.made_of_none T.made_with T.made_of_nop (operands_jmp_d32 {R = R} self.now) }
-        ensures shape { HasShape row.jmp_d32 (operands_jmp_d32 {R = R} self.now) }
+        ensures shape { HasShape {F = R.WriteXmm} row.jmp_d32 (operands_jmp_d32 {R = R} {A = R.ReadGpr} {B = R.ReadWriteGpr} {C = R.WriteGpr} {D = R.ReadXmm} {E = R.ReadWriteXmm} self.now) }
     {
         of_one(Operand::Imm(Immediate::Distance32(self.imm32.value())))
     }
@@ -127,7 +127,7 @@ impl jo_d32 {
     #[tactic(auto, unfolding(cax64_machine_code::specs::Rows::line_of))]
     pub fn fold_operands<R: Registers, T: FromOperands<R>>(&self) -> T
         ensures value { result ≡ fold T.made_of_none T.made_with T.made_of_nop (operands_jo_d32 {R = R} self.now) }
-        ensures shape { HasShape row.jo_d32 (operands_jo_d32 {R = R} self.now) }
+        ensures shape { HasShape {F = R.WriteXmm} row.jo_d32 (operands_jo_d32 {R = R} {A = R.ReadGpr} {B = R.ReadWriteGpr} {C = R.WriteGpr} {D = R.ReadXmm} {E = R.ReadWriteXmm} self.now) }
     {
         of_one(Operand::Imm(Immediate::Distance32(self.imm32.value())))
     }
@@ -175,7 +175,7 @@ impl jno_d32 {
     #[tactic(auto, unfolding(cax64_machine_code::specs::Rows::line_of))]
     pub fn fold_operands<R: Registers, T: FromOperands<R>>(&self) -> T
         ensures value { result ≡ fold T.made_of_none T.made_with T.made_of_nop (operands_jno_d32 {R = R} self.now) }
-        ensures shape { HasShape row.jno_d32 (operands_jno_d32 {R = R} self.now) }
+        ensures shape { HasShape {F = R.WriteXmm} row.jno_d32 (operands_jno_d32 {R = R} {A = R.ReadGpr} {B = R.ReadWriteGpr} {C = R.WriteGpr} {D = R.ReadXmm} {E = R.ReadWriteXmm} self.now) }
     {
         of_one(Operand::Imm(Immediate::Distance32(self.imm32.value())))
     }
@@ -223,7 +223,7 @@ impl jb_d32 {
     #[tactic(auto, unfolding(cax64_machine_code::specs::Rows::line_of))]
     pub fn fold_operands<R: Registers, T: FromOperands<R>>(&self) -> T
         ensures value { result ≡ fold T.made_of_none T.made_with T.made_of_nop (operands_jb_d32 {R = R} self.now) }
-        ensures shape { HasShape row.jb_d32 (operands_jb_d32 {R = R} self.now) }
+        ensures shape { HasShape {F = R.WriteXmm} row.jb_d32 (operands_jb_d32 {R = R} {A = R.ReadGpr} {B = R.ReadWriteGpr} {C = R.WriteGpr} {D = R.ReadXmm} {E = R.ReadWriteXmm} self.now) }
     {
         of_one(Operand::Imm(Immediate::Distance32(self.imm32.value())))
     }
@@ -271,7 +271,7 @@ impl jae_d32 {
     #[tactic(auto, unfolding(cax64_machine_code::specs::Rows::line_of))]
     pub fn fold_operands<R: Registers, T: FromOperands<R>>(&self) -> T
         ensures value { result ≡ fold T.made_of_none T.made_with T.made_of_nop (operands_jae_d32 {R = R} self.now) }
-        ensures shape { HasShape row.jae_d32 (operands_jae_d32 {R = R} self.now) }
+        ensures shape { HasShape {F = R.WriteXmm} row.jae_d32 (operands_jae_d32 {R = R} {A = R.ReadGpr} {B = R.ReadWriteGpr} {C = R.WriteGpr} {D = R.ReadXmm} {E = R.ReadWriteXmm} self.now) }
     {
         of_one(Operand::Imm(Immediate::Distance32(self.imm32.value())))
     }
@@ -319,7 +319,7 @@ impl je_d32 {
     #[tactic(auto, unfolding(cax64_machine_code::specs::Rows::line_of))]
     pub fn fold_operands<R: Registers, T: FromOperands<R>>(&self) -> T
         ensures value { result ≡ fold T.made_of_none T.made_with T.made_of_nop (operands_je_d32 {R = R} self.now) }
-        ensures shape { HasShape row.je_d32 (operands_je_d32 {R = R} self.now) }
+        ensures shape { HasShape {F = R.WriteXmm} row.je_d32 (operands_je_d32 {R = R} {A = R.ReadGpr} {B = R.ReadWriteGpr} {C = R.WriteGpr} {D = R.ReadXmm} {E = R.ReadWriteXmm} self.now) }
     {
         of_one(Operand::Imm(Immediate::Distance32(self.imm32.value())))
     }
@@ -367,7 +367,7 @@ impl jne_d32 {
     #[tactic(auto, unfolding(cax64_machine_code::specs::Rows::line_of))]
     pub fn fold_operands<R: Registers, T: FromOperands<R>>(&self) -> T
         ensures value { result ≡ fold T.made_of_none T.made_with T.made_of_nop (operands_jne_d32 {R = R} self.now) }
-        ensures shape { HasShape row.jne_d32 (operands_jne_d32 {R = R} self.now) }
+        ensures shape { HasShape {F = R.WriteXmm} row.jne_d32 (operands_jne_d32 {R = R} {A = R.ReadGpr} {B = R.ReadWriteGpr} {C = R.WriteGpr} {D = R.ReadXmm} {E = R.ReadWriteXmm} self.now) }
     {
         of_one(Operand::Imm(Immediate::Distance32(self.imm32.value())))
     }
@@ -415,7 +415,7 @@ impl jbe_d32 {
     #[tactic(auto, unfolding(cax64_machine_code::specs::Rows::line_of))]
     pub fn fold_operands<R: Registers, T: FromOperands<R>>(&self) -> T
         ensures value { result ≡ fold T.made_of_none T.made_with T.made_of_nop (operands_jbe_d32 {R = R} self.now) }
-        ensures shape { HasShape row.jbe_d32 (operands_jbe_d32 {R = R} self.now) }
+        ensures shape { HasShape {F = R.WriteXmm} row.jbe_d32 (operands_jbe_d32 {R = R} {A = R.ReadGpr} {B = R.ReadWriteGpr} {C = R.WriteGpr} {D = R.ReadXmm} {E = R.ReadWriteXmm} self.now) }
     {
         of_one(Operand::Imm(Immediate::Distance32(self.imm32.value())))
     }
@@ -463,7 +463,7 @@ impl ja_d32 {
     #[tactic(auto, unfolding(cax64_machine_code::specs::Rows::line_of))]
     pub fn fold_operands<R: Registers, T: FromOperands<R>>(&self) -> T
         ensures value { result ≡ fold T.made_of_none T.made_with T.made_of_nop (operands_ja_d32 {R = R} self.now) }
-        ensures shape { HasShape row.ja_d32 (operands_ja_d32 {R = R} self.now) }
+        ensures shape { HasShape {F = R.WriteXmm} row.ja_d32 (operands_ja_d32 {R = R} {A = R.ReadGpr} {B = R.ReadWriteGpr} {C = R.WriteGpr} {D = R.ReadXmm} {E = R.ReadWriteXmm} self.now) }
     {
         of_one(Operand::Imm(Immediate::Distance32(self.imm32.value())))
     }
@@ -511,7 +511,7 @@ impl js_d32 {
     #[tactic(auto, unfolding(cax64_machine_code::specs::Rows::line_of))]
     pub fn fold_operands<R: Registers, T: FromOperands<R>>(&self) -> T
         ensures value { result ≡ fold T.made_of_none T.made_with T.made_of_nop (operands_js_d32 {R = R} self.now) }
-        ensures shape { HasShape row.js_d32 (operands_js_d32 {R = R} self.now) }
+        ensures shape { HasShape {F = R.WriteXmm} row.js_d32 (operands_js_d32 {R = R} {A = R.ReadGpr} {B = R.ReadWriteGpr} {C = R.WriteGpr} {D = R.ReadXmm} {E = R.ReadWriteXmm} self.now) }
     {
         of_one(Operand::Imm(Immediate::Distance32(self.imm32.value())))
     }
@@ -559,7 +559,7 @@ impl jns_d32 {
     #[tactic(auto, unfolding(cax64_machine_code::specs::Rows::line_of))]
     pub fn fold_operands<R: Registers, T: FromOperands<R>>(&self) -> T
         ensures value { result ≡ fold T.made_of_none T.made_with T.made_of_nop (operands_jns_d32 {R = R} self.now) }
-        ensures shape { HasShape row.jns_d32 (operands_jns_d32 {R = R} self.now) }
+        ensures shape { HasShape {F = R.WriteXmm} row.jns_d32 (operands_jns_d32 {R = R} {A = R.ReadGpr} {B = R.ReadWriteGpr} {C = R.WriteGpr} {D = R.ReadXmm} {E = R.ReadWriteXmm} self.now) }
     {
         of_one(Operand::Imm(Immediate::Distance32(self.imm32.value())))
     }
@@ -607,7 +607,7 @@ impl jp_d32 {
     #[tactic(auto, unfolding(cax64_machine_code::specs::Rows::line_of))]
     pub fn fold_operands<R: Registers, T: FromOperands<R>>(&self) -> T
         ensures value { result ≡ fold T.made_of_none T.made_with T.made_of_nop (operands_jp_d32 {R = R} self.now) }
-        ensures shape { HasShape row.jp_d32 (operands_jp_d32 {R = R} self.now) }
+        ensures shape { HasShape {F = R.WriteXmm} row.jp_d32 (operands_jp_d32 {R = R} {A = R.ReadGpr} {B = R.ReadWriteGpr} {C = R.WriteGpr} {D = R.ReadXmm} {E = R.ReadWriteXmm} self.now) }
     {
         of_one(Operand::Imm(Immediate::Distance32(self.imm32.value())))
     }
@@ -655,7 +655,7 @@ impl jnp_d32 {
     #[tactic(auto, unfolding(cax64_machine_code::specs::Rows::line_of))]
     pub fn fold_operands<R: Registers, T: FromOperands<R>>(&self) -> T
         ensures value { result ≡ fold T.made_of_none T.made_with T.made_of_nop (operands_jnp_d32 {R = R} self.now) }
-        ensures shape { HasShape row.jnp_d32 (operands_jnp_d32 {R = R} self.now) }
+        ensures shape { HasShape {F = R.WriteXmm} row.jnp_d32 (operands_jnp_d32 {R = R} {A = R.ReadGpr} {B = R.ReadWriteGpr} {C = R.WriteGpr} {D = R.ReadXmm} {E = R.ReadWriteXmm} self.now) }
     {
         of_one(Operand::Imm(Immediate::Distance32(self.imm32.value())))
     }
@@ -703,7 +703,7 @@ impl jl_d32 {
     #[tactic(auto, unfolding(cax64_machine_code::specs::Rows::line_of))]
     pub fn fold_operands<R: Registers, T: FromOperands<R>>(&self) -> T
         ensures value { result ≡ fold T.made_of_none T.made_with T.made_of_nop (operands_jl_d32 {R = R} self.now) }
-        ensures shape { HasShape row.jl_d32 (operands_jl_d32 {R = R} self.now) }
+        ensures shape { HasShape {F = R.WriteXmm} row.jl_d32 (operands_jl_d32 {R = R} {A = R.ReadGpr} {B = R.ReadWriteGpr} {C = R.WriteGpr} {D = R.ReadXmm} {E = R.ReadWriteXmm} self.now) }
     {
         of_one(Operand::Imm(Immediate::Distance32(self.imm32.value())))
     }
@@ -751,7 +751,7 @@ impl jge_d32 {
     #[tactic(auto, unfolding(cax64_machine_code::specs::Rows::line_of))]
     pub fn fold_operands<R: Registers, T: FromOperands<R>>(&self) -> T
         ensures value { result ≡ fold T.made_of_none T.made_with T.made_of_nop (operands_jge_d32 {R = R} self.now) }
-        ensures shape { HasShape row.jge_d32 (operands_jge_d32 {R = R} self.now) }
+        ensures shape { HasShape {F = R.WriteXmm} row.jge_d32 (operands_jge_d32 {R = R} {A = R.ReadGpr} {B = R.ReadWriteGpr} {C = R.WriteGpr} {D = R.ReadXmm} {E = R.ReadWriteXmm} self.now) }
     {
         of_one(Operand::Imm(Immediate::Distance32(self.imm32.value())))
     }
@@ -799,7 +799,7 @@ impl jle_d32 {
     #[tactic(auto, unfolding(cax64_machine_code::specs::Rows::line_of))]
     pub fn fold_operands<R: Registers, T: FromOperands<R>>(&self) -> T
         ensures value { result ≡ fold T.made_of_none T.made_with T.made_of_nop (operands_jle_d32 {R = R} self.now) }
-        ensures shape { HasShape row.jle_d32 (operands_jle_d32 {R = R} self.now) }
+        ensures shape { HasShape {F = R.WriteXmm} row.jle_d32 (operands_jle_d32 {R = R} {A = R.ReadGpr} {B = R.ReadWriteGpr} {C = R.WriteGpr} {D = R.ReadXmm} {E = R.ReadWriteXmm} self.now) }
     {
         of_one(Operand::Imm(Immediate::Distance32(self.imm32.value())))
     }
@@ -847,7 +847,7 @@ impl jg_d32 {
     #[tactic(auto, unfolding(cax64_machine_code::specs::Rows::line_of))]
     pub fn fold_operands<R: Registers, T: FromOperands<R>>(&self) -> T
         ensures value { result ≡ fold T.made_of_none T.made_with T.made_of_nop (operands_jg_d32 {R = R} self.now) }
-        ensures shape { HasShape row.jg_d32 (operands_jg_d32 {R = R} self.now) }
+        ensures shape { HasShape {F = R.WriteXmm} row.jg_d32 (operands_jg_d32 {R = R} {A = R.ReadGpr} {B = R.ReadWriteGpr} {C = R.WriteGpr} {D = R.ReadXmm} {E = R.ReadWriteXmm} self.now) }
     {
         of_one(Operand::Imm(Immediate::Distance32(self.imm32.value())))
     }

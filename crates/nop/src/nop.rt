@@ -23,7 +23,7 @@ impl nop_1b {
     /// What is made of the operands, for any family.
     pub fn fold_operands<R: Registers, T: FromOperands<R>>(&self) -> T
         ensures value { result ≡ fold T.made_of_none T.made_with T.made_of_nop (operands_nop_1b {R = R} self.now) }
-        ensures shape { HasShape row.nop_1b (operands_nop_1b {R = R} self.now) }
+        ensures shape { HasShape {F = R.WriteXmm} row.nop_1b (operands_nop_1b {R = R} {A = R.ReadGpr} {B = R.ReadWriteGpr} {C = R.WriteGpr} {D = R.ReadXmm} {E = R.ReadWriteXmm} self.now) }
     {
         T::nop(Nop::One)
     }
@@ -66,7 +66,7 @@ impl nop_2b {
     /// What is made of the operands, for any family.
     pub fn fold_operands<R: Registers, T: FromOperands<R>>(&self) -> T
         ensures value { result ≡ fold T.made_of_none T.made_with T.made_of_nop (operands_nop_2b {R = R} self.now) }
-        ensures shape { HasShape row.nop_2b (operands_nop_2b {R = R} self.now) }
+        ensures shape { HasShape {F = R.WriteXmm} row.nop_2b (operands_nop_2b {R = R} {A = R.ReadGpr} {B = R.ReadWriteGpr} {C = R.WriteGpr} {D = R.ReadXmm} {E = R.ReadWriteXmm} self.now) }
     {
         T::nop(Nop::Two)
     }
@@ -109,7 +109,7 @@ impl nop_3b {
     /// What is made of the operands, for any family.
     pub fn fold_operands<R: Registers, T: FromOperands<R>>(&self) -> T
         ensures value { result ≡ fold T.made_of_none T.made_with T.made_of_nop (operands_nop_3b {R = R} self.now) }
-        ensures shape { HasShape row.nop_3b (operands_nop_3b {R = R} self.now) }
+        ensures shape { HasShape {F = R.WriteXmm} row.nopl_rm (operands_nop_3b {R = R} {A = R.ReadGpr} {B = R.ReadWriteGpr} {C = R.WriteGpr} {D = R.ReadXmm} {E = R.ReadWriteXmm} self.now) }
     {
         T::nop(Nop::Three)
     }
@@ -152,7 +152,7 @@ impl nop_4b {
     /// What is made of the operands, for any family.
     pub fn fold_operands<R: Registers, T: FromOperands<R>>(&self) -> T
         ensures value { result ≡ fold T.made_of_none T.made_with T.made_of_nop (operands_nop_4b {R = R} self.now) }
-        ensures shape { HasShape row.nop_4b (operands_nop_4b {R = R} self.now) }
+        ensures shape { HasShape {F = R.WriteXmm} row.nopl_rm (operands_nop_4b {R = R} {A = R.ReadGpr} {B = R.ReadWriteGpr} {C = R.WriteGpr} {D = R.ReadXmm} {E = R.ReadWriteXmm} self.now) }
     {
         T::nop(Nop::Four)
     }
@@ -195,7 +195,7 @@ impl nop_5b {
     /// What is made of the operands, for any family.
     pub fn fold_operands<R: Registers, T: FromOperands<R>>(&self) -> T
         ensures value { result ≡ fold T.made_of_none T.made_with T.made_of_nop (operands_nop_5b {R = R} self.now) }
-        ensures shape { HasShape row.nop_5b (operands_nop_5b {R = R} self.now) }
+        ensures shape { HasShape {F = R.WriteXmm} row.nopl_rm (operands_nop_5b {R = R} {A = R.ReadGpr} {B = R.ReadWriteGpr} {C = R.WriteGpr} {D = R.ReadXmm} {E = R.ReadWriteXmm} self.now) }
     {
         T::nop(Nop::Five)
     }
@@ -238,7 +238,7 @@ impl nop_6b {
     /// What is made of the operands, for any family.
     pub fn fold_operands<R: Registers, T: FromOperands<R>>(&self) -> T
         ensures value { result ≡ fold T.made_of_none T.made_with T.made_of_nop (operands_nop_6b {R = R} self.now) }
-        ensures shape { HasShape row.nop_6b (operands_nop_6b {R = R} self.now) }
+        ensures shape { HasShape {F = R.WriteXmm} row.nopw_rm (operands_nop_6b {R = R} {A = R.ReadGpr} {B = R.ReadWriteGpr} {C = R.WriteGpr} {D = R.ReadXmm} {E = R.ReadWriteXmm} self.now) }
     {
         T::nop(Nop::Six)
     }
@@ -281,7 +281,7 @@ impl nop_7b {
     /// What is made of the operands, for any family.
     pub fn fold_operands<R: Registers, T: FromOperands<R>>(&self) -> T
         ensures value { result ≡ fold T.made_of_none T.made_with T.made_of_nop (operands_nop_7b {R = R} self.now) }
-        ensures shape { HasShape row.nop_7b (operands_nop_7b {R = R} self.now) }
+        ensures shape { HasShape {F = R.WriteXmm} row.nopl_rm (operands_nop_7b {R = R} {A = R.ReadGpr} {B = R.ReadWriteGpr} {C = R.WriteGpr} {D = R.ReadXmm} {E = R.ReadWriteXmm} self.now) }
     {
         T::nop(Nop::Seven)
     }
@@ -324,7 +324,7 @@ impl nop_8b {
     /// What is made of the operands, for any family.
     pub fn fold_operands<R: Registers, T: FromOperands<R>>(&self) -> T
         ensures value { result ≡ fold T.made_of_none T.made_with T.made_of_nop (operands_nop_8b {R = R} self.now) }
-        ensures shape { HasShape row.nop_8b (operands_nop_8b {R = R} self.now) }
+        ensures shape { HasShape {F = R.WriteXmm} row.nopl_rm (operands_nop_8b {R = R} {A = R.ReadGpr} {B = R.ReadWriteGpr} {C = R.WriteGpr} {D = R.ReadXmm} {E = R.ReadWriteXmm} self.now) }
     {
         T::nop(Nop::Eight)
     }
@@ -367,7 +367,7 @@ impl nop_9b {
     /// What is made of the operands, for any family.
     pub fn fold_operands<R: Registers, T: FromOperands<R>>(&self) -> T
         ensures value { result ≡ fold T.made_of_none T.made_with T.made_of_nop (operands_nop_9b {R = R} self.now) }
-        ensures shape { HasShape row.nop_9b (operands_nop_9b {R = R} self.now) }
+        ensures shape { HasShape {F = R.WriteXmm} row.nopw_rm (operands_nop_9b {R = R} {A = R.ReadGpr} {B = R.ReadWriteGpr} {C = R.WriteGpr} {D = R.ReadXmm} {E = R.ReadWriteXmm} self.now) }
     {
         T::nop(Nop::Nine)
     }
