@@ -1,26 +1,26 @@
 use Rattle.std.proofs.Common.{◌≡◌, ℕ, ◌+◌, ◌≤◌, Bool, true, false, refl, sym, ap, ◌∙◌, Option, Some, None, List, [], ◌∷◌, ◌++◌, length, append_assoc, length-append, Result, arith}
-use Rattle.std.specs.Prelude.{not, ◌&&◌, ◌||◌, option_map}
-use Rattle.std.proofs.lemmas.Bool.{and_parts}
+use Rattle.std.specs.Prelude.{option_map, nat_le, if◌then◌else◌}
+use Rattle.std.proofs.lemmas.Bool.Decides.{nat_tests}
+use Rattle.cax64_machine_code.specs.Len.{opcode_len}
 use Rattle.cax64_machine_code.specs.Prefix.{Rex}
 use Rattle.cax64_machine_code.specs.declared.line.LegacySet.{LegacySet}
 use Rattle.cax64_machine_code.specs.declared.line.Line.{Line}
-use Rattle.cax64_machine_code.specs.declared.line.PrefixField.TheVariants.{LegacyField}
 use Rattle.cax64_machine_code.specs.declared.line.Opcode.{Opcode}
 use Rattle.cax64_address.specs.Emitted as address
+use Rattle.cax64_address.specs.declared.disp.Disp.TheVariants as disp
+use Rattle.cax64_address.specs.declared.tail.DisplacementCode.{DisplacementCode}
+use Rattle.cax64_address.specs.declared.tail.DisplacementCode.TheVariants.{Plain, Relative}
 use Rattle.cax64_prefix.specs.Rex.{rex_byte, rex_bytes}
-use Rattle.cax64_prefix.specs.Vex.{vex_bytes}
-use Rattle.cax64_prefix.specs.declared.vex.VexPrefix.{VexPrefix}
-use Rattle.cax64_prefix.specs.declared.vex.VexPrefix.TheVariants.{TwoByte, ThreeByte}
 use Rattle.cax64_sink.specs.Call.{Action, put}
 use Rattle.cax64_sink.specs.Puts.{puts}
-use Rattle.cax64_sink.specs.Run.{Ran}
+use Rattle.cax64_sink.specs.Run.{Ran, all_bytes}
 use Rattle.cax64_sink.specs.Sink.{State}
 use Rattle.cax64_sink.specs.declared.SinkError.{SinkError}
-use Rattle.cax64_sink.proofs.PutRuns.{puts-append}
+use Rattle.cax64_sink.proofs.PutRuns.{all_bytes-puts, puts-append}
 use Rattle.cax64_encoder.specs.ByteWhen.{byte_of, byte_when}
 use Rattle.cax64_encoder.specs.ImmActions.{optional_imm_actions}
-use Rattle.cax64_encoder.specs.Code.{trap_actions, when, prefix_actions, opcode_actions, tail_actions, line_actions, prefix_bytes, tail_front, tail_rest, front_bytes}
-use Rattle.cax64_encoder.specs.Line.{has_tail, is_line}
+use Rattle.cax64_encoder.specs.Code.{IsShort, byte_displacement, long_displacement, trap_actions, when, prefix_actions, opcode_actions, tail_actions, line_actions, prefix_bytes, tail_front, tail_rest, front_bytes}
+use Rattle.cax64_encoder.specs.Line.{is_line, prefix_size}
 use Rattle.cax64_encoder.proofs.Lines.{line_facts}
 use Rattle.cax64_encoder.specs.declared.code.LineCode.{LineCode}
 use Rattle.cax64_encoder.specs.declared.code.PrefixCode.{PrefixCode}
@@ -28,35 +28,7 @@ use Rattle.cax64_encoder.specs.declared.code.PrefixCode.TheVariants.{Legacy, Vex
 use Rattle.cax64_encoder.specs.declared.code.TailPart.{TailPart}
 use Rattle.cax64_encoder.specs.declared.code.TailPart.TheVariants.{NoTail, Register, Memory}
 
--- The bytes in front of the displacement.
-
--- at most four of them are a prefix
-longer : (a : Bool) (byte most : ℕ) (bytes : List ℕ) → length bytes ≤ most → length (byte_when a byte ++ bytes) ≤ most + 1
-longer true byte most bytes h = omega (arith, h)
-longer false byte most bytes h = omega (arith, h)
-
-one_rex : (rex : Option Rex) → length (rex_bytes rex) ≤ 1
-one_rex None = omega arith
-one_rex (Some rex) = omega arith
-
-repeats : (c d : Bool) (rex : Option Rex) → not (c && d) ≡ true → length (byte_when c 0xF2 ++ (byte_when d 0xF3 ++ rex_bytes rex)) ≤ 2
-repeats true true rex h = cc
-repeats true false rex h = let one = one_rex rex in omega (arith, one)
-repeats false true rex h = let one = one_rex rex in omega (arith, one)
-repeats false false rex h = let one = one_rex rex in omega (arith, one)
-
-pub few_legacy : (set : LegacySet) (rex : Option Rex) → not (set.repne && set.rep) ≡ true → length (prefix_bytes (Legacy set rex)) ≤ 4
-few_legacy set rex h = longer set.lock 0xF0 3 _ (longer set.operand_size 0x66 2 _ (repeats set.repne set.rep rex h))
-
--- of F2 and F3 a line has one at most
-pub set_repeats_once : (line : Line) (set : LegacySet) (rexed : Bool) → line.prefix ≡ LegacyField set rexed → is_line line ≡ true → not (set.repne && set.rep) ≡ true
-set_repeats_once line set rexed is h =
-    let facts = line_facts line h in
-    (and_parts (not (set.repne && set.rep)) (rexed || not (has_tail line.tail)) (rw is at facts.prefix)).0
-
-pub few_vex : (vex : VexPrefix) → length (prefix_bytes (Vex vex)) ≤ 4
-few_vex (TwoByte last) = omega arith
-few_vex (ThreeByte second last) = omega arith
+-- The bytes in front of a long displacement and the immediate.
 
 -- prefixes one behind the other
 pub legacy_bytes : (set : LegacySet) (rex : Option Rex) → (((([] ++ byte_when set.lock 0xF0) ++ byte_when set.operand_size 0x66) ++ byte_when set.repne 0xF2) ++ byte_when set.rep 0xF3) ++ byte_of (option_map rex_byte rex) ≡ prefix_bytes (Legacy set rex)
@@ -95,11 +67,16 @@ opcode_puts opcode bytes = by_escape opcode.escape
 tail_puts : (tail : TailPart) → puts (tail_front tail) ++ tail_rest tail ≡ tail_actions tail
 tail_puts NoTail = refl
 tail_puts (Register modrm) = refl
-tail_puts (Memory code) = by_sib code.sib
+tail_puts (Memory code) = by_sib code.sib code.displacement
   where
-    by_sib : (sib : Option ℕ) → puts (code.modrm ∷ byte_of sib) ++ address.displacement_actions code.displacement ≡ put (code.modrm ∷ []) ∷ (address.sib_actions sib ++ address.displacement_actions code.displacement)
-    by_sib None = refl
-    by_sib (Some sib) = refl
+    last : (displacement : DisplacementCode) → puts (byte_of (byte_displacement displacement)) ++ long_displacement displacement ≡ address.displacement_actions displacement
+    last (Plain disp.None) = refl
+    last (Plain (disp.Imm8 v)) = refl
+    last (Plain (disp.Imm32 v)) = refl
+    last (Relative place word) = refl
+    by_sib : (sib : Option ℕ) (displacement : DisplacementCode) → puts (code.modrm ∷ (byte_of sib ++ byte_of (byte_displacement displacement))) ++ long_displacement displacement ≡ put (code.modrm ∷ []) ∷ (address.sib_actions sib ++ address.displacement_actions displacement)
+    by_sib None displacement = ap (λ (x : List Action). put (code.modrm ∷ []) ∷ x) (last displacement)
+    by_sib (Some sib) displacement = ap (λ (x : List Action). put (code.modrm ∷ []) ∷ (put (sib ∷ []) ∷ x)) (last displacement)
 
 front_puts : (code : LineCode) → puts (front_bytes code) ≡ prefix_actions code.prefix ++ (opcode_actions code.opcode ++ puts (tail_front code.tail))
 front_puts code =
@@ -129,3 +106,15 @@ front_some prefix escape tail byte =
     let whole = length-append prefix (escape ++ (byte ∷ tail)) in
     let last = length-append escape (byte ∷ tail) in
     omega (arith, whole, last)
+
+-- they are few, by what is tested of a line
+pub few : (line : Line) (code : LineCode) → code.opcode ≡ line.opcode → is_line line ≡ true → length (all_bytes (prefix_actions code.prefix)) ≤ prefix_size line.prefix → IsShort code
+few line code same h size =
+    let facts = line_facts line h in
+    let most : prefix_size line.prefix + opcode_len line.opcode ≤ 5 = grind (arith, nat_tests, facts.front) in
+    let bytes : all_bytes (prefix_actions code.prefix) ≡ prefix_bytes code.prefix = ap all_bytes (sym (prefix_puts code.prefix)) ∙ all_bytes-puts (prefix_bytes code.prefix) in
+    record { few = rw same (omega (arith, rw bytes at size, most, escape_is line.opcode.escape)) }
+  where
+    escape_is : (escape : Bool) → length (byte_when escape 0x0F) + 1 ≡ (if escape then 2 else 1)
+    escape_is true = refl
+    escape_is false = refl

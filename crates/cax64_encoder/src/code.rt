@@ -1,13 +1,13 @@
 //! The code of an instruction: the sink calls that write it, as a value.
 
 ghost use Rattle.std.specs.Prelude.{◌≡◌, ◌≤◌, ◌++◌, length};
-ghost use Rattle.cax64_address.specs.Emitted.{displacement_actions};
-ghost use Rattle.cax64_encoder.specs.Code.{IsShort, IsShortCode, code_actions, front_bytes, line_actions, prefix_bytes, tail_front, tail_rest, trap_actions};
+ghost use Rattle.cax64_encoder.specs.Code.{IsShort, IsShortCode, byte_displacement, code_actions, front_bytes, line_actions, long_displacement, prefix_bytes, tail_front, tail_rest, trap_actions};
 ghost use Rattle.cax64_sink.specs.Run.{Ran, all_bytes};
 
 use crate::imm::put_optional_imm;
 use crate::nop::put_nop;
 use crate::short::Short;
+use cax64_address::disp::Disp;
 use cax64_address::tail::{DisplacementCode, TailCode};
 use cax64_machine_code::line::{LegacySet, Opcode};
 use cax64_operand::{ImmOperand, Nop};
@@ -59,16 +59,32 @@ fn put_trap<S: CodeSink>(sink: &mut S, trap: Option<TrapCode>) -> Result<(), Sin
     }
 }
 
-/// Puts a displacement, and tells the sink first of what it refers to.
+/// The displacement, if it is one byte.
 #[inline(always)]
-fn put_displacement<S: CodeSink>(
+fn byte_displacement(displacement: DisplacementCode) -> Option<u8>
+    ensures { result ≡ byte_displacement displacement }
+{
+    match displacement {
+        DisplacementCode::Plain(Disp::Imm8(value)) => Some(value.cast_unsigned()),
+        DisplacementCode::Plain(Disp::None) => None,
+        DisplacementCode::Plain(Disp::Imm32(_)) => None,
+        DisplacementCode::Relative(_, _) => None,
+    }
+}
+
+/// Puts a displacement of four bytes, and tells the sink first of what it refers to.
+#[tactic(auto, using(cax64_sink::proofs::Runs::ran_none, cax64_sink::proofs::Runs::ran_one))]
+#[inline(always)]
+fn put_long_displacement<S: CodeSink>(
     sink: &mut S,
     displacement: DisplacementCode,
 ) -> Result<(), SinkError>
-    ensures { Ran (displacement_actions displacement) (S.state sink.old) (S.state sink.new) result }
+    ensures { Ran (long_displacement displacement) (S.state sink.old) (S.state sink.new) result }
 {
     match displacement {
-        DisplacementCode::Plain(disp) => disp.emit(sink),
+        DisplacementCode::Plain(Disp::None) => Ok(()),
+        DisplacementCode::Plain(Disp::Imm8(_)) => Ok(()),
+        DisplacementCode::Plain(Disp::Imm32(value)) => sink.put4(value.cast_unsigned()),
         DisplacementCode::Relative(place, word) => {
             sink.use_target(place)?;
             sink.put4(word)
@@ -99,16 +115,19 @@ impl PrefixCode {
 }
 
 impl TailPart {
-    /// ModR/M and SIB behind these bytes.
+    /// ModR/M, SIB and a displacement of one byte behind these bytes.
     #[inline(always)]
     fn behind(self, short: Short) -> Short
-        requires { length short ≤ 6 }
+        requires { length short ≤ 5 }
         ensures bytes { result ≡ short ++ tail_front self }
     {
         match self {
             TailPart::NoTail => short,
             TailPart::Register(modrm) => short.push(modrm),
-            TailPart::Memory(code) => short.push(code.modrm).push_some(code.sib),
+            TailPart::Memory(code) => {
+                let address = short.push(code.modrm).push_some(code.sib);
+                address.push_some(byte_displacement(code.displacement))
+            }
         }
     }
 
@@ -120,16 +139,16 @@ impl TailPart {
         match self {
             TailPart::NoTail => Ok(()),
             TailPart::Register(_) => Ok(()),
-            TailPart::Memory(code) => put_displacement(sink, code.displacement),
+            TailPart::Memory(code) => put_long_displacement(sink, code.displacement),
         }
     }
 }
 
 impl LineCode {
-    /// The bytes in front of the displacement: prefixes, opcode, ModR/M and SIB.
+    /// The bytes that are put one at a time: prefixes, opcode, ModR/M, SIB and a displacement of one byte.
     #[inline(always)]
     fn front(&self) -> Short
-        requires { IsShort self.now.prefix }
+        requires { IsShort self.now }
         ensures bytes { result ≡ front_bytes self.now }
         ensures some { 1 ≤ length result }
     {
@@ -140,10 +159,10 @@ impl LineCode {
         self.tail.behind(opcode)
     }
 
-    /// The trap is told first; then come the bytes in front as one word, the displacement and the immediate.
+    /// The trap is told first; then come the bytes in front as one word, a long displacement and the immediate.
     #[inline(always)]
     fn put<S: CodeSink>(&self, sink: &mut S) -> Result<(), SinkError>
-        requires { IsShort self.now.prefix }
+        requires { IsShort self.now }
         ensures { Ran (line_actions self.now) (S.state sink.old) (S.state sink.new) result }
     {
         put_trap(sink, self.trap)?;

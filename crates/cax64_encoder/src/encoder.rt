@@ -160,8 +160,7 @@ fn prefix_of<M: AsReg>(
     requires place { IsTrue (place_is_real M.settled M.enc place.now) }
     requires vvvv_fits { IsTrue (vvvv_fits line.prefix vvvv) }
     requires bare { IsTrue (has_tail line.tail || (is_no_place place.now && (reg == 0))) }
-    ensures bytes { PrefixFor M.enc line reg vvvv place.now (all_bytes (prefix_actions result)) }
-    ensures short { IsShort result }
+    ensures { PrefixFor M.enc line reg vvvv place.now (all_bytes (prefix_actions result)) }
 {
     let w = w_bit(line.w);
     let numbers = numbers_of(place);
@@ -227,7 +226,7 @@ fn code_of<M: AsReg>(line: Line, form: &Form<M>, displacement: i32) -> LineCode
         → EncodesParts (form_parts M.enc row displacement form.now) (memory_in form.now.place) (line_actions result) }
     ensures length { (row : Row) → line_of row ≡ line
         → length (all_bytes (line_actions result)) ≡ len_of (form_parts M.enc row displacement form.now) }
-    ensures short { IsShort result.prefix }
+    ensures short { IsShort result }
 {
     let reg = reg_number(line.tail, form.reg);
     LineCode {

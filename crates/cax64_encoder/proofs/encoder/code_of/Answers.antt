@@ -1,4 +1,4 @@
-use Rattle.std.proofs.Common.{◌≡◌, length, w32}
+use Rattle.std.proofs.Common.{◌≡◌, length, w32, refl}
 use Rattle.std.proofs.lemmas.Int.{to_z-of_z}
 use Rattle.cax64_machine_code.specs.Len.{tail_len}
 use Rattle.cax64_sink.specs.Run.{all_bytes}
@@ -8,6 +8,7 @@ use Rattle.cax64_encoder.specs.Place.{place_read}
 use Rattle.cax64_encoder.specs.Prefix.{reg_number, register_number, PrefixFor}
 use Rattle.cax64_operand.specs.Immediate.{imm_size}
 use Rattle.cax64_encoder.proofs.Whole.{place_real, vvvv_real, bare_is, vvvv_fit, reg_below, prefix_quiet, line_encodes}
+use Rattle.cax64_encoder.proofs.Front.{few}
 use Rattle.cax64_encoder.proofs.Lengths.{length_is}
 use Rattle.cax64_encoder.proofs.encoder.code_of.Goals as goal
 
@@ -34,12 +35,15 @@ tail_part-requires-clause-place g c = place_real g.M.AsReg.settled g.M.AsReg.enc
 
 pub returns-clause-encodes : goal.returns-clause-encodes
 returns-clause-encodes g c row e =
-    let prefix : PrefixFor g.M.AsReg.enc c.args.line (register_number c.args.form.now.reg) c.args.form.now.vvvv c.args.form.now.place (all_bytes (prefix_actions c.prefix_of.result)) = rw c.register_number.ensures.number at c.prefix_of.ensures.bytes in
+    let prefix : PrefixFor g.M.AsReg.enc c.args.line (register_number c.args.form.now.reg) c.args.form.now.vvvv c.args.form.now.place (all_bytes (prefix_actions c.prefix_of.result)) = rw c.register_number.ensures.number at c.prefix_of.ensures in
     let tail : TailPartOf g.M.AsReg.enc c.args.displacement (imm_size c.args.form.now.imm) (reg_number c.args.line.tail c.args.form.now.reg) c.args.form.now.place (tail_actions c.tail_part.result) = rw (c.reg_number-reg.ensures, c.imm_size.ensures, to_z-of_z w32 c.args.displacement c.ranges.displacement) at c.tail_part.ensures.tail in
     rw c.trap_of.ensures (line_encodes g.M.AsReg.enc row c.args.line c.args.form.now c.args.displacement (prefix_actions c.prefix_of.result) (tail_actions c.tail_part.result) e c.requires.line c.requires.fits prefix (prefix_quiet c.prefix_of.result) tail c.tail_part.ensures.bytes)
 
 pub returns-clause-length : goal.returns-clause-length
 returns-clause-length g c row e =
-    let prefix : PrefixFor g.M.AsReg.enc c.args.line (register_number c.args.form.now.reg) c.args.form.now.vvvv c.args.form.now.place (all_bytes (prefix_actions c.prefix_of.result)) = rw c.register_number.ensures.number at c.prefix_of.ensures.bytes in
+    let prefix : PrefixFor g.M.AsReg.enc c.args.line (register_number c.args.form.now.reg) c.args.form.now.vvvv c.args.form.now.place (all_bytes (prefix_actions c.prefix_of.result)) = rw c.register_number.ensures.number at c.prefix_of.ensures in
     let tail : length (all_bytes (tail_actions c.tail_part.result)) ≡ tail_len (place_read g.M.AsReg.enc c.args.displacement (imm_size c.args.form.now.imm) c.args.form.now.place) = rw (c.imm_size.ensures, to_z-of_z w32 c.args.displacement c.ranges.displacement) at c.tail_part.ensures.length in
     length_is g.M.AsReg.enc row c.args.line c.args.form.now c.args.displacement c.trap_of.result (prefix_actions c.prefix_of.result) (tail_actions c.tail_part.result) e c.requires.line c.requires.fits prefix.length tail
+
+pub returns-clause-short : goal.returns-clause-short
+returns-clause-short g c = few c.args.line _ refl c.requires.line c.prefix_of.ensures.size
