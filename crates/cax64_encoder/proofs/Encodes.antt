@@ -35,7 +35,8 @@ use Rattle.cax64_prefix.specs.Rex.{is_special_if_8bit}
 use Rattle.cax64_encoder.specs.Code.{when, trap_actions, opcode_actions}
 use Rattle.cax64_encoder.specs.Form.{reg_fits}
 use Rattle.cax64_encoder.specs.ImmActions.{imm_actions, optional_imm_actions}
-use Rattle.cax64_encoder.specs.Line.{first_byte, is_digit, uses_8bit_reg, uses_8bit_place}
+use Rattle.cax64_encoder.specs.Line.{first_byte, is_digit}
+use Rattle.cax64_table.specs.Numbers.{uses_8bit_reg, uses_8bit_place}
 use Rattle.cax64_encoder.specs.Notices.{trap_notice}
 use Rattle.cax64_encoder.specs.Number.{number_value}
 use Rattle.cax64_encoder.specs.Prefix.{reg_number, register_number}

@@ -26,7 +26,8 @@ use Rattle.cax64_encoder.specs.Code.{trap_actions, opcode_actions}
 use Rattle.cax64_encoder.specs.Encodes.{form_parts}
 use Rattle.cax64_encoder.specs.Form.{tail_fits, vvvv_fits, fits}
 use Rattle.cax64_encoder.specs.ImmActions.{optional_imm_actions}
-use Rattle.cax64_encoder.specs.Line.{is_8bit_once, has_8bit, is_line}
+use Rattle.cax64_encoder.specs.Line.{is_8bit_once, is_line}
+use Rattle.cax64_table.specs.Numbers.{has_8bit}
 use Rattle.cax64_encoder.specs.Number.{number_value}
 use Rattle.cax64_encoder.specs.Place.{place_read}
 use Rattle.cax64_encoder.specs.Prefix.{register_number, amode_high, place_high, place_special, rex_stands, written_prefix_len}

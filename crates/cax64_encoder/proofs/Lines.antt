@@ -6,7 +6,8 @@ use Rattle.cax64_prefix.proofs.Prefixes.{IsPlain}
 use Rattle.cax64_machine_code.specs.Len.{opcode_len}
 use Rattle.cax64_machine_code.specs.Line.{imm_bytes}
 use Rattle.cax64_machine_code.specs.declared.line.Line.{Line}
-use Rattle.cax64_encoder.specs.Line.{is_plain, first_byte, is_prefix_field, is_w, is_w0, has_tail, is_digit, is_vex, has_8bit, prefix_size, tail_size, is_8bit_once, is_line}
+use Rattle.cax64_encoder.specs.Line.{is_plain, first_byte, is_prefix_field, is_w, is_w0, has_tail, is_digit, is_vex, prefix_size, tail_size, is_8bit_once, is_line}
+use Rattle.cax64_table.specs.Numbers.{has_8bit}
 
 neither : (a b : Bool) → not (a || b) ≡ true → (a ≡ false) × (not b ≡ true)
 neither true b h = cc

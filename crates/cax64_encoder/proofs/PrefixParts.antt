@@ -32,7 +32,8 @@ use Rattle.cax64_prefix.proofs.RexBits.{AreBits}
 use Rattle.cax64_prefix.proofs.Prefixes.{legacy_bytes, prefix_back, prefix_vex}
 use Rattle.cax64_encoder.specs.Code.{when, set_actions}
 use Rattle.cax64_encoder.specs.Form.{is_no_place, is_absent, vvvv_fits}
-use Rattle.cax64_encoder.specs.Line.{first_byte, is_line, is_w0, has_tail, has_8bit, uses_8bit_reg, uses_8bit_place}
+use Rattle.cax64_encoder.specs.Line.{first_byte, is_line, is_w0, has_tail}
+use Rattle.cax64_table.specs.Numbers.{has_8bit, uses_8bit_reg, uses_8bit_place}
 use Rattle.cax64_encoder.specs.Number.{number_value, is_real_number}
 use Rattle.cax64_encoder.specs.Prefix.{PrefixFor, rex_stands, place_special, place_high, amode_high}
 use Rattle.cax64_encoder.specs.Real.{place_is_real, place_x, place_b}

@@ -39,6 +39,7 @@ use Rattle.cax64_machine_code.specs.declared.line.TailField.TheVariants.{NoTail,
 use Rattle.cax64_machine_code.proofs.Matched.{reads_as, reads_as_tail, reads_as_row}
 use Rattle.cax64_machine_code.proofs.Written.{IsPrefix, IsImm, DigitIs, bare_found, tail_found}
 use Rattle.cax64_sink.specs.Puts.{puts}
+use Rattle.cax64_table.specs.Numbers.{digit_of}
 use Rattle.cax64_prefix.specs.Rex.{rex_bytes}
 use Rattle.cax64_prefix.specs.Vex.{vex_bytes}
 use Rattle.cax64_sink.proofs.PutRuns.{all_notices-puts}
@@ -376,6 +377,28 @@ reg_is_below (Modrm Register field) (Some Unsettled) hd hr = cc
 
 pub reg_below : {M : Type 0} (settled : M → Bool) (enc : M → ℕ) (line : Line) (o : Form M) → is_line line ≡ true → form_is_real settled enc o ≡ true → reg_number line.tail o.reg < 16
 reg_below settled enc line o hl h = reg_is_below line.tail o.reg (line_facts line hl).digit (and_parts (is_absent_or_real o.reg) _ h).0
+
+-- a digit stands where there is no register, and no register where there is a digit
+pub digit_or_register : {M : Type 0} (line : Line) (o : Form M) → fits line o ≡ true → register_number o.reg + digit_of line.tail ≡ reg_number line.tail o.reg
+digit_or_register line o h = by_tail line.tail o.reg (and_parts (tail_fits line.tail o.reg o.place) _ h).0
+  where
+    by_field : (field : RegField) (pf : PlaceField) (number : Option Number) → reg_fits field number ≡ true → register_number number + digit_of (Modrm field pf) ≡ reg_number (Modrm field pf) number
+    by_field (Digit d) pf None h = omega arith
+    by_field (Digit d) pf (Some number) h = cc
+    by_field Register8 pf None h = cc
+    by_field Register8 pf (Some number) h = omega arith
+    by_field Register pf None h = cc
+    by_field Register pf (Some number) h = omega arith
+    by_tail : (tail : TailField) (number : Option Number) → tail_fits tail number o.place ≡ true → register_number number + digit_of tail ≡ reg_number tail number
+    by_tail NoTail None h = refl
+    by_tail NoTail (Some number) h = cc
+    by_tail (Modrm field pf) number h = by_field field pf number (and_parts (reg_fits field number) _ h).0
+
+-- the row has as many bytes of immediate as the form
+pub imm_sized_as : {M : Type 0} (line : Line) (o : Form M) → fits line o ≡ true → imm_bytes line.imm ≡ imm_size o.imm
+imm_sized_as line o h =
+    let q = and_parts (vvvv_fits line.prefix o.vvvv) (imm_fits line.imm o.imm) (and_parts (tail_fits line.tail o.reg o.place) _ h).1 in
+    imm_same line.imm o.imm q.1
 
 pub prefix_quiet : (code : PrefixCode) (k : ℕ) → all_notices (prefix_actions code) k ≡ []
 prefix_quiet (Legacy set rex) k = all_notices_append (set_actions set) (puts (rex_bytes rex)) k ∙ rw (set_quiet set k) (all_notices-puts (rex_bytes rex) _)

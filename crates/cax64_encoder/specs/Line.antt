@@ -9,6 +9,7 @@ use Rattle.cax64_machine_code.specs.declared.line.RegField.TheVariants.{Digit, R
 use Rattle.cax64_machine_code.specs.declared.line.PlaceField.TheVariants.{Memory, RegisterOrMemory, Register8OrMemory}
 use Rattle.cax64_machine_code.specs.declared.line.TailField.{TailField}
 use Rattle.cax64_machine_code.specs.declared.line.TailField.TheVariants.{NoTail, Modrm}
+use Rattle.cax64_table.specs.Numbers.{has_8bit}
 
 -- Whether a line can be encoded: a test that is computed over the whole table.
 
@@ -49,23 +50,6 @@ is_digit NoTail = true
 is_digit (Modrm (Digit d) field) = nat_lt d 8
 is_digit (Modrm Register8 field) = true
 is_digit (Modrm Register field) = true
-
--- the reg field is an 8-bit register, the place may be one
-abbrev pub uses_8bit_reg : TailField → Bool
-uses_8bit_reg NoTail = false
-uses_8bit_reg (Modrm (Digit d) field) = false
-uses_8bit_reg (Modrm Register8 field) = true
-uses_8bit_reg (Modrm Register field) = false
-
-abbrev pub uses_8bit_place : TailField → Bool
-uses_8bit_place NoTail = false
-uses_8bit_place (Modrm reg Memory) = false
-uses_8bit_place (Modrm reg RegisterOrMemory) = false
-uses_8bit_place (Modrm reg Register8OrMemory) = true
-
--- a row with an r8 or rm8 field
-abbrev pub has_8bit : TailField → Bool
-has_8bit tail = uses_8bit_reg tail || uses_8bit_place tail
 
 -- an 8-bit register stands in reg beside memory alone, and an 8-bit place beside a digit alone
 abbrev pub is_8bit_once : TailField → Bool

@@ -6,67 +6,38 @@ ghost use Rattle.cax64_encoder.specs.Code.{IsShort, IsShortCode, prefix_actions,
 ghost use Rattle.cax64_encoder.specs.Encodes.{TailPartOf, EncodesParts, EncodesAs, form_parts};
 ghost use Rattle.cax64_encoder.specs.Fault.{is_encodable};
 ghost use Rattle.cax64_encoder.specs.Form.{is_no_place, vvvv_fits, fits};
-ghost use Rattle.cax64_encoder.specs.Line.{has_8bit, has_tail, is_w, is_w0, is_line};
+ghost use Rattle.cax64_encoder.specs.Line.{has_tail, is_w, is_w0, is_line};
 ghost use Rattle.cax64_encoder.specs.Meant.{meant_of};
 ghost use Rattle.cax64_encoder.specs.Number.{number_value};
 ghost use Rattle.cax64_encoder.specs.Place.{memory_in, place_read};
-ghost use Rattle.cax64_encoder.specs.Prefix.{reg_number, register_number, place_high, place_special, PrefixFor};
+ghost use Rattle.cax64_encoder.specs.Prefix.{register_number, place_high, place_special, PrefixFor};
 ghost use Rattle.cax64_encoder.specs.Real.{form_is_real, place_is_real, is_absent_or_real, place_x, place_b, trap_in};
 ghost use Rattle.cax64_machine_code.specs.Fields.{IsBytes};
 ghost use Rattle.cax64_machine_code.specs.Len.{is_w1, tail_len, len_of};
-ghost use Rattle.cax64_machine_code.specs.Line.{w_matches};
+ghost use Rattle.cax64_machine_code.specs.Line.{imm_bytes, w_matches};
 ghost use Rattle.cax64_machine_code.specs.Prefix.{rex_bits};
 ghost use Rattle.cax64_machine_code.specs.Rows.{line_of};
 ghost use Rattle.cax64_machine_code.specs.declared.row.Row.{Row};
 ghost use Rattle.cax64_prefix.specs.Rex.{is_special_if_8bit};
-ghost use Rattle.cax64_operand.specs.Immediate.{imm_size};
 ghost use Rattle.cax64_operand.specs.Shape.{HasShape};
 ghost use Rattle.cax64_sink.specs.Run.{all_bytes};
+ghost use Rattle.cax64_table.specs.Numbers.{digit_of, has_8bit};
 
 use crate::code::{Code, LineCode, PrefixCode, TailPart};
 use crate::content::Content;
 use crate::form::Form;
-use crate::imm::imm_size;
 use crate::number::Number;
 use crate::role::PlaceOperand;
 use cax64_address::amode::Amode;
 use cax64_address::disp::encode_modrm;
 use cax64_address::tail::tail_of;
-use cax64_machine_code::line::{Line, PlaceField, PrefixField, RegField, TailField};
+use cax64_machine_code::line::{Line, PrefixField};
 use cax64_operand::{RegisterFamily, RowAndOperands};
 use cax64_prefix::rex::{RexPrefix, is_special_if_8bit};
 use cax64_prefix::vex::VexPrefix;
 use cax64_register::AsReg;
 use cax64_sink::{CodeSink, TrapCode};
-use cax64_table::line;
-
-/// Whether a row has an 8-bit register field.
-#[inline(always)]
-fn has_8bit(tail: TailField) -> bool
-    ensures { result ≡ has_8bit tail }
-{
-    match tail {
-        TailField::NoTail => false,
-        TailField::Modrm(RegField::Register8, _) => true,
-        TailField::Modrm(_, PlaceField::Register8OrMemory) => true,
-        TailField::Modrm(_, _) => false,
-    }
-}
-
-/// The number in the reg field: the digit, or the register's.
-#[inline(always)]
-fn reg_number(tail: TailField, reg: Option<Number>) -> u8
-    ensures { result ≡ reg_number tail reg }
-{
-    match tail {
-        TailField::NoTail => 0,
-        TailField::Modrm(RegField::Digit(digit), _) => digit,
-        TailField::Modrm(_, _) => match reg {
-            Some(number) => number.value(),
-            None => 0,
-        },
-    }
-}
+use cax64_table::{LineNumbers, line, line_numbers};
 
 /// The numbers that a prefix holds of a place.
 #[derive(Clone, Copy)]
@@ -150,11 +121,13 @@ fn w_bit(w: Option<u8>) -> bool
 #[inline(always)]
 fn prefix_of<M: AsReg>(
     line: Line,
+    uses_8bit: bool,
     reg: u8,
     vvvv: Option<Number>,
     place: &PlaceOperand<M>,
 ) -> PrefixCode
     requires line { IsTrue (is_line line) }
+    requires uses_8bit { uses_8bit ≡ has_8bit line.tail }
     requires reg { reg < 16 }
     requires vvvv { IsTrue (is_absent_or_real vvvv) }
     requires place { IsTrue (place_is_real M.settled M.enc place.now) }
@@ -166,7 +139,7 @@ fn prefix_of<M: AsReg>(
     let numbers = numbers_of(place);
     match line.prefix {
         PrefixField::LegacyField(set, _) => {
-            PrefixCode::Legacy(set, rex_of(w, has_8bit(line.tail), reg, numbers))
+            PrefixCode::Legacy(set, rex_of(w, uses_8bit, reg, numbers))
         }
         PrefixField::VexField(pp, map, l, _) => PrefixCode::Vex(VexPrefix::three_op(
             reg,
@@ -218,8 +191,16 @@ fn trap_of<M: AsReg>(place: &PlaceOperand<M>) -> Option<TrapCode>
 
 /// The code of the instruction of a line with these operands, whose memory operand has this displacement.
 #[inline(always)]
-fn code_of<M: AsReg>(line: Line, form: &Form<M>, displacement: i32) -> LineCode
+fn code_of<M: AsReg>(
+    line: Line,
+    numbers: LineNumbers,
+    form: &Form<M>,
+    displacement: i32,
+) -> LineCode
     requires line { IsTrue (is_line line) }
+    requires digit { numbers.digit ≡ digit_of line.tail }
+    requires uses_8bit { numbers.uses_8bit ≡ has_8bit line.tail }
+    requires imm_len { numbers.imm_len ≡ imm_bytes line.imm }
     requires fits { IsTrue (fits line form.now) }
     requires real { IsTrue (form_is_real M.settled M.enc form.now) }
     ensures encodes { (row : Row) → line_of row ≡ line
@@ -228,12 +209,14 @@ fn code_of<M: AsReg>(line: Line, form: &Form<M>, displacement: i32) -> LineCode
         → length (all_bytes (line_actions result)) ≡ len_of (form_parts M.enc row displacement form.now) }
     ensures short { IsShort result }
 {
-    let reg = reg_number(line.tail, form.reg);
+    let register = register_number(form.reg);
+    // Where there is a digit there is no register, which then counts as 0.
+    let reg = register + numbers.digit;
     LineCode {
         trap: trap_of(&form.place),
-        prefix: prefix_of(line, register_number(form.reg), form.vvvv, &form.place),
+        prefix: prefix_of(line, numbers.uses_8bit, register, form.vvvv, &form.place),
         opcode: line.opcode,
-        tail: tail_part(reg, &form.place, displacement, imm_size(form.imm)),
+        tail: tail_part(reg, &form.place, displacement, numbers.imm_len),
         imm: form.imm,
     }
 }
@@ -251,7 +234,8 @@ pub fn code_in<I: RowAndOperands, S: CodeSink>(inst: &I, sink: &S) -> Code
         Content::Nop(nop) => Code::Nop(nop),
         Content::Operands(form) => {
             let displacement = form.place.displacement(sink);
-            Code::Line(code_of(line(inst.row()), &form, displacement))
+            let row = inst.row();
+            Code::Line(code_of(line(row), line_numbers(row), &form, displacement))
         }
     }
 }

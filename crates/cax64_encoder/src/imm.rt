@@ -2,7 +2,6 @@
 
 ghost use Rattle.std.specs.Prelude.{◌≡◌};
 ghost use Rattle.cax64_encoder.specs.ImmActions.{imm_actions, optional_imm_actions};
-ghost use Rattle.cax64_operand.specs.Immediate.{imm_size};
 ghost use Rattle.cax64_sink.specs.Run.{Ran};
 
 use cax64_operand::ImmOperand;
@@ -32,16 +31,5 @@ pub fn put_optional_imm<S: CodeSink>(sink: &mut S, imm: Option<ImmOperand>) -> R
     match imm {
         Some(imm) => put_imm(sink, imm),
         None => Ok(()),
-    }
-}
-
-/// The number of bytes of an immediate, 0 where there is none.
-#[inline(always)]
-pub fn imm_size(imm: Option<ImmOperand>) -> u8
-    ensures { result ≡ imm_size imm }
-{
-    match imm {
-        Some(imm) => imm.size(),
-        None => 0,
     }
 }

@@ -2,6 +2,7 @@
 pub mod Cursor
 pub mod Prefix
 pub mod Digit
+pub mod Numbers
 -- Steps of the proofs.
 pub mod Packed
 pub mod Key

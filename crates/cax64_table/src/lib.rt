@@ -7,4 +7,4 @@ pub mod lookup;
 mod packed;
 pub mod prefix;
 
-pub use packed::line;
+pub use packed::{LineNumbers, line, line_numbers};

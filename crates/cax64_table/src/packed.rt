@@ -3,7 +3,9 @@
 ghost use Rattle.std.specs.Prelude.{◌≡◌, ◌≤◌, ◌/◌, ◌%◌, ◌^◌, ◌<◌, nat_lt, true, false, length, All, Contains};
 ghost use Rattle.std.specs.Option.{ForSome};
 ghost use Rattle.std.specs.List.Sorted.{IsNonDecreasingBy, IsPartitionPoint};
+ghost use Rattle.cax64_machine_code.specs.Line.{imm_bytes};
 ghost use Rattle.cax64_machine_code.specs.Rows.{line_of};
+ghost use Rattle.cax64_table.specs.Numbers.{digit_of, has_8bit};
 ghost use Rattle.cax64_table.specs.Packed.{prefix_field, w_field, opcode_field, place_field, tail_field, imm_field, unpacked, flag_at, number_of, entry_of};
 ghost use Rattle.cax64_table.specs.Key.{key_of, row_key, HasKey};
 ghost use Rattle.cax64_machine_code.specs.declared.row.Row.{Row};
@@ -523,4 +525,31 @@ pub fn line(row: Row) -> Line
     ensures { result ≡ line_of row }
 {
     unpack(entry(row))
+}
+
+/// What the bytes of a row's instructions take of its line as numbers, read without a look at its cases.
+#[derive(Clone, Copy)]
+pub struct LineNumbers {
+    /// The digit in the reg field, 0 where a register or nothing stands there.
+    pub digit: u8,
+    /// Whether the row has an 8-bit register field.
+    pub uses_8bit: bool,
+    /// How many bytes of immediate there are.
+    pub imm_len: u8,
+}
+
+/// What the bytes of a row's instructions take of its line as numbers.
+#[inline(always)]
+pub fn line_numbers(row: Row) -> LineNumbers
+    ensures digit { result.digit ≡ digit_of (line_of row).tail }
+    ensures uses_8bit { result.uses_8bit ≡ has_8bit (line_of row).tail }
+    ensures imm_len { result.imm_len ≡ imm_bytes (line_of row).imm }
+{
+    let packed = entry(row);
+    LineNumbers {
+        // Of 8, which stands for no digit, the lowest bits are 0.
+        digit: bits(packed, 17, 3),
+        uses_8bit: (bits(packed, 15, 2) == 2) | (bits(packed, 13, 2) == 2),
+        imm_len: bits(packed, 0, 3),
+    }
 }

@@ -35,7 +35,16 @@ displacement-displacement-requires g c =
     rw known.1 (is_addressable f row o known.0 g.met.I.Family.WriteGpr.AsReg.same _ c.requires)
 
 pub code_of-requires-clause-line : goal.code_of-requires-clause-line
-code_of-requires-clause-line g c = rw c.line.ensures (row_is_line c.row.result)
+code_of-requires-clause-line g c = rw c.line.ensures (row_is_line c.row-row.result)
+
+pub code_of-requires-clause-digit : goal.code_of-requires-clause-digit
+code_of-requires-clause-digit g c = rw c.line.ensures c.line_numbers.ensures.digit
+
+pub code_of-requires-clause-uses_8bit : goal.code_of-requires-clause-uses_8bit
+code_of-requires-clause-uses_8bit g c = rw c.line.ensures c.line_numbers.ensures.uses_8bit
+
+pub code_of-requires-clause-imm_len : goal.code_of-requires-clause-imm_len
+code_of-requires-clause-imm_len g c = rw c.line.ensures c.line_numbers.ensures.imm_len
 
 pub code_of-requires-clause-fits : goal.code_of-requires-clause-fits
 code_of-requires-clause-fits g c =
@@ -44,7 +53,7 @@ code_of-requires-clause-fits g c =
     let row = g.I.RowAndOperands.row_of c.args.inst.now in
     let kept : content_of f o ≡ content.Operands c.in-Operands.form = sym (c.fold_operands-content.ensures.value ∙ content_is f o) ∙ c.in-Operands.is in
     let known = form_is f o c.in-Operands.form kept in
-    rw (c.line.ensures, c.row.ensures, known.1) (fits_row f row o known.0 c.fold_operands-content.ensures.shape)
+    rw (c.line.ensures, c.row-row.ensures, known.1) (fits_row f row o known.0 c.fold_operands-content.ensures.shape)
 
 pub code_of-requires-clause-real : goal.code_of-requires-clause-real
 code_of-requires-clause-real g c =
@@ -64,7 +73,7 @@ returns-in-Operands-clause-encodes g c =
     let known = form_is f o c.in-Operands.form kept in
     let offsets = (g.S.CodeSink.state c.args.sink.now).offsets in
     let form = c.in-Operands.form in
-    let line = c.line.ensures ∙ ap line_of c.row.ensures in
+    let line = c.line.ensures ∙ ap line_of c.row-row.ensures in
     let fits : FitsSigned w32 c.displacement-displacement.result = search rules in
     let is = to_z-of_z w32 c.displacement-displacement.result fits ∙ c.displacement-displacement.ensures in
     let written : EncodesParts (form_parts g.I.Family.ReadGpr.AsReg.enc row (displacement_in offsets form.place) form) (memory_in form.place) (line_actions c.code_of.result) = rw is at c.code_of.ensures.encodes row (sym line) in
