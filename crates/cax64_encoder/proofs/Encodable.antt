@@ -1,4 +1,4 @@
-use Rattle.std.proofs.Common.{◌≡◌, ℕ, Bool, true, false, refl, ◌∙◌, ap, sym, Option, Some, None, List, length, ℤ}
+use Rattle.std.proofs.Common.{◌≡◌, ℕ, Bool, true, refl, ◌∙◌, ap, sym, Option, Some, None, List, length, ℤ}
 use Rattle.std.specs.Prelude.{◌↔◌, IsTrue, is_none}
 use Rattle.std.proofs.lemmas.Bool.{and_parts}
 use Rattle.cax64_machine_code.specs.Len.{len_of}

@@ -1,5 +1,5 @@
 use Rattle.std.proofs.Common.{◌≡◌, ℕ, ◌+◌, ◌≤◌, Bool, true, false, refl, sym, ap, ◌∙◌, Option, Some, None, List, [], ◌∷◌, ◌++◌, length, append_assoc, length-append, Result, arith}
-use Rattle.std.specs.Prelude.{option_map, nat_le, if◌then◌else◌}
+use Rattle.std.specs.Prelude.{option_map, if◌then◌else◌}
 use Rattle.std.proofs.lemmas.Bool.Decides.{nat_tests}
 use Rattle.cax64_machine_code.specs.Len.{opcode_len}
 use Rattle.cax64_machine_code.specs.Prefix.{Rex}
@@ -74,6 +74,7 @@ tail_puts (Memory code) = by_sib code.sib code.displacement
     last (Plain (disp.Imm8 v)) = refl
     last (Plain (disp.Imm32 v)) = refl
     last (Relative place word) = refl
+
     by_sib : (sib : Option ℕ) (displacement : DisplacementCode) → puts (code.modrm ∷ (byte_of sib ++ byte_of (byte_displacement displacement))) ++ long_displacement displacement ≡ put (code.modrm ∷ []) ∷ (address.sib_actions sib ++ address.displacement_actions displacement)
     by_sib None displacement = ap (λ (x : List Action). put (code.modrm ∷ []) ∷ x) (last displacement)
     by_sib (Some sib) displacement = ap (λ (x : List Action). put (code.modrm ∷ []) ∷ (put (sib ∷ []) ∷ x)) (last displacement)

@@ -1,4 +1,4 @@
-use Rattle.std.proofs.Common.{◌≡◌, ℕ, Bool, true, refl, ◌∙◌, ap, sym, List, Option, Some, None, ℤ, pos, ◌-ℤ◌}
+use Rattle.std.proofs.Common.{◌≡◌, ℕ, Bool, true, refl, ap, sym, Option, Some, None, ℤ, pos, ◌-ℤ◌}
 use Rattle.std.specs.Prelude.{◌&&◌, MatchOption}
 use Rattle.cax64_address.specs.Address.{displaced_place}
 use Rattle.cax64_address.specs.declared.amode.Amode.{Amode}
@@ -6,18 +6,16 @@ use Rattle.cax64_address.specs.declared.amode.Amode.TheVariants.{ImmReg, ImmRegR
 use Rattle.cax64_machine_code.specs.Line.{imm_bytes}
 use Rattle.cax64_machine_code.specs.Rows.{line_of}
 use Rattle.cax64_machine_code.specs.declared.line.ImmField.{ImmField}
-use Rattle.cax64_machine_code.specs.declared.line.ImmField.TheVariants as field
 use Rattle.cax64_machine_code.specs.declared.row.Row.{Row}
-use Rattle.cax64_operand.specs.Family.{Numbering, Family}
-use Rattle.cax64_operand.specs.Immediate.{imm_size, imm_in_range}
+use Rattle.cax64_operand.specs.Family.{Family}
+use Rattle.cax64_operand.specs.Immediate.{imm_size}
 use Rattle.cax64_operand.specs.OperandList.{list_of, nop_of}
 use Rattle.cax64_operand.specs.Shape as shape
 use Rattle.cax64_operand.specs.Shape.{imm_fits, imm_has_size, takes, tail_takes, vvvv_takes, register_count, rest_of, HasShape}
-use Rattle.cax64_operand.specs.declared.immediate.ImmOperand.{ImmOperand}
 use Rattle.cax64_operand.specs.declared.nop.Nop.{Nop}
 use Rattle.cax64_operand.specs.declared.nop.Nop.TheVariants as nop
 use Rattle.cax64_operand.specs.declared.operand.Operands.{Operands}
-use Rattle.cax64_encoder.specs.Meant.{Meant, imm_in, place_in, operands_meant, nop_meant, nop_or, meant_of}
+use Rattle.cax64_encoder.specs.Meant.{imm_in, place_in, operands_meant, nop_or, meant_of}
 use Rattle.cax64_encoder.specs.Nop.{nop_place}
 use Rattle.cax64_encoder.specs.Place.{memory_in, displacement_in, place_read}
 use Rattle.cax64_encoder.specs.Relative.{relative_in, unsettled, ReadsRelative}

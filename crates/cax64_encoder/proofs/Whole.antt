@@ -389,6 +389,7 @@ digit_or_register line o h = by_tail line.tail o.reg (and_parts (tail_fits line.
     by_field Register8 pf (Some number) h = omega arith
     by_field Register pf None h = cc
     by_field Register pf (Some number) h = omega arith
+
     by_tail : (tail : TailField) (number : Option Number) → tail_fits tail number o.place ≡ true → register_number number + digit_of tail ≡ reg_number tail number
     by_tail NoTail None h = refl
     by_tail NoTail (Some number) h = cc

@@ -24,12 +24,7 @@ fn lead(nop: Nop) -> Short
         Nop::Six => none.push(0x66).push(0x0F).push(0x1F).push(0x44),
         Nop::Seven => none.push(0x0F).push(0x1F).push(0x80),
         Nop::Eight => none.push(0x0F).push(0x1F).push(0x84).push(0x00),
-        Nop::Nine => none
-            .push(0x66)
-            .push(0x0F)
-            .push(0x1F)
-            .push(0x84)
-            .push(0x00),
+        Nop::Nine => none.push(0x66).push(0x0F).push(0x1F).push(0x84).push(0x00),
     }
 }
 

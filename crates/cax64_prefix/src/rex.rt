@@ -60,7 +60,13 @@ fn rex_byte(w_bit: bool, enc_reg: u8, enc_index: u8, enc_base: u8) -> u8
 impl RexPrefix {
     /// The prefix of a register in reg, an index, and a base or a register, each below 16. Where no bit is set, a byte
     /// stands if `must_emit` holds.
-    pub fn of_registers(enc_reg: u8, enc_index: u8, enc_base: u8, w_bit: bool, must_emit: bool) -> Self
+    pub fn of_registers(
+        enc_reg: u8,
+        enc_index: u8,
+        enc_base: u8,
+        w_bit: bool,
+        must_emit: bool,
+    ) -> Self
         requires reg { enc_reg < 16 }
         requires index { enc_index < 16 }
         requires base { enc_base < 16 }

@@ -1,5 +1,5 @@
 use Rattle.std.proofs.Common.{Some}
-use Rattle.std.specs.Prelude.{◌||◌, IsSome, IsTrue, ◌↔◌}
+use Rattle.std.specs.Prelude.{IsSome, IsTrue, ◌↔◌}
 use Rattle.cax64_encoder.specs.Prefix.{rex_stands}
 use Rattle.cax64_table.specs.Numbers.{has_8bit}
 use Rattle.cax64_encoder.proofs.PrefixParts.{legacy_for, vex_for}

@@ -1,4 +1,4 @@
-use Rattle.std.proofs.Common.{◌≡◌, ◌<◌, ◌≤◌, ◌+◌, ◌*◌, ◌%◌, ◌^◌, ◌∙◌, ap, sym, ℕ, suc, length, rules, arith}
+use Rattle.std.proofs.Common.{◌<◌, ◌+◌, ◌*◌, ◌^◌, rules, arith}
 use Rattle.cax64_encoder.proofs.LowBytes.{shifted, sum_fits, word_fits, view_push, view_length}
 use Rattle.cax64_encoder.proofs.short.Short.longer.Goals as goal
 
