@@ -24,7 +24,7 @@ pub fn behind(base: Reg, bytes: i32) -> Amode<Reg>
     }
 }
 
-/// An argument of the function, so many bytes above the frame: the sink adds the frame's size.
+/// An argument of the function, so many bytes above the frame, whose size the sink knows.
 pub fn argument(bytes: i32) -> Amode<Reg>
     ensures { result ≡ Amode.ImmReg (record { 0 = 4 }) (record { simm32 = bytes; offset = Some FRAME }) None }
 {
