@@ -17,11 +17,20 @@ use Rattle.cax64_sink.specs.Call.{put, target}
 use Rattle.cax64_sink.specs.Ends.{EndsInBytes}
 use Rattle.cax64_sink.specs.declared.Notice.TheVariants.{Target}
 use Rattle.cax64_sink.specs.declared.DeferredTarget.{DeferredTarget}
-use Rattle.cax64_address.specs.Displacement.{GivesBack, IsClassOf, mode_of, disp_actions, forced}
-use Rattle.cax64_address.specs.Emitted.{TailOf}
+use Rattle.cax64_address.specs.Displacement.{GivesBack, IsClassOf, mode_of, disp_actions, disp_byte, disp_long, forced}
+use Rattle.cax64_address.specs.Emitted.{TailOf, byte_actions, long_actions}
 use Rattle.cax64_address.specs.declared.disp.Disp.{Disp}
 use Rattle.cax64_address.specs.declared.disp.Disp.TheVariants.{None, Imm8, Imm32}
 use Rattle.cax64_address.proofs.Classes.{byte_class}
+
+split : (d : Disp) → byte_actions (disp_byte d) ++ long_actions (disp_long d) ≡ disp_actions d
+split None = refl
+split (Imm8 v) = refl
+split (Imm32 v) = refl
+
+-- the byte and the four bytes of a class are what is put for it
+pub parts : {byte long : std.Option ℕ} (d : Disp) → byte ≡ disp_byte d → long ≡ disp_long d → byte_actions byte ++ long_actions long ≡ disp_actions d
+parts d byte long = rw (byte, long) (split d)
 
 -- a class tells nothing
 quiet : (d : Disp) (at : ℕ) → all_notices (disp_actions d) at ≡ []

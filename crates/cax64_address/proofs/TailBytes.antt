@@ -1,4 +1,4 @@
-use Rattle.std.proofs.Common.{◌≡◌, ◌≢◌, ℕ, ◌+◌, ◌*◌, ◌/◌, ◌%◌, ◌<◌, arith, refl, List, [], ◌∷◌, ℤ, pos, Bool, true, false}
+use Rattle.std.proofs.Common.{◌≡◌, ◌≢◌, ℕ, ◌+◌, ◌*◌, ◌/◌, ◌%◌, ◌<◌, arith, refl, sym, subst, List, [], ◌∷◌, ℤ, pos, Bool, true, false}
 use Rattle.std.specs.Prelude.{◌==◌}
 use Rattle.std.specs.Int.{cast_unsigned, w8, w32, to_le_bytes}
 use Rattle.std.specs.Int.RustNames.{FitsSigned}
@@ -7,7 +7,7 @@ use Rattle.std.proofs.lemmas.Int.{ints}
 use Rattle.std.proofs.lemmas.List.Elements.{All-nil, All-cons}
 use Rattle.cax64_machine_code.specs.Fields.{IsBytes}
 use Rattle.cax64_sink.specs.Run.{all_bytes}
-use Rattle.cax64_sink.specs.Call.{put, target}
+use Rattle.cax64_sink.specs.Call.{Action, put, target}
 use Rattle.cax64_sink.specs.declared.DeferredTarget.{DeferredTarget}
 use Rattle.cax64_address.specs.Displacement.{IsClassOf, mode_of, disp_actions, forced}
 use Rattle.cax64_address.specs.declared.disp.Disp.{Disp}
@@ -55,20 +55,20 @@ by_low n base v d e false is h =
     let low : base % 8 ≢ 5 = grind (arith, nat_tests) in
     rw (h.other low) (class_bytes n v d h.class)
 
-chosen_bytes : (n base : ℕ) (v : ℤ) (d e : Disp) → Chosen n base v d e → IsBytes (all_bytes (disp_actions e))
-chosen_bytes n base v d e h = by_low n base v d e (base % 8 == 5) refl h
+chosen_bytes : (n base : ℕ) (v : ℤ) (d e : Disp) {acts : List Action} → acts ≡ disp_actions e → Chosen n base v d e → IsBytes (all_bytes acts)
+chosen_bytes n base v d e is h = subst (λ (acts : List Action). IsBytes (all_bytes acts)) (sym is) (by_low n base v d e (base % 8 == 5) refl h)
 
 -- without a SIB byte
-pub base_bytes : (n reg base low m : ℕ) (v : ℤ) (d e : Disp) → Chosen n base v d e → reg < 8 → low < 8 → m ≡ mode_of e * 64 + reg * 8 + low → IsBytes (all_bytes (put (m ∷ []) ∷ disp_actions e))
-base_bytes n reg base low m v d e h hf hl em =
+pub base_bytes : (n reg base low m : ℕ) (v : ℤ) (d e : Disp) {acts : List Action} → acts ≡ disp_actions e → Chosen n base v d e → reg < 8 → low < 8 → m ≡ mode_of e * 64 + reg * 8 + low → IsBytes (all_bytes (put (m ∷ []) ∷ acts))
+base_bytes n reg base low m v d e {acts} is h hf hl em =
     let small : m < 256 = omega (arith, mode_below e) in
-    more_bytes m (all_bytes (disp_actions e)) small (chosen_bytes n base v d e h)
+    more_bytes m (all_bytes acts) small (chosen_bytes n base v d e is h)
 
 -- with one
-pub sib_bytes : (n reg base low m sib : ℕ) (v : ℤ) (d e : Disp) → Chosen n base v d e → reg < 8 → low < 8 → m ≡ mode_of e * 64 + reg * 8 + low → sib < 256 → IsBytes (all_bytes (put (m ∷ []) ∷ put (sib ∷ []) ∷ disp_actions e))
-sib_bytes n reg base low m sib v d e h hf hl em hs =
+pub sib_bytes : (n reg base low m sib : ℕ) (v : ℤ) (d e : Disp) {acts : List Action} → acts ≡ disp_actions e → Chosen n base v d e → reg < 8 → low < 8 → m ≡ mode_of e * 64 + reg * 8 + low → sib < 256 → IsBytes (all_bytes (put (m ∷ []) ∷ put (sib ∷ []) ∷ acts))
+sib_bytes n reg base low m sib v d e {acts} is h hf hl em hs =
     let small : m < 256 = omega (arith, mode_below e) in
-    more_bytes m (sib ∷ all_bytes (disp_actions e)) small (more_bytes sib (all_bytes (disp_actions e)) hs (chosen_bytes n base v d e h))
+    more_bytes m (sib ∷ all_bytes acts) small (more_bytes sib (all_bytes acts) hs (chosen_bytes n base v d e is h))
 
 -- relative to the end
 pub relative_bytes : (reg m word : ℕ) (place : DeferredTarget) → reg < 8 → m ≡ reg * 8 + 5 → IsBytes (all_bytes (put (m ∷ []) ∷ target place ∷ put (to_le_bytes w32 word) ∷ []))

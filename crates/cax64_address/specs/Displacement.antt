@@ -27,6 +27,18 @@ disp_actions None = []
 disp_actions (Imm8 v) = put (cast_unsigned w8 v ∷ []) ∷ []
 disp_actions (Imm32 v) = put (to_le_bytes w32 (cast_unsigned w32 v)) ∷ []
 
+-- the byte of a class of one
+abbrev pub disp_byte : Disp → Option ℕ
+disp_byte None = std.None
+disp_byte (Imm8 v) = Some (cast_unsigned w8 v)
+disp_byte (Imm32 v) = std.None
+
+-- the four bytes of a class of four, as a number
+abbrev pub disp_long : Disp → Option ℕ
+disp_long None = std.None
+disp_long (Imm8 v) = std.None
+disp_long (Imm32 v) = Some (cast_unsigned w32 v)
+
 -- the factor of a byte, 1 where there is none
 abbrev pub factor_of : Option ℤ → ℕ
 factor_of (Some n) = unsigned_abs n

@@ -7,24 +7,26 @@ use Rattle.cax64_machine_code.specs.Shortest.{Shortest}
 use Rattle.cax64_sink.specs.Ends.{EndsInBytes}
 use Rattle.cax64_sink.specs.Run.{all_bytes, all_notices}
 use Rattle.cax64_sink.specs.Call.{Action, put, target}
+use Rattle.cax64_sink.specs.declared.DeferredTarget.{DeferredTarget}
 use Rattle.cax64_sink.specs.declared.Notice.{Notice}
-use Rattle.cax64_address.specs.Displacement.{disp_actions}
 use Rattle.cax64_address.specs.OperandTail.{TailMeant}
 use Rattle.cax64_address.specs.declared.tail.TailCode.{TailCode}
-use Rattle.cax64_address.specs.declared.tail.DisplacementCode.{DisplacementCode}
-use Rattle.cax64_address.specs.declared.tail.DisplacementCode.TheVariants.{Plain, Relative}
 
 -- what is put for a code of a tail
-abbrev pub displacement_actions : DisplacementCode → List Action
-displacement_actions (Plain disp) = disp_actions disp
-displacement_actions (Relative place word) = target place ∷ put (to_le_bytes w32 word) ∷ []
+abbrev pub byte_actions : Option ℕ → List Action
+byte_actions None = []
+byte_actions (Some byte) = put (byte ∷ []) ∷ []
 
-abbrev pub sib_actions : Option ℕ → List Action
-sib_actions None = []
-sib_actions (Some sib) = put (sib ∷ []) ∷ []
+abbrev pub target_actions : Option DeferredTarget → List Action
+target_actions None = []
+target_actions (Some place) = target place ∷ []
+
+abbrev pub long_actions : Option ℕ → List Action
+long_actions None = []
+long_actions (Some word) = put (to_le_bytes w32 word) ∷ []
 
 abbrev pub tail_actions : TailCode → List Action
-tail_actions code = put (code.modrm ∷ []) ∷ (sib_actions code.sib ++ displacement_actions code.displacement)
+tail_actions code = put (code.modrm ∷ []) ∷ (byte_actions code.sib ++ (byte_actions code.byte ++ (target_actions code.target ++ long_actions code.long)))
 
 -- actions whose bytes are the shortest tail of this reg field and place, and whose notices these
 pub record TailOf (x b factor reg : ℕ) (place : Place) (told : ℕ → List Notice) (acts : List Action) : Type 0 where

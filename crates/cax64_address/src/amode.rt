@@ -70,6 +70,7 @@ pub enum Amode<R: AsReg> {
 
 impl<R: AsReg> Amode<R> {
     /// The code of the trap that the access may raise; none for `RipRelative`.
+    #[inline(always)]
     pub fn trap_code(&self) -> Option<TrapCode>
         ensures { result ≡ trap_of self.now }
     {
@@ -93,6 +94,7 @@ impl<R: AsReg> Amode<R> {
     }
 
     /// The displacement in bytes, with the late offset added; 0 for `RipRelative`.
+    #[inline(always)]
     pub fn displacement<S: CodeSink>(&self, sink: &S) -> i32
         requires { IsTrue (is_addressable R.settled R.enc (S.state sink.now).offsets self.now) }
         ensures { result ≡ displacement_of (S.state sink.now).offsets self.now }

@@ -1,7 +1,7 @@
 //! The displacement bytes behind ModR/M and SIB.
 
 ghost use Rattle.std.specs.Prelude.{◌≡◌, ◌≤ℤ◌, ◌<◌, ◌*◌, ◌+◌, IfSome, IsOk, pos};
-ghost use Rattle.cax64_address.specs.Displacement.{mode_of, disp_actions, class_length, factor_of, GivesBack, IsClassOf, forced};
+ghost use Rattle.cax64_address.specs.Displacement.{mode_of, disp_actions, disp_byte, disp_long, class_length, factor_of, GivesBack, IsClassOf, forced};
 ghost use Rattle.cax64_sink.specs.Room.{HasRoom, FallsBy};
 ghost use Rattle.cax64_sink.specs.Run.{Ran};
 
@@ -16,6 +16,7 @@ pub enum Disp {
 }
 
 /// A ModR/M byte of its fields; a SIB byte has its fields in the same places. (Intel SDM, volume 2, 2.1.3.)
+#[inline(always)]
 pub fn encode_modrm(m0d: u8, enc_reg_g: u8, rm_e: u8) -> u8
     requires m0d { m0d < 4 }
     requires reg { enc_reg_g < 8 }
@@ -29,6 +30,7 @@ impl Disp {
     /// The class of a displacement of `val` bytes under a factor, which is 1 where it is absent.
     ///
     /// A byte holds the quotient by the factor. (Intel SDM, volume 2, 2.7.5.)
+    #[inline(always)]
     pub fn new(val: i32, evex_scaling: Option<i8>) -> Disp
         requires { IfSome evex_scaling (λ n. pos 1 ≤ℤ n) }
         ensures class { IsClassOf (factor_of evex_scaling) val result }
@@ -55,6 +57,7 @@ impl Disp {
     }
 
     /// The mod field of ModR/M that goes with the class, 0 to 2.
+    #[inline(always)]
     pub fn m0d(self) -> u8
         ensures value { result ≡ mode_of self }
         ensures below { result < 3 }
@@ -66,7 +69,30 @@ impl Disp {
         }
     }
 
+    /// The byte, if the class has one byte.
+    #[inline(always)]
+    pub fn byte(self) -> Option<u8>
+        ensures { result ≡ disp_byte self }
+    {
+        match self {
+            Disp::Imm8(value) => Some(value.cast_unsigned()),
+            Disp::None | Disp::Imm32(_) => None,
+        }
+    }
+
+    /// The four bytes as a number, if the class has four.
+    #[inline(always)]
+    pub fn long(self) -> Option<u32>
+        ensures { result ≡ disp_long self }
+    {
+        match self {
+            Disp::Imm32(value) => Some(value.cast_unsigned()),
+            Disp::None | Disp::Imm8(_) => None,
+        }
+    }
+
     /// Makes a byte of 0 of no displacement, for a base whose low three bits are 5.
+    #[inline(always)]
     pub fn force_immediate(&mut self)
         ensures { self.new ≡ forced self.old }
     {

@@ -89,6 +89,7 @@ impl AmodeOffsetPlusKnownOffset {
     }
 
     /// The sum of the displacement and of the offset, in bytes.
+    #[inline(always)]
     pub fn value<S: CodeSink>(&self, sink: &S) -> i32
         requires { IsTrue (sum_fits (S.state sink.now).offsets self.now.offset self.now.simm32) }
         ensures { result ≡ sum_of (S.state sink.now).offsets self.now.offset self.now.simm32 }

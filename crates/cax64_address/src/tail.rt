@@ -4,7 +4,7 @@ ghost use Rattle.std.specs.Prelude.{◌≡◌, ◌≢◌, ◌+◌, ◌/◌, ◌%
 ghost use Rattle.cax64_address.specs.Address.{is_addressable, registers_are_real, scale_number, displaced_place, target_count};
 ghost use Rattle.cax64_address.specs.Displacement.{factor_of};
 ghost use Rattle.cax64_address.specs.Effective.{effective_address};
-ghost use Rattle.cax64_address.specs.Emitted.{TailOf, PutsTail, tail_actions, displacement_actions, sib_actions};
+ghost use Rattle.cax64_address.specs.Emitted.{TailOf, PutsTail, tail_actions, byte_actions, target_actions, long_actions};
 ghost use Rattle.cax64_address.specs.Length.{least_tail_under};
 ghost use Rattle.cax64_address.specs.OperandTail.{displaced_tail, tail_meant, tail_length, IsTailMeant, AddsTail, LeavesTail, ReadsAddress};
 ghost use Rattle.cax64_machine_code.specs.Fields.{IsBytes};
@@ -25,20 +25,18 @@ use cax64_sink::{CodeSink, DeferredTarget, Notice, SinkError};
 pub struct TailCode {
     pub modrm: u8,
     pub sib: Option<u8>,
-    pub displacement: DisplacementCode,
-}
-
-/// The displacement of a tail as it is put.
-#[derive(Clone, Copy)]
-pub enum DisplacementCode {
-    Plain(Disp),
-    /// Four bytes, told to the sink as a use of the target.
-    Relative(DeferredTarget, u32),
+    /// A displacement of one byte.
+    pub byte: Option<u8>,
+    /// What a displacement of four bytes is told to the sink as a use of.
+    pub target: Option<DeferredTarget>,
+    /// A displacement of four bytes.
+    pub long: Option<u32>,
 }
 
 #[tactic(auto, using(cax64_sink::proofs::Runs::ran_none, cax64_sink::proofs::Runs::ran_one))]
+#[inline(always)]
 fn put_optional<S: CodeSink>(sink: &mut S, byte: Option<u8>) -> Result<(), SinkError>
-    ensures { Ran (sib_actions byte) (S.state sink.old) (S.state sink.new) result }
+    ensures { Ran (byte_actions byte) (S.state sink.old) (S.state sink.new) result }
 {
     match byte {
         Some(byte) => sink.put1(byte),
@@ -46,17 +44,30 @@ fn put_optional<S: CodeSink>(sink: &mut S, byte: Option<u8>) -> Result<(), SinkE
     }
 }
 
-impl DisplacementCode {
-    fn put<S: CodeSink>(self, sink: &mut S) -> Result<(), SinkError>
-        ensures { Ran (displacement_actions self) (S.state sink.old) (S.state sink.new) result }
-    {
-        match self {
-            DisplacementCode::Plain(disp) => disp.emit(sink),
-            DisplacementCode::Relative(place, word) => {
-                sink.use_target(place)?;
-                sink.put4(word)
-            }
-        }
+/// Tells the sink of a use of the target, if there is one.
+#[tactic(auto, using(cax64_sink::proofs::Runs::ran_none, cax64_sink::proofs::Runs::ran_one))]
+#[inline(always)]
+pub fn use_optional<S: CodeSink>(
+    sink: &mut S,
+    target: Option<DeferredTarget>,
+) -> Result<(), SinkError>
+    ensures { Ran (target_actions target) (S.state sink.old) (S.state sink.new) result }
+{
+    match target {
+        Some(target) => sink.use_target(target),
+        None => Ok(()),
+    }
+}
+
+/// Puts four bytes of displacement, if there are any.
+#[tactic(auto, using(cax64_sink::proofs::Runs::ran_none, cax64_sink::proofs::Runs::ran_one))]
+#[inline(always)]
+pub fn put_long<S: CodeSink>(sink: &mut S, long: Option<u32>) -> Result<(), SinkError>
+    ensures { Ran (long_actions long) (S.state sink.old) (S.state sink.new) result }
+{
+    match long {
+        Some(word) => sink.put4(word),
+        None => Ok(()),
     }
 }
 
@@ -67,13 +78,16 @@ impl TailCode {
     {
         sink.put1(self.modrm)?;
         put_optional(sink, self.sib)?;
-        self.displacement.put(sink)
+        put_optional(sink, self.byte)?;
+        use_optional(sink, self.target)?;
+        put_long(sink, self.long)
     }
 }
 
 /// The tail of a base and a displacement. Base 4 and 12 stand in a SIB byte, since their low bits in ModR/M mean one;
 /// base 5 and 13 have a displacement, since their low bits mean none.
-fn base_tail(reg: u8, base: u8, displacement: i32, evex_scaling: Option<i8>) -> TailCode
+#[inline(always)]
+pub fn base_tail(reg: u8, base: u8, displacement: i32, evex_scaling: Option<i8>) -> TailCode
     requires reg { reg < 8 }
     requires base { base < 16 }
     requires factor { IfSome evex_scaling (λ n. pos 1 ≤ℤ n) }
@@ -87,7 +101,9 @@ fn base_tail(reg: u8, base: u8, displacement: i32, evex_scaling: Option<i8>) -> 
         return TailCode {
             modrm: encode_modrm(disp.m0d(), reg, 4),
             sib: Some(0x24),
-            displacement: DisplacementCode::Plain(disp),
+            byte: disp.byte(),
+            target: None,
+            long: disp.long(),
         };
     }
     if low == 5 {
@@ -96,12 +112,15 @@ fn base_tail(reg: u8, base: u8, displacement: i32, evex_scaling: Option<i8>) -> 
     TailCode {
         modrm: encode_modrm(disp.m0d(), reg, low),
         sib: None,
-        displacement: DisplacementCode::Plain(disp),
+        byte: disp.byte(),
+        target: None,
+        long: disp.long(),
     }
 }
 
 /// The tail of a base, an index and a displacement.
-fn index_tail(
+#[inline(always)]
+pub fn index_tail(
     reg: u8,
     base: u8,
     index: u8,
@@ -127,12 +146,15 @@ fn index_tail(
     TailCode {
         modrm: encode_modrm(disp.m0d(), reg, 4),
         sib: Some(encode_modrm(scale.enc(), index & 7, low_base)),
-        displacement: DisplacementCode::Plain(disp),
+        byte: disp.byte(),
+        target: None,
+        long: disp.long(),
     }
 }
 
 /// The tail of a place relative to the end, before this many bytes of immediate.
-fn relative_tail(reg: u8, target: DeferredTarget, bytes_at_end: u8) -> TailCode
+#[inline(always)]
+pub fn relative_tail(reg: u8, target: DeferredTarget, bytes_at_end: u8) -> TailCode
     requires { reg < 8 }
     ensures tail { (factor : ℕ) → TailOf 0 0 factor reg (Place.Rip (pos 0 -ℤ pos bytes_at_end)) (λ at. Notice.Target (at + 1) target ∷ []) (tail_actions result) }
     ensures bytes { IsBytes (all_bytes (tail_actions result)) }
@@ -142,13 +164,16 @@ fn relative_tail(reg: u8, target: DeferredTarget, bytes_at_end: u8) -> TailCode
     TailCode {
         modrm: encode_modrm(0, reg, 5),
         sib: None,
-        displacement: DisplacementCode::Relative(target, word),
+        byte: None,
+        target: Some(target),
+        long: Some(word),
     }
 }
 
 /// The tail of a memory operand whose displacement is known, with this in its reg field, before this many bytes of
 /// immediate.
 #[tactic(auto, using(crate::proofs::TailLengths::without_factor))]
+#[inline(always)]
 pub fn tail_of<R: AsReg>(
     enc_g: u8,
     mem_e: &Amode<R>,

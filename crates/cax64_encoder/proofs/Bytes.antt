@@ -16,7 +16,9 @@ use Rattle.cax64_operand.specs.declared.immediate.ImmOperand.TheVariants.{Imm8, 
 use Rattle.cax64_prefix.specs.Rex.{rex_bytes}
 use Rattle.cax64_prefix.proofs.RexBits.{AreBits}
 use Rattle.cax64_sink.specs.Run.{all_bytes}
-use Rattle.cax64_encoder.specs.Code.{when, opcode_actions}
+use Rattle.cax64_machine_code.specs.Line.{opcode_bytes}
+use Rattle.cax64_sink.proofs.PutRuns.{all_bytes-puts}
+use Rattle.cax64_encoder.proofs.Opcode.{opcode_actions}
 use Rattle.cax64_encoder.specs.ImmActions.{imm_actions, optional_imm_actions}
 
 -- what is put are bytes
@@ -58,9 +60,9 @@ imm_are_bytes field None h = no_bytes
 imm_are_bytes field (Some imm) h = imm_bytes_of imm (and_parts (imm_has_size field imm) (imm_in_range imm) h).1
 
 pub opcode_are_bytes : (opcode : Opcode) → nat_lt opcode.byte 256 ≡ true → IsBytes (all_bytes (opcode_actions opcode))
-opcode_are_bytes opcode h = by_escape opcode.escape
+opcode_are_bytes opcode h = rw (all_bytes-puts (opcode_bytes opcode)) (by_escape opcode.escape)
   where
-    by_escape : (escape : Bool) → IsBytes (all_bytes (when escape 0x0F ++ (opcode_actions (record { escape = false; byte = opcode.byte }))))
+    by_escape : (escape : Bool) → IsBytes (opcode_bytes (record { escape = escape; byte = opcode.byte }))
     by_escape true = more_bytes 0x0F (opcode.byte ∷ []) (omega arith) (one_byte opcode.byte (small opcode.byte 256 h))
     by_escape false = one_byte opcode.byte (small opcode.byte 256 h)
 

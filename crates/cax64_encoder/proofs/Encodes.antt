@@ -7,11 +7,10 @@ use Rattle.std.proofs.lemmas.Bool.{and_parts}
 use Rattle.std.proofs.lemmas.Bool.Decides.{nat_tests}
 use Rattle.std.proofs.lemmas.List.{length-append}
 use Rattle.cax64_sink.specs.Run.{all_bytes, all_notices}
-use Rattle.cax64_sink.specs.Call.{Action, put}
+use Rattle.cax64_sink.specs.Call.{Action}
 use Rattle.cax64_sink.specs.declared.Notice.{Notice}
 use Rattle.cax64_sink.specs.Ends.{EndsInBytes}
 use Rattle.cax64_sink.proofs.Runs.{all_bytes_append, all_notices_append}
-use Rattle.cax64_sink.proofs.Ends.{ends_append}
 use Rattle.cax64_address.specs.Address.{displaced_place}
 use Rattle.cax64_address.specs.declared.amode.Amode.{Amode}
 use Rattle.cax64_address.specs.declared.amode.Amode.TheVariants.{ImmReg, ImmRegRegShift, RipRelative}
@@ -32,7 +31,10 @@ use Rattle.cax64_machine_code.specs.declared.line.ImmField.TheVariants.{NoImm, I
 use Rattle.cax64_machine_code.proofs.Bytes.{one_back, two_back, four_back, s8_back, s32_back}
 use Rattle.cax64_machine_code.proofs.Written.{IsImm, BeginsWith, DigitIs}
 use Rattle.cax64_prefix.specs.Rex.{is_special_if_8bit}
-use Rattle.cax64_encoder.specs.Code.{when, trap_actions, opcode_actions}
+use Rattle.cax64_encoder.specs.Code.{trap_actions}
+use Rattle.cax64_encoder.proofs.Opcode.{opcode_actions}
+use Rattle.cax64_sink.specs.Puts.{puts}
+use Rattle.cax64_sink.proofs.PutRuns.{all_bytes-puts, all_notices-puts}
 use Rattle.cax64_encoder.specs.Form.{reg_fits}
 use Rattle.cax64_encoder.specs.ImmActions.{imm_actions, optional_imm_actions}
 use Rattle.cax64_encoder.specs.Line.{first_byte, is_digit}
@@ -132,18 +134,10 @@ imm_quiet (Some (Simm32 v)) at = refl
 -- Opcodes.
 
 pub opcode_part : (opcode : Opcode) → all_bytes (opcode_actions opcode) ≡ opcode_bytes opcode
-opcode_part opcode = by_escape opcode.escape opcode.byte
-  where
-    by_escape : (escape : Bool) (byte : ℕ) → all_bytes (when escape 0x0F ++ (put (byte ∷ []) ∷ [])) ≡ (if escape then (0x0F ∷ byte ∷ []) else (byte ∷ []))
-    by_escape true byte = refl
-    by_escape false byte = refl
+opcode_part opcode = all_bytes-puts (opcode_bytes opcode)
 
 pub opcode_quiet : (opcode : Opcode) (at : ℕ) → all_notices (opcode_actions opcode) at ≡ []
-opcode_quiet opcode at = by_escape opcode.escape opcode.byte at
-  where
-    by_escape : (escape : Bool) (byte at : ℕ) → all_notices (when escape 0x0F ++ (put (byte ∷ []) ∷ [])) at ≡ []
-    by_escape true byte at = refl
-    by_escape false byte at = refl
+opcode_quiet opcode at = all_notices-puts (opcode_bytes opcode) at
 
 pub opcode_begins : (opcode : Opcode) → BeginsWith (first_byte opcode) (opcode_bytes opcode)
 opcode_begins opcode = by_escape opcode.escape opcode.byte
@@ -160,10 +154,11 @@ opcode_length opcode = by_escape opcode.escape opcode.byte
     by_escape false byte = refl
 
 pub opcode_ends : (opcode : Opcode) → EndsInBytes (opcode_actions opcode)
-opcode_ends opcode = ends_append (when opcode.escape 0x0F) (put (opcode.byte ∷ []) ∷ []) one
+opcode_ends opcode = by_escape opcode.escape opcode.byte
   where
-    one : 0 < 1
-    one = omega arith
+    by_escape : (escape : Bool) (byte : ℕ) → EndsInBytes (puts (if escape then (0x0F ∷ byte ∷ []) else (byte ∷ [])))
+    by_escape true byte = omega arith
+    by_escape false byte = omega arith
 
 pub trap_bytes : (trap : _) → all_bytes (trap_actions trap) ≡ []
 trap_bytes None = refl

@@ -1,4 +1,4 @@
-use Rattle.std.proofs.Common.{◌≡◌, ℕ, suc, arith, refl, ◌∙◌, ap, Bool, true, false, None, List, [], ◌∷◌, length}
+use Rattle.std.proofs.Common.{◌≡◌, ℕ, suc, arith, refl, ◌∙◌, ap, sym, Bool, true, false, None, List, [], ◌∷◌, length}
 use Rattle.std.specs.Prelude.{◌==◌, nat_le}
 use Rattle.std.proofs.lemmas.Bool.{and_parts}
 use Rattle.std.proofs.lemmas.Bool.Decides.{nat_tests}
@@ -21,11 +21,10 @@ use Rattle.cax64_operand.specs.Shape as shape
 use Rattle.cax64_operand.specs.Shape.{Rest, register_count, rest_of, takes, tail_takes, vvvv_takes, reg_takes, rest_takes, is_nothing, imm_fits}
 use Rattle.cax64_operand.specs.declared.operand.Operand.{Operand}
 use Rattle.cax64_operand.specs.declared.operand.Operand.TheVariants as operand
-use Rattle.cax64_encoder.specs.Form.{with_role, with_roles, form_of, fits, tail_fits, reg_fits, place_fits, is_no_place, vvvv_fits}
+use Rattle.cax64_encoder.specs.Form.{Form, place_or, with_role, with_roles, form_of, fits, tail_fits, reg_fits, place_fits, is_no_place, vvvv_fits}
 use Rattle.cax64_encoder.specs.Meant.{numbers_in, place_in, imm_in, first, second}
 use Rattle.cax64_encoder.specs.Place.{gpr_mem_place, xmm_mem_place}
 use Rattle.cax64_encoder.specs.Role.{roles_of}
-use Rattle.cax64_encoder.specs.declared.form.Form.{Form}
 use Rattle.cax64_encoder.specs.declared.number.Number.{Number}
 use Rattle.cax64_encoder.specs.declared.role.PlaceOperand.{PlaceOperand}
 use Rattle.cax64_encoder.specs.declared.role.PlaceOperand.TheVariants as place
@@ -48,6 +47,16 @@ with_is (role.Immediate imm) later = refl
 pub with_all : {M : Type 0} (roles : List (Role M)) → with_roles roles ≡ direct roles
 with_all [] = refl
 with_all (r ∷ later) = ap (with_role r) (with_all later) ∙ with_is r later
+
+pub place_first : {M : Type 0} (r : Role M) (later : List (Role M)) → place_in (r ∷ later) ≡ place_or r (place_in later)
+place_first (role.Register number) later = refl
+place_first (role.TwoRegisters high low same) later = refl
+place_first (role.FixedRegister fixed) later = refl
+place_first (role.Place operand) later = refl
+place_first (role.Immediate imm) later = refl
+
+pub place_then : {M : Type 0} {own : Role M} {later result : PlaceOperand M} (r : Role M) (roles : List (Role M)) → own ≡ r → later ≡ place_in roles → result ≡ place_or own later → result ≡ place_in (r ∷ roles)
+place_then r roles e f h = h ∙ rw (e, f) (sym (place_first r roles))
 
 -- as many registers as are counted
 count_is : {R A B C D E F : Type 0} (f : Family A B C D E F) (operands : List (Operand R A B C D E F)) → length (numbers_in (roles_of f operands)) ≡ register_count operands

@@ -22,9 +22,10 @@ use Rattle.cax64_machine_code.specs.declared.reading.RegView.{RegView}
 use Rattle.cax64_machine_code.specs.declared.reading.RegView.TheVariants.{Low}
 use Rattle.cax64_machine_code.specs.declared.row.Row.{Row}
 use Rattle.cax64_sink.specs.declared.TrapCode.{TrapCode}
-use Rattle.cax64_encoder.specs.Code.{trap_actions, opcode_actions}
+use Rattle.cax64_encoder.specs.Code.{trap_actions}
+use Rattle.cax64_encoder.proofs.Opcode.{opcode_actions}
 use Rattle.cax64_encoder.specs.Encodes.{form_parts}
-use Rattle.cax64_encoder.specs.Form.{tail_fits, vvvv_fits, fits}
+use Rattle.cax64_encoder.specs.Form.{Form, tail_fits, vvvv_fits, fits}
 use Rattle.cax64_encoder.specs.ImmActions.{optional_imm_actions}
 use Rattle.cax64_encoder.specs.Line.{is_8bit_once, is_line}
 use Rattle.cax64_table.specs.Numbers.{has_8bit}
@@ -34,7 +35,6 @@ use Rattle.cax64_encoder.specs.Prefix.{register_number, amode_high, place_high, 
 use Rattle.cax64_operand.specs.Immediate.{imm_size}
 use Rattle.cax64_operand.specs.Shape.{imm_fits}
 use Rattle.cax64_encoder.specs.declared.number.Number.{Number}
-use Rattle.cax64_encoder.specs.declared.form.Form.{Form}
 use Rattle.cax64_encoder.specs.declared.role.PlaceOperand as place
 use Rattle.cax64_encoder.specs.declared.role.PlaceOperand.{PlaceOperand}
 use Rattle.cax64_encoder.proofs.Lines.{line_facts}

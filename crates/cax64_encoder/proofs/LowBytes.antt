@@ -1,5 +1,6 @@
 use Rattle.std.proofs.Common.{◌≡◌, ℕ, zero, suc, ◌+◌, ◌*◌, ◌/◌, ◌%◌, ◌^◌, ◌<◌, ◌≤◌, refl, sym, ap, ◌∙◌, List, [], ◌∷◌, ◌++◌, length, take, w64, arith}
 use Rattle.std.proofs.lemmas.List.{length-take-le}
+use Rattle.std.proofs.lemmas.Nat.{pow-add}
 use Rattle.std.specs.Int.{byte_at, bytes_low_first, to_le_bytes}
 use Rattle.std.proofs.Math.Nat.{div-div-eq-div-mul, div-one, add-mul-mod_self_right, add-mul-div_right, div-lt_iff_lt-mul, mul-le-mul_right, mul_assoc, pow-suc, pow-le-pow_right, one-le-pow, mod-eq_of_lt}
 
@@ -29,28 +30,6 @@ take_low zero k n h = refl
 take_low (suc l) zero n h = let bad : ⊥ = omega (arith, h) in absurd bad
 take_low (suc l) (suc k) n h = ap (λ (bs : List ℕ). n % 256 ∷ bs) (take_low l k (n / 256) (omega (arith, h)))
 
-low_push : (l w b : ℕ) → w < 256 ^ l → b < 256 → low (suc l) (w + b * 256 ^ l) ≡ low l w ++ (b ∷ [])
-low_push zero w b h k =
-    let e : (w + b * 1) % 256 ≡ b = omega (arith, h, k) in
-    ap (λ (x : ℕ). x ∷ []) e
-low_push (suc l) w b h k =
-    let p : b * 256 ^ suc l ≡ b * 256 ^ l * 256 = ap (λ (m : ℕ). b * m) (pow-suc 256 l) ∙ sym (mul_assoc b (256 ^ l) 256) in
-    let head : (w + b * 256 ^ suc l) % 256 ≡ w % 256 = ap (λ (m : ℕ). (w + m) % 256) p ∙ add-mul-mod_self_right w (b * 256 ^ l) 256 in
-    let rest : (w + b * 256 ^ suc l) / 256 ≡ w / 256 + b * 256 ^ l = ap (λ (m : ℕ). (w + m) / 256) p ∙ add-mul-div_right w (b * 256 ^ l) (omega arith) in
-    let small : w / 256 < 256 ^ l = (div-lt_iff_lt-mul (omega arith)).1 (rw (pow-suc 256 l) at h) in
-    ap (λ (x : ℕ). x ∷ low (suc l) ((w + b * 256 ^ suc l) / 256)) head ∙ ap (λ (m : ℕ). w % 256 ∷ low (suc l) m) rest ∙ ap (λ (bs : List ℕ). w % 256 ∷ bs) (low_push l (w / 256) b small k)
-
--- A word that holds some bytes, with one more.
-
-view_pushed : (l w b : ℕ) → l < 8 → w < 256 ^ l → b < 256 → take (suc l) (to_le_bytes w64 (w + b * 256 ^ l)) ≡ take l (to_le_bytes w64 w) ++ (b ∷ [])
-view_pushed l w b few h k =
-    ap (take (suc l)) (word_is (w + b * 256 ^ l)) ∙ take_low (suc l) 8 (w + b * 256 ^ l) (omega (arith, few)) ∙ low_push l w b h k ∙ ap (λ (bs : List ℕ). bs ++ (b ∷ [])) (sym (take_low l 8 w (omega (arith, few))) ∙ ap (take l) (sym (word_is w)))
-
-word_below : (l w b : ℕ) → w < 256 ^ l → b < 256 → w + b * 256 ^ l < 256 ^ suc l
-word_below l w b h k =
-    let most : b * 256 ^ l ≤ 255 * 256 ^ l = mul-le-mul_right (256 ^ l) (omega (arith, k)) in
-    rw (pow-suc 256 l) (omega (arith, h, most))
-
 pub shift_is : (l : ℕ) → l < 8 → 2 ^ (8 * l) ≡ 256 ^ l
 shift_is zero h = refl
 shift_is (suc zero) h = refl
@@ -62,34 +41,51 @@ shift_is (suc (suc (suc (suc (suc (suc zero)))))) h = refl
 shift_is (suc (suc (suc (suc (suc (suc (suc zero))))))) h = refl
 shift_is (suc (suc (suc (suc (suc (suc (suc (suc l)))))))) h = let bad : ⊥ = omega (arith, h) in absurd bad
 
--- The shift of a byte to its place, and the sum, which fit a word.
-
-room_is : (l : ℕ) → l < 8 → 256 ^ suc l ≤ 2 ^ 64
-room_is l h = pow-le-pow_right {n = 256} (omega arith) {i = suc l} {j = 8} (omega (arith, h))
-
-pub shifted : (l b x k : ℕ) → l < 8 → b < 256 → x ≡ b → k ≡ l → x * 2 ^ (8 * k) % 2 ^ 64 ≡ b * 256 ^ l
-shifted l b x k few h is same =
-    let below : 0 + b * 256 ^ l < 256 ^ suc l = word_below l 0 b (one-le-pow l 256 (omega arith)) h in
-    let room = room_is l few in
-    rw (is, same, shift_is l few) (mod-eq_of_lt (omega (arith, below, room)))
-
-pub sum_fits : (l w b : ℕ) → l < 8 → w < 256 ^ l → b < 256 → w + b * 256 ^ l < 2 ^ 64
-sum_fits l w b few h k =
-    let below = word_below l w b h k in
-    let room = room_is l few in
-    omega (arith, below, room)
-
 -- how many bytes a word shows
 pub view_length : (l w : ℕ) → l ≤ 8 → length (take l (to_le_bytes w64 w)) ≡ l
 view_length l w h = length-take-le l (to_le_bytes w64 w) h
 
--- The same with the length as it is counted on.
+-- A word with the bytes of another behind its own.
 
-next : (l : ℕ) → l + 1 ≡ suc l
-next l = omega arith
+low_append : (l m k w v : ℕ) → k ≡ l + m → w < 256 ^ l → v < 256 ^ m → low k (w + v * 256 ^ l) ≡ low l w ++ low m v
+low_append zero m k w v e h hv =
+    let same : k ≡ m = omega (arith, e) in
+    let all : w + v * 1 ≡ v = omega (arith, h) in
+    rw (same, all) refl
+low_append (suc l) m k w v e h hv =
+    let is : k ≡ suc (l + m) = omega (arith, e) in
+    let p : v * 256 ^ suc l ≡ v * 256 ^ l * 256 = ap (λ (n : ℕ). v * n) (pow-suc 256 l) ∙ sym (mul_assoc v (256 ^ l) 256) in
+    let head : (w + v * 256 ^ suc l) % 256 ≡ w % 256 = ap (λ (n : ℕ). (w + n) % 256) p ∙ add-mul-mod_self_right w (v * 256 ^ l) 256 in
+    let rest : (w + v * 256 ^ suc l) / 256 ≡ w / 256 + v * 256 ^ l = ap (λ (n : ℕ). (w + n) / 256) p ∙ add-mul-div_right w (v * 256 ^ l) (omega arith) in
+    let small : w / 256 < 256 ^ l = (div-lt_iff_lt-mul (omega arith)).1 (rw (pow-suc 256 l) at h) in
+    ap (λ (n : ℕ). low n (w + v * 256 ^ suc l)) is
+    ∙ ap (λ (x : ℕ). x ∷ low (l + m) ((w + v * 256 ^ suc l) / 256)) head
+    ∙ ap (λ (n : ℕ). w % 256 ∷ low (l + m) n) rest
+    ∙ ap (λ (bs : List ℕ). w % 256 ∷ bs) (low_append l m (l + m) (w / 256) v refl small hv)
 
-pub view_push : (l w b : ℕ) → l < 8 → w < 256 ^ l → b < 256 → take (l + 1) (to_le_bytes w64 (w + b * 256 ^ l)) ≡ take l (to_le_bytes w64 w) ++ (b ∷ [])
-view_push l w b few h k = rw (next l) (view_pushed l w b few h k)
+pub view_append : (l m w v : ℕ) → l + m ≤ 8 → w < 256 ^ l → v < 256 ^ m → take (l + m) (to_le_bytes w64 (w + v * 256 ^ l)) ≡ take l (to_le_bytes w64 w) ++ take m (to_le_bytes w64 v)
+view_append l m w v room h hv =
+    let left : take l (to_le_bytes w64 w) ≡ low l w = ap (take l) (word_is w) ∙ take_low l 8 w (omega (arith, room)) in
+    let right : take m (to_le_bytes w64 v) ≡ low m v = ap (take m) (word_is v) ∙ take_low m 8 v (omega (arith, room)) in
+    ap (take (l + m)) (word_is (w + v * 256 ^ l)) ∙ take_low (l + m) 8 (w + v * 256 ^ l) room ∙ low_append l m (l + m) w v refl h hv ∙ rw (left, right) refl
 
-pub word_fits : (l w b : ℕ) → w < 256 ^ l → b < 256 → w + b * 256 ^ l < 256 ^ (l + 1)
-word_fits l w b h k = rw (next l) (word_below l w b h k)
+pub both_below : (l m w v : ℕ) → w < 256 ^ l → v < 256 ^ m → w + v * 256 ^ l < 256 ^ (l + m)
+both_below l m w v h hv =
+    let most : suc v * 256 ^ l ≤ 256 ^ m * 256 ^ l = mul-le-mul_right (256 ^ l) (omega (arith, hv)) in
+    let more : suc v * 256 ^ l ≡ v * 256 ^ l + 256 ^ l = omega arith in
+    rw (pow-add 256 l m) (omega (arith, h, most, more))
+
+both_room : (l m : ℕ) → l + m ≤ 8 → 256 ^ (l + m) ≤ 2 ^ 64
+both_room l m h = pow-le-pow_right {n = 256} (omega arith) {i = l + m} {j = 8} h
+
+pub word_shifted : (l m v k : ℕ) → l < 8 → l + m ≤ 8 → v < 256 ^ m → k ≡ l → v * 2 ^ (8 * k) % 2 ^ 64 ≡ v * 256 ^ l
+word_shifted l m v k few room h same =
+    let below : 0 + v * 256 ^ l < 256 ^ (l + m) = both_below l m 0 v (one-le-pow l 256 (omega arith)) h in
+    let most = both_room l m room in
+    rw (same, shift_is l few) (mod-eq_of_lt (omega (arith, below, most)))
+
+pub both_fit : (l m w v : ℕ) → l + m ≤ 8 → w < 256 ^ l → v < 256 ^ m → w + v * 256 ^ l < 2 ^ 64
+both_fit l m w v room h hv =
+    let below = both_below l m w v h hv in
+    let most = both_room l m room in
+    omega (arith, below, most)

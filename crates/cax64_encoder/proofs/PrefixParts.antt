@@ -4,8 +4,6 @@ use Rattle.std.specs.Int.{from_bool}
 use Rattle.std.proofs.lemmas.Bool.{and_parts}
 use Rattle.std.proofs.lemmas.Bool.Decides.{nat_tests}
 use Rattle.std.proofs.lemmas.List.{length-append}
-use Rattle.cax64_sink.specs.Run.{all_bytes, all_notices}
-use Rattle.cax64_sink.proofs.Runs.{all_bytes_append, all_notices_append}
 use Rattle.cax64_register.specs.Real.{is_real, is_real_non_rsp}
 use Rattle.cax64_address.specs.Address.{registers_are_real, index_bit, base_bit}
 use Rattle.cax64_address.specs.declared.amode.Amode.{Amode}
@@ -17,23 +15,23 @@ use Rattle.cax64_machine_code.specs.Line.{w_matches, vvvv_matches}
 use Rattle.cax64_machine_code.specs.Reading.{vvvv_register_of}
 use Rattle.cax64_machine_code.specs.declared.line.LegacySet.{LegacySet}
 use Rattle.cax64_machine_code.specs.declared.line.Line.{Line}
+use Rattle.cax64_machine_code.specs.declared.line.PrefixField.{PrefixField}
 use Rattle.cax64_machine_code.specs.declared.line.PrefixField.TheVariants.{LegacyField, VexField}
 use Rattle.cax64_machine_code.specs.declared.line.VvvvField.{VvvvField}
 use Rattle.cax64_machine_code.specs.declared.line.VvvvField.TheVariants.{VvvvRegister, Stored1111}
 use Rattle.cax64_machine_code.specs.declared.line.TailField.{TailField}
 use Rattle.cax64_machine_code.proofs.Uniqueness.{legacy_self}
-use Rattle.cax64_sink.specs.Puts.{puts}
 use Rattle.cax64_prefix.specs.Rex.{rex_bytes, is_special_if_8bit}
 use Rattle.cax64_prefix.specs.Vex.{vex_bytes, vex_fields, VexReadsAs, fits_two_bytes}
 use Rattle.cax64_prefix.specs.declared.vex.VexPrefix.{VexPrefix}
 use Rattle.cax64_prefix.specs.declared.vex.VexPrefix.TheVariants.{TwoByte, ThreeByte}
-use Rattle.cax64_sink.proofs.PutRuns.{all_bytes-puts}
 use Rattle.cax64_prefix.proofs.RexBits.{AreBits}
 use Rattle.cax64_prefix.proofs.Prefixes.{legacy_bytes, prefix_back, prefix_vex}
-use Rattle.cax64_encoder.specs.Code.{when, set_actions}
+use Rattle.cax64_encoder.specs.ByteWhen.{byte_when}
+use Rattle.cax64_encoder.specs.Front.{set_bytes}
 use Rattle.cax64_encoder.specs.Form.{is_no_place, is_absent, vvvv_fits}
 use Rattle.cax64_encoder.specs.Line.{first_byte, is_line, is_w0, has_tail}
-use Rattle.cax64_table.specs.Numbers.{has_8bit, uses_8bit_reg, uses_8bit_place}
+use Rattle.cax64_table.specs.Numbers.{has_8bit, uses_8bit_reg, uses_8bit_place, set_number, has_set_number}
 use Rattle.cax64_encoder.specs.Number.{number_value, is_real_number}
 use Rattle.cax64_encoder.specs.Prefix.{PrefixFor, rex_stands, place_special, place_high, amode_high}
 use Rattle.cax64_encoder.specs.Real.{place_is_real, place_x, place_b}
@@ -44,26 +42,12 @@ use Rattle.cax64_encoder.specs.declared.role.PlaceOperand.{PlaceOperand}
 use Rattle.cax64_encoder.proofs.Bytes.{no_bytes, one_byte, both_bytes, rex_are_bytes}
 use Rattle.cax64_encoder.proofs.Lines.{line_facts, plain_byte}
 
-when_bytes : (b : Bool) (c : ℕ) → all_bytes (when b c) ≡ (if b then c ∷ [] else [])
-when_bytes true c = refl
-when_bytes false c = refl
-
-when_notices : (b : Bool) (c at : ℕ) → all_notices (when b c) at ≡ []
-when_notices true c at = refl
-when_notices false c at = refl
-
-set_part : (set : LegacySet) → all_bytes (set_actions set) ≡ legacy_bytes set
-set_part set =
-    all_bytes_append (when set.lock 0xF0) (when set.operand_size 0x66 ++ (when set.repne 0xF2 ++ when set.rep 0xF3))
-    ∙ rw (all_bytes_append (when set.operand_size 0x66) (when set.repne 0xF2 ++ when set.rep 0xF3), all_bytes_append (when set.repne 0xF2) (when set.rep 0xF3), when_bytes set.lock 0xF0, when_bytes set.operand_size 0x66, when_bytes set.repne 0xF2, when_bytes set.rep 0xF3) refl
-
-pub set_quiet : (set : LegacySet) (at : ℕ) → all_notices (set_actions set) at ≡ []
-set_quiet set at =
-    all_notices_append (when set.lock 0xF0) (when set.operand_size 0x66 ++ (when set.repne 0xF2 ++ when set.rep 0xF3)) at
-    ∙ rw (all_notices_append (when set.operand_size 0x66) (when set.repne 0xF2 ++ when set.rep 0xF3), all_notices_append (when set.repne 0xF2) (when set.rep 0xF3), when_notices set.lock 0xF0, when_notices set.operand_size 0x66, when_notices set.repne 0xF2, when_notices set.rep 0xF3) refl
-
-pub legacy_part : (set : LegacySet) (rex : Option Rex) → all_bytes (set_actions set ++ puts (rex_bytes rex)) ≡ legacy_bytes set ++ rex_bytes rex
-legacy_part set rex = all_bytes_append (set_actions set) (puts (rex_bytes rex)) ∙ rw (set_part set, all_bytes-puts (rex_bytes rex)) refl
+pub set_same : (set : LegacySet) → set_bytes set ≡ legacy_bytes set
+set_same set = rw (when_same set.lock 0xF0, when_same set.operand_size 0x66, when_same set.repne 0xF2, when_same set.rep 0xF3) refl
+  where
+    when_same : (b : Bool) (c : ℕ) → byte_when b c ≡ (if b then c ∷ [] else [])
+    when_same true c = refl
+    when_same false c = refl
 
 one_length : (b : Bool) (c : ℕ) → length (if b then c ∷ [] else []) ≡ one_if b
 one_length true c = refl
@@ -168,6 +152,10 @@ bare_stands enc reg (place.TheVariants.Memory amode) h e u = cc
 number_is : (a b : ℕ) → (a == b) ≡ true → a ≡ b
 number_is a b h = grind (arith, nat_tests)
 
+-- the number of a set is the one that goes with the row
+pub set_numbered : (prefix : PrefixField) (set : LegacySet) (rexed : Bool) (number : ℕ) → prefix ≡ LegacyField set rexed → has_set_number prefix number ≡ true → number ≡ set_number set
+set_numbered prefix set rexed number e h = number_is number (set_number set) (rw e at h)
+
 no_rex_matches : (rexed tailed : Bool) (stands : Bool) → (rexed || not tailed) ≡ true → (tailed ≡ false → stands ≡ false) → (rexed || not stands) ≡ true
 no_rex_matches true tailed stands h k = refl
 no_rex_matches false true stands h k = cc
@@ -185,7 +173,7 @@ no_vvvv None h = refl
 no_vvvv (Some number) h = cc
 
 -- legacy prefixes and REX
-pub legacy_for : {M : Type 0} (settled : M → Bool) (enc : M → ℕ) (line : Line) (reg : ℕ) (vvvv : Option Number) (operand : PlaceOperand M) (set : LegacySet) (rexed w : Bool) (rex : Option Rex) → line.prefix ≡ LegacyField set rexed → is_line line ≡ true → reg < 16 → place_is_real settled enc operand ≡ true → vvvv_fits line.prefix vvvv ≡ true → (has_tail line.tail || (is_no_place operand && (reg == 0))) ≡ true → w_matches line.w (from_bool w) ≡ true → (is_w0 line.w ≡ true → w ≡ false) → w ≡ is_w1 line.w → rex_bits rex ≡ record { w = from_bool w; r = reg / 8; x = place_x enc operand; b = place_b enc operand } → (IsSome rex ↔ IsTrue (rex_stands enc w (has_8bit line.tail) reg operand)) → PrefixFor enc line reg vvvv operand (all_bytes (set_actions set ++ puts (rex_bytes rex)))
+pub legacy_for : {M : Type 0} (settled : M → Bool) (enc : M → ℕ) (line : Line) (reg : ℕ) (vvvv : Option Number) (operand : PlaceOperand M) (set : LegacySet) (rexed w : Bool) (rex : Option Rex) → line.prefix ≡ LegacyField set rexed → is_line line ≡ true → reg < 16 → place_is_real settled enc operand ≡ true → vvvv_fits line.prefix vvvv ≡ true → (has_tail line.tail || (is_no_place operand && (reg == 0))) ≡ true → w_matches line.w (from_bool w) ≡ true → (is_w0 line.w ≡ true → w ≡ false) → w ≡ is_w1 line.w → rex_bits rex ≡ record { w = from_bool w; r = reg / 8; x = place_x enc operand; b = place_b enc operand } → (IsSome rex ↔ IsTrue (rex_stands enc w (has_8bit line.tail) reg operand)) → PrefixFor enc line reg vvvv operand (legacy_bytes set ++ rex_bytes rex)
 legacy_for settled enc line reg vvvv operand set rexed w rex is hl hr hp hv hb hw hz hv1 bits stands =
     let facts = line_facts line hl in
     let parts = and_parts (not (set.repne && set.rep)) (rexed || not (has_tail line.tail)) (rw is at facts.prefix) in
@@ -196,7 +184,7 @@ legacy_for settled enc line reg vvvv operand set rexed w rex is hl hr hp hv hb h
     let w_is : (rex_bits rex).w ≡ from_bool w = ap (λ (z : Rex). z.w) bits in
     record {
       prefix = legacy_prefix set rex;
-      reads = λ rest. rw (legacy_part set rex) (ap prefix_at (append_assoc (legacy_bytes set) (rex_bytes rex) (first_byte line.opcode ∷ rest)) ∙ prefix_back set rex (first_byte line.opcode) rest once are_bits (plain_byte (first_byte line.opcode) facts.plain));
+      reads = λ rest. (ap prefix_at (append_assoc (legacy_bytes set) (rex_bytes rex) (first_byte line.opcode ∷ rest)) ∙ prefix_back set rex (first_byte line.opcode) rest once are_bits (plain_byte (first_byte line.opcode) facts.plain));
       matches = rw (is, legacy_self set, rexed_or_none, w_is, hw) refl;
       x = ap (λ (z : Rex). z.x) bits;
       b = ap (λ (z : Rex). z.b) bits;
@@ -204,9 +192,9 @@ legacy_for settled enc line reg vvvv operand set rexed w rex is hl hr hp hv hb h
       vvvv_is = rw is (no_vvvv vvvv (rw is at hv));
       low_reg = λ e f. some_is rex (stands.1 (stands_for enc w (has_8bit line.tail) reg operand (or_true_left (uses_8bit_reg line.tail) (uses_8bit_place line.tail) e) (or_true_left (is_special_if_8bit reg) (place_special operand) f)));
       low_place = λ e f. some_is rex (stands.1 (stands_for enc w (has_8bit line.tail) reg operand (or_true_right (uses_8bit_reg line.tail) (uses_8bit_place line.tail) e) (or_true_right (is_special_if_8bit reg) (place_special operand) f)));
-      are_bytes = rw (legacy_part set rex) (both_bytes (legacy_bytes set) (rex_bytes rex) (set_are_bytes set) (rex_are_bytes rex are_bits));
-      size = rw (legacy_part set rex, is) (omega (arith, length-append (legacy_bytes set) (rex_bytes rex), set_length set, rex_length rex));
-      length = rw (legacy_part set rex, is, ← hv1) (omega (arith, length-append (legacy_bytes set) (rex_bytes rex), set_length set, rex_there rex (rex_stands enc w (has_8bit line.tail) reg operand) stands));
+      are_bytes = both_bytes (legacy_bytes set) (rex_bytes rex) (set_are_bytes set) (rex_are_bytes rex are_bits);
+      size = rw is (omega (arith, length-append (legacy_bytes set) (rex_bytes rex), set_length set, rex_length rex));
+      length = rw (is, ← hv1) (omega (arith, length-append (legacy_bytes set) (rex_bytes rex), set_length set, rex_there rex (rex_stands enc w (has_8bit line.tail) reg operand) stands));
     }
   where
     not_true_is : (a : Bool) → not a ≡ true → a ≡ false
@@ -297,7 +285,7 @@ no_true a e f = absurd (apart (sym e ∙ f))
     apart h = cc
 
 -- a VEX prefix
-pub vex_for : {M : Type 0} (enc : M → ℕ) (line : Line) (reg : ℕ) (vvvv : Option Number) (operand : PlaceOperand M) (pp map l : ℕ) (field : VvvvField) (w : Bool) (number : ℕ) (registers : Option ℕ × Option ℕ) (vex : VexPrefix) → IsBytes (vex_bytes vex) → line.prefix ≡ VexField pp map l field → is_line line ≡ true → vvvv_fits line.prefix vvvv ≡ true → w_matches line.w (from_bool w) ≡ true → number ≡ unwrap_or (option_map number_value vvvv) 0 → unwrap_or registers.0 0 / 8 ≡ place_b enc operand → unwrap_or registers.1 0 / 8 ≡ place_x enc operand → w ≡ is_w1 line.w → VexReadsAs (vex_fields reg number registers l pp map w) (vex_bytes vex) → ((length (vex_bytes vex) ≡ 2) ↔ IsTrue (fits_two_bytes (vex_fields reg number registers l pp map w))) → PrefixFor enc line reg vvvv operand (all_bytes (puts (vex_bytes vex)))
+pub vex_for : {M : Type 0} (enc : M → ℕ) (line : Line) (reg : ℕ) (vvvv : Option Number) (operand : PlaceOperand M) (pp map l : ℕ) (field : VvvvField) (w : Bool) (number : ℕ) (registers : Option ℕ × Option ℕ) (vex : VexPrefix) → IsBytes (vex_bytes vex) → line.prefix ≡ VexField pp map l field → is_line line ≡ true → vvvv_fits line.prefix vvvv ≡ true → w_matches line.w (from_bool w) ≡ true → number ≡ unwrap_or (option_map number_value vvvv) 0 → unwrap_or registers.0 0 / 8 ≡ place_b enc operand → unwrap_or registers.1 0 / 8 ≡ place_x enc operand → w ≡ is_w1 line.w → VexReadsAs (vex_fields reg number registers l pp map w) (vex_bytes vex) → ((length (vex_bytes vex) ≡ 2) ↔ IsTrue (fits_two_bytes (vex_fields reg number registers l pp map w))) → PrefixFor enc line reg vvvv operand (vex_bytes vex)
 vex_for enc line reg vvvv operand pp map l field w number registers vex bytes is hl hv hw hn hb hx hv1 back two =
     let facts = line_facts line hl in
     let vvvv_is = vvvv_there field vvvv pp map l number (rw is at hv) hn in
@@ -305,7 +293,7 @@ vex_for enc line reg vvvv operand pp map l field w number registers vex bytes is
     let low : fits_two_bytes (vex_fields reg number registers l pp map w) ≡ ((map == 1) && (not (place_high enc operand) && (from_bool w == 0))) = rw (hx, hb) (place_low enc operand (from_bool w) map) in
     record {
       prefix = vex_prefix (vex_fields reg number registers l pp map w);
-      reads = λ rest. rw (all_bytes-puts (vex_bytes vex)) (prefix_vex vex (vex_fields reg number registers l pp map w) (first_byte line.opcode ∷ rest) back);
+      reads = λ rest. prefix_vex vex (vex_fields reg number registers l pp map w) (first_byte line.opcode ∷ rest) back;
       matches = rw (is, itself pp, itself map, itself l, vvvv_is.0, hw) refl;
       x = hx;
       b = hb;
@@ -313,7 +301,7 @@ vex_for enc line reg vvvv operand pp map l field w number registers vex bytes is
       vvvv_is = rw is vvvv_is.1;
       low_reg = λ e f. no_true (uses_8bit_reg line.tail) none.0 e;
       low_place = λ e f. no_true (uses_8bit_place line.tail) none.1 e;
-      are_bytes = rw (all_bytes-puts (vex_bytes vex)) bytes;
-      size = rw (all_bytes-puts (vex_bytes vex), is) (vex_length vex);
-      length = rw (all_bytes-puts (vex_bytes vex), is, ← hv1, ← no_w w) (vex_there vex (fits_two_bytes (vex_fields reg number registers l pp map w)) two ∙ ap (λ (t : Bool). if t then 2 else 3) low);
+      are_bytes = bytes;
+      size = rw is (vex_length vex);
+      length = rw (is, ← hv1, ← no_w w) (vex_there vex (fits_two_bytes (vex_fields reg number registers l pp map w)) two ∙ ap (λ (t : Bool). if t then 2 else 3) low);
     }

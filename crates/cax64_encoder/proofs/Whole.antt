@@ -8,7 +8,6 @@ use Rattle.cax64_sink.specs.Run.{all_bytes, all_notices}
 use Rattle.cax64_sink.specs.Call.{Action}
 use Rattle.cax64_sink.specs.declared.Notice.{Notice}
 use Rattle.cax64_sink.specs.declared.TrapCode.{TrapCode}
-use Rattle.cax64_sink.proofs.Runs.{all_notices_append}
 use Rattle.cax64_sink.proofs.Ends.{ends_append}
 use Rattle.cax64_sink.specs.Ends.{EndsInBytes}
 use Rattle.cax64_address.specs.Address.{displaced_place, target_notices, trap_of}
@@ -38,17 +37,11 @@ use Rattle.cax64_machine_code.specs.declared.line.TailField.{TailField}
 use Rattle.cax64_machine_code.specs.declared.line.TailField.TheVariants.{NoTail, Modrm}
 use Rattle.cax64_machine_code.proofs.Matched.{reads_as, reads_as_tail, reads_as_row}
 use Rattle.cax64_machine_code.proofs.Written.{IsPrefix, IsImm, DigitIs, bare_found, tail_found}
-use Rattle.cax64_sink.specs.Puts.{puts}
 use Rattle.cax64_table.specs.Numbers.{digit_of}
-use Rattle.cax64_prefix.specs.Rex.{rex_bytes}
-use Rattle.cax64_prefix.specs.Vex.{vex_bytes}
-use Rattle.cax64_sink.proofs.PutRuns.{all_notices-puts}
-use Rattle.cax64_encoder.proofs.PrefixParts.{set_quiet}
-use Rattle.cax64_encoder.specs.declared.code.PrefixCode.{PrefixCode}
-use Rattle.cax64_encoder.specs.declared.code.PrefixCode.TheVariants.{Legacy, Vex}
-use Rattle.cax64_encoder.specs.Code.{set_actions, prefix_actions, trap_actions, opcode_actions}
+use Rattle.cax64_encoder.specs.Code.{trap_actions}
+use Rattle.cax64_encoder.proofs.Opcode.{opcode_actions}
 use Rattle.cax64_encoder.specs.Encodes.{TailPartOf, EncodesParts, form_parts}
-use Rattle.cax64_encoder.specs.Form.{fits, tail_fits, reg_fits, place_fits, is_no_place, is_absent, vvvv_fits}
+use Rattle.cax64_encoder.specs.Form.{Form, fits, tail_fits, reg_fits, place_fits, is_no_place, is_absent, vvvv_fits}
 use Rattle.cax64_encoder.specs.ImmActions.{optional_imm_actions}
 use Rattle.cax64_encoder.specs.Instruction.{ShortestFor}
 use Rattle.cax64_encoder.specs.Line.{first_byte, has_tail, is_line, is_digit, tail_size}
@@ -63,7 +56,6 @@ use Rattle.cax64_encoder.specs.declared.number.Number.{Number}
 use Rattle.cax64_encoder.specs.declared.number.Number.TheVariants.{Settled, Unsettled}
 use Rattle.cax64_operand.specs.declared.immediate.ImmOperand.{ImmOperand}
 use Rattle.cax64_operand.specs.declared.immediate.ImmOperand.TheVariants.{Imm8, Imm16, Imm32, Simm8, Simm32}
-use Rattle.cax64_encoder.specs.declared.form.Form.{Form}
 use Rattle.cax64_encoder.specs.declared.role.PlaceOperand as place
 use Rattle.cax64_encoder.specs.declared.role.PlaceOperand.{PlaceOperand}
 use Rattle.cax64_encoder.proofs.Bytes.{no_bytes, both_bytes, opcode_are_bytes, imm_are_bytes}
@@ -400,10 +392,6 @@ pub imm_sized_as : {M : Type 0} (line : Line) (o : Form M) → fits line o ≡ t
 imm_sized_as line o h =
     let q = and_parts (vvvv_fits line.prefix o.vvvv) (imm_fits line.imm o.imm) (and_parts (tail_fits line.tail o.reg o.place) _ h).1 in
     imm_same line.imm o.imm q.1
-
-pub prefix_quiet : (code : PrefixCode) (k : ℕ) → all_notices (prefix_actions code) k ≡ []
-prefix_quiet (Legacy set rex) k = all_notices_append (set_actions set) (puts (rex_bytes rex)) k ∙ rw (set_quiet set k) (all_notices-puts (rex_bytes rex) _)
-prefix_quiet (Vex vex) k = all_notices-puts (vex_bytes vex) k
 
 -- the same of a line that is the row's
 pub line_encodes : {M : Type 0} (enc : M → ℕ) (row : Row) (line : Line) (o : Form M) (disp : ℤ) (pre tail : List Action) → line_of row ≡ line → is_line line ≡ true → fits line o ≡ true → PrefixFor enc line (register_number o.reg) o.vvvv o.place (all_bytes pre) → ((k : ℕ) → all_notices pre k ≡ []) → TailPartOf enc disp (imm_size o.imm) (reg_number line.tail o.reg) o.place tail → IsBytes (all_bytes tail) → EncodesParts (form_parts enc row disp o) (memory_in o.place) (instruction_actions line (trap_in o.place) pre tail o)

@@ -12,12 +12,12 @@ use Rattle.cax64_operand.specs.Immediate.{imm_size, imm_value}
 use Rattle.cax64_sink.specs.Ends.{EndsInBytes}
 use Rattle.cax64_sink.specs.Run.{all_bytes, all_notices}
 use Rattle.cax64_sink.specs.Call.{Action}
+use Rattle.cax64_encoder.specs.Form.{Form}
 use Rattle.cax64_encoder.specs.Instruction.{ShortestFor}
 use Rattle.cax64_encoder.specs.Meant.{Meant, len, low}
 use Rattle.cax64_encoder.specs.Notices.{notices_of}
 use Rattle.cax64_encoder.specs.Number.{number_value}
 use Rattle.cax64_encoder.specs.Place.{place_read}
-use Rattle.cax64_encoder.specs.declared.form.Form.{Form}
 use Rattle.cax64_encoder.specs.declared.role.PlaceOperand as place
 use Rattle.cax64_encoder.specs.declared.role.PlaceOperand.{PlaceOperand}
 

@@ -13,12 +13,22 @@ use Rattle.cax64_operand.specs.Family.{Family}
 use Rattle.cax64_operand.specs.Shape.{imm_fits}
 use Rattle.cax64_operand.specs.declared.operand.Operand.{Operand}
 use Rattle.cax64_encoder.specs.Role.{roles_of}
-use Rattle.cax64_encoder.specs.declared.form.Form.{Form}
+use Rattle.cax64_operand.specs.declared.immediate.ImmOperand.{ImmOperand}
 use Rattle.cax64_encoder.specs.declared.number.Number.{Number}
 use Rattle.cax64_encoder.specs.declared.role.PlaceOperand as place
 use Rattle.cax64_encoder.specs.declared.role.PlaceOperand.{PlaceOperand}
 use Rattle.cax64_encoder.specs.declared.role.Role.{Role}
 use Rattle.cax64_encoder.specs.declared.role.Role.TheVariants as role
+
+-- The operands that the bytes hold. What an instruction lacks is absent.
+pub record Form (M : Type 0) : Type 0 where
+  -- the register in the reg field of ModR/M
+  pub reg : Option Number
+  -- the register in vvvv of a VEX prefix
+  pub vvvv : Option Number
+  -- what the rest of the tail names
+  pub place : PlaceOperand M
+  pub imm : Option ImmOperand
 
 -- The form of operands, put together from the last to the first.
 
@@ -38,6 +48,14 @@ with_roles (role ∷ later) = with_role role (with_roles later)
 
 abbrev pub form_of : {R A B C D E F : Type 0} → Family A B C D E F → List (Operand R A B C D E F) → Form A
 form_of f operands = with_roles (roles_of f operands)
+
+-- what an operand is to the rest of the tail, or else this
+abbrev pub place_or : {M : Type 0} → Role M → PlaceOperand M → PlaceOperand M
+place_or (role.Register number) later = later
+place_or (role.TwoRegisters first second same) later = later
+place_or (role.FixedRegister fixed) later = later
+place_or (role.Place operand) later = operand
+place_or (role.Immediate imm) later = later
 
 -- Whether a form has the shape that a row asks for.
 

@@ -2,10 +2,10 @@ use Rattle.std.specs.Prelude.{ℕ, ◌/◌, ◌&&◌, Bool, true, Option, Some, 
 use Rattle.cax64_address.specs.Address as address
 use Rattle.cax64_address.specs.Address.{trap_of}
 use Rattle.cax64_sink.specs.declared.TrapCode.{TrapCode}
+use Rattle.cax64_encoder.specs.Form.{Form}
 use Rattle.cax64_encoder.specs.Fault.{late_offset_fits}
 use Rattle.cax64_encoder.specs.Number.{is_real_number, number_value}
 use Rattle.cax64_encoder.specs.Place.{memory_in}
-use Rattle.cax64_encoder.specs.declared.form.Form.{Form}
 use Rattle.cax64_encoder.specs.declared.number.Number.{Number}
 use Rattle.cax64_encoder.specs.declared.role.PlaceOperand.{PlaceOperand}
 use Rattle.cax64_encoder.specs.declared.role.PlaceOperand.TheVariants.{NoPlace, Register, Memory}

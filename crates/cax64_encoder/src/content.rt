@@ -1,63 +1,52 @@
 //! What the encoder keeps of the operands.
 
 ghost use Rattle.std.specs.Prelude.{◌≡◌};
-ghost use Rattle.cax64_encoder.specs.Content.{content_notices, with_content};
-ghost use Rattle.cax64_encoder.specs.Form.{no_form};
-ghost use Rattle.cax64_encoder.specs.declared.content.Content.TheVariants as content;
+ghost use Rattle.cax64_encoder.specs.Content.{no_content, nop_content, with_content};
 
-use crate::form::Form;
-use crate::role::role_of;
+use crate::numbered::NumberedForm;
 use cax64_operand::{FromOperands, Nop, Operand, RegisterFamily};
 use cax64_register::Registers;
 
 /// What the bytes of an instruction are made of, beside its row.
-#[derive(Drop)]
-pub enum Content<R: Registers> {
-    Nop(Nop),
-    Operands(Form<R::ReadGpr>),
+#[derive(Clone, Copy)]
+pub struct Content {
+    /// Which of the no-operations it is, if it is one.
+    pub nop: Option<Nop>,
+    pub form: NumberedForm,
 }
 
-impl<R: Registers> FromOperands<R> for Content<R> {
-    ghost made_of_none = { content.Operands no_form };
+impl<R: Registers> FromOperands<R> for Content {
+    ghost made_of_none = { no_content };
 
     ghost made_with = { with_content ⟦<R as RegisterFamily>⟧.family };
 
-    ghost made_of_nop = { content.Nop };
+    ghost made_of_nop = { nop_content };
 
     #[inline(always)]
-    fn none() -> Content<R>
-        ensures { result ≡ content.Operands no_form }
+    fn none() -> Content
+        ensures { result ≡ no_content }
     {
-        Content::Operands(Form::none())
-    }
-
-    #[inline(always)]
-    fn with(self, operand: Operand<R>) -> Content<R>
-        ensures { result ≡ with_content ⟦<R as RegisterFamily>⟧.family operand self }
-    {
-        match self {
-            Content::Nop(nop) => Content::Nop(nop),
-            Content::Operands(form) => Content::Operands(form.with(role_of(&operand))),
+        Content {
+            nop: None,
+            form: NumberedForm::none(),
         }
     }
 
     #[inline(always)]
-    fn nop(nop: Nop) -> Content<R>
-        ensures { result ≡ content.Nop nop }
+    fn with(mut self, operand: Operand<R>) -> Content
+        ensures { result ≡ with_content ⟦<R as RegisterFamily>⟧.family operand self }
     {
-        Content::Nop(nop)
+        self.form.add(&operand);
+        self
     }
-}
 
-impl<R: Registers> Content<R> {
-    /// How many notices the instruction has: of a trap, or of a target.
     #[inline(always)]
-    pub fn notice_count(&self) -> u8
-        ensures { result ≡ content_notices self.now }
+    fn nop(nop: Nop) -> Content
+        ensures { result ≡ nop_content nop }
     {
-        match self {
-            Content::Nop(_) => 0,
-            Content::Operands(form) => form.place.notice_count(),
+        Content {
+            nop: Some(nop),
+            form: NumberedForm::none(),
         }
     }
 }

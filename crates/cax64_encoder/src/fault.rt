@@ -10,7 +10,6 @@ ghost use Rattle.cax64_encoder.specs.Visits.{place_visits, visits_of};
 ghost use Rattle.cax64_operand.specs.Family.{numbering};
 ghost use Rattle.cax64_operand.specs.OperandList.{list_of};
 
-use crate::form::form_of;
 use crate::number::Number;
 use crate::role::{FixedNumber, PlaceOperand, Role, role_of};
 use cax64_address::amode::Amode;
@@ -196,6 +195,32 @@ fn late_fault<M: AsReg, S: CodeSink>(place: &PlaceOperand<M>, sink: &S) -> Optio
     }
 }
 
+/// What the rest of the tail names.
+#[tactic(auto, using(crate::proofs::Forms::place_first))]
+fn place_of<R: Registers>(operands: &Operands<R>) -> PlaceOperand<R::ReadGpr>
+    ensures { result ≡ place_in (roles_of ⟦<R as RegisterFamily>⟧.family (list_of operands.now)) }
+{
+    let none = PlaceOperand::NoPlace;
+    match operands {
+        Operands::Zero | Operands::Nop(_) => none,
+        Operands::One(a) => role_of(a).place_or(none),
+        Operands::Two(a, b) => role_of(a).place_or(role_of(b).place_or(none)),
+        Operands::Three(a, b, c) => {
+            let later = role_of(c).place_or(none);
+            role_of(a).place_or(role_of(b).place_or(later))
+        }
+        Operands::Four(a, b, c, d) => {
+            let later = role_of(c).place_or(role_of(d).place_or(none));
+            role_of(a).place_or(role_of(b).place_or(later))
+        }
+        Operands::Five(a, b, c, d, e) => {
+            let last = role_of(e).place_or(none);
+            let later = role_of(c).place_or(role_of(d).place_or(last));
+            role_of(a).place_or(role_of(b).place_or(later))
+        }
+    }
+}
+
 /// Why operands can't be encoded for this sink: the first register, in the order of visits, that isn't as it has to be,
 /// or else the late offset.
 pub fn first_fault<R: Registers, S: CodeSink>(operands: &Operands<R>, sink: &S) -> Option<Fault>
@@ -204,6 +229,6 @@ pub fn first_fault<R: Registers, S: CodeSink>(operands: &Operands<R>, sink: &S) 
 {
     match first_unmet(&all_visits(operands)) {
         Some(fault) => Some(fault),
-        None => late_fault(&form_of(operands).place, sink),
+        None => late_fault(&place_of(operands), sink),
     }
 }

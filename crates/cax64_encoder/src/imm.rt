@@ -1,35 +1,40 @@
 //! Immediates at the end of an instruction.
 
 ghost use Rattle.std.specs.Prelude.{◌≡◌};
-ghost use Rattle.cax64_encoder.specs.ImmActions.{imm_actions, optional_imm_actions};
+ghost use Rattle.cax64_encoder.specs.ImmActions.{imm_word, word_actions};
 ghost use Rattle.cax64_sink.specs.Run.{Ran};
 
 use cax64_operand::ImmOperand;
 use cax64_sink::{CodeSink, SinkError};
 
-/// One put of the immediate's size.
-#[tactic(auto, using(cax64_sink::proofs::Runs::ran_one))]
+/// The bytes of an immediate as one word, the first one the lowest.
 #[inline(always)]
-fn put_imm<S: CodeSink>(sink: &mut S, imm: ImmOperand) -> Result<(), SinkError>
-    ensures { Ran (imm_actions imm) (S.state sink.old) (S.state sink.new) result }
+pub(crate) fn word_of(imm: ImmOperand) -> u32
+    ensures { result ≡ imm_word imm }
 {
     match imm {
-        ImmOperand::Imm8(value) => sink.put1(value),
-        ImmOperand::Imm16(value) => sink.put2(value),
-        ImmOperand::Imm32(value) => sink.put4(value),
-        ImmOperand::Simm8(value) => sink.put1(value.cast_unsigned()),
-        ImmOperand::Simm32(value) => sink.put4(value.cast_unsigned()),
+        ImmOperand::Imm8(value) => u32::from(value),
+        ImmOperand::Imm16(value) => u32::from(value),
+        ImmOperand::Imm32(value) => value,
+        ImmOperand::Simm8(value) => u32::from(value.cast_unsigned()),
+        ImmOperand::Simm32(value) => value.cast_unsigned(),
     }
 }
 
-/// Puts an immediate, if there is one.
-#[tactic(auto, using(cax64_sink::proofs::Runs::ran_none))]
+/// Puts so many lowest bytes of a word, none, one, two or four, at once.
+#[tactic(auto, using(cax64_sink::proofs::Runs::ran_none, cax64_sink::proofs::Runs::ran_one))]
 #[inline(always)]
-pub fn put_optional_imm<S: CodeSink>(sink: &mut S, imm: Option<ImmOperand>) -> Result<(), SinkError>
-    ensures { Ran (optional_imm_actions imm) (S.state sink.old) (S.state sink.new) result }
+pub(crate) fn put_imm<S: CodeSink>(sink: &mut S, word: u32, len: u8) -> Result<(), SinkError>
+    ensures { Ran (word_actions len word) (S.state sink.old) (S.state sink.new) result }
 {
-    match imm {
-        Some(imm) => put_imm(sink, imm),
-        None => Ok(()),
+    if len == 1 {
+        return sink.put1((word % 0x100) as u8);
     }
+    if len == 2 {
+        return sink.put2((word % 0x1_0000) as u16);
+    }
+    if len == 4 {
+        return sink.put4(word);
+    }
+    Ok(())
 }

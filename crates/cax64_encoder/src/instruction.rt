@@ -117,8 +117,8 @@ impl<I: RowAndOperands> Instruction for I {
     }
 
     fn notice_count(&self) -> u8 {
-        let content: Content<I::Family> = self.fold_operands();
-        content.notice_count()
+        let content: Content = self.fold_operands();
+        content.form.place.notice_count()
     }
 
     fn encode<S: CodeSink>(&self, sink: &mut S) -> Result<(), SinkError> {

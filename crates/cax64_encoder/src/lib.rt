@@ -9,13 +9,14 @@ pub mod code;
 pub mod content;
 pub mod encoder;
 pub mod fault;
-pub mod form;
+mod front;
 pub mod imm;
 pub mod instruction;
 pub mod laws;
 pub mod message;
 pub mod nop;
 pub mod number;
+pub mod numbered;
 pub mod role;
 pub mod short;
 

@@ -1,50 +1,55 @@
-//! The bytes of instructions that do nothing.
+//! The code of instructions that do nothing.
 
 ghost use Rattle.std.specs.Prelude.{◌≡◌};
+ghost use Rattle.cax64_encoder.specs.Code.{HasFront, code_actions};
 ghost use Rattle.cax64_encoder.specs.NopActions.{nop_lead, nop_zeros, nop_actions};
-ghost use Rattle.cax64_sink.specs.Run.{Ran};
 
-use crate::imm::put_optional_imm;
+use crate::code::Code;
 use crate::short::Short;
-use cax64_operand::{ImmOperand, Nop};
-use cax64_sink::{CodeSink, SinkError};
+use cax64_operand::Nop;
 
-/// The bytes up to ModR/M, and SIB or a displacement of one byte if that is the last.
+/// The bytes up to ModR/M, and SIB or a displacement of one byte if that is the last: the first one is the lowest.
 #[inline(always)]
 fn lead(nop: Nop) -> Short
     ensures { result ≡ nop_lead nop }
 {
-    let none = Short::empty();
     match nop {
-        Nop::One => none.push(0x90),
-        Nop::Two => none.push(0x66).push(0x90),
-        Nop::Three => none.push(0x0F).push(0x1F).push(0x00),
-        Nop::Four => none.push(0x0F).push(0x1F).push(0x40).push(0x00),
-        Nop::Five => none.push(0x0F).push(0x1F).push(0x44),
-        Nop::Six => none.push(0x66).push(0x0F).push(0x1F).push(0x44),
-        Nop::Seven => none.push(0x0F).push(0x1F).push(0x80),
-        Nop::Eight => none.push(0x0F).push(0x1F).push(0x84).push(0x00),
-        Nop::Nine => none.push(0x66).push(0x0F).push(0x1F).push(0x84).push(0x00),
+        Nop::One => Short::of_word(0x90, 1),
+        Nop::Two => Short::of_word(0x9066, 2),
+        Nop::Three => Short::of_word(0x00_1F0F, 3),
+        Nop::Four => Short::of_word(0x0040_1F0F, 4),
+        Nop::Five => Short::of_word(0x44_1F0F, 3),
+        Nop::Six => Short::of_word(0x441F_0F66, 4),
+        Nop::Seven => Short::of_word(0x80_1F0F, 3),
+        Nop::Eight => Short::of_word(0x0084_1F0F, 4),
+        Nop::Nine => Short::of_word(0x00_841F_0F66, 5),
     }
 }
 
-/// The zeros behind them, which are put at once.
+/// How many zeros stand behind them, which are put at once.
 #[inline(always)]
-fn zeros(nop: Nop) -> Option<ImmOperand>
+fn zeros(nop: Nop) -> u8
     ensures { result ≡ nop_zeros nop }
 {
     match nop {
-        Nop::One | Nop::Two | Nop::Three | Nop::Four => None,
-        Nop::Five | Nop::Six => Some(ImmOperand::Imm16(0)),
-        Nop::Seven | Nop::Eight | Nop::Nine => Some(ImmOperand::Imm32(0)),
+        Nop::One | Nop::Two | Nop::Three | Nop::Four => 0,
+        Nop::Five | Nop::Six => 2,
+        Nop::Seven | Nop::Eight | Nop::Nine => 4,
     }
 }
 
-/// Puts the bytes of a no-operation.
+/// The code of a no-operation.
 #[inline(always)]
-pub fn put_nop<S: CodeSink>(sink: &mut S, nop: Nop) -> Result<(), SinkError>
-    ensures { Ran (nop_actions nop) (S.state sink.old) (S.state sink.new) result }
+pub fn nop_code(nop: Nop) -> Code
+    ensures actions { code_actions result ≡ nop_actions nop }
+    ensures front { HasFront result }
 {
-    lead(nop).put(sink)?;
-    put_optional_imm(sink, zeros(nop))
+    Code {
+        trap: None,
+        front: lead(nop),
+        target: None,
+        long: None,
+        imm: 0,
+        imm_len: zeros(nop),
+    }
 }

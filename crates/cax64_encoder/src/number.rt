@@ -26,15 +26,12 @@ impl Number {
         }
     }
 
-    /// The number, or 0 of a virtual register.
+    /// The number of a register, or 0 of a virtual one.
     #[inline(always)]
-    pub fn value(self) -> u8
-        ensures { result ≡ number_value self }
+    pub fn value_of<R: AsReg>(reg: R) -> u8
+        ensures { result ≡ number_value (number_of R.settled R.enc reg) }
     {
-        match self {
-            Number::Settled(number) => number,
-            Number::Unsettled => 0,
-        }
+        if reg.settled() { reg.enc() } else { 0 }
     }
 
     /// Whether an instruction can hold the register.

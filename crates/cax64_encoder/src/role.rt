@@ -1,17 +1,15 @@
 //! What an operand is to the bytes and to a visit, whatever its register type.
 
-ghost use Rattle.std.specs.Prelude.{◌≡◌, IsTrue};
-ghost use Rattle.cax64_encoder.specs.Place.{gpr_mem_place, xmm_mem_place, memory_in, displacement_in};
-ghost use Rattle.cax64_encoder.specs.Notices.{memory_notices};
+ghost use Rattle.std.specs.Prelude.{◌≡◌};
+ghost use Rattle.cax64_encoder.specs.Form.{place_or};
+ghost use Rattle.cax64_encoder.specs.Place.{gpr_mem_place, xmm_mem_place};
 ghost use Rattle.cax64_encoder.specs.Role.{role_of};
-ghost use Rattle.cax64_encoder.specs.Real.{place_is_addressable};
 
 use crate::number::Number;
 use cax64_address::amode::Amode;
 use cax64_address::operand::{GprMem, XmmMem};
 use cax64_operand::{ImmOperand, Operand, RegisterFamily};
 use cax64_register::{AsReg, Registers};
-use cax64_sink::CodeSink;
 
 /// What the rest of the tail names.
 #[derive(Clone, Copy, Debug, PartialEq)]
@@ -43,30 +41,6 @@ impl<M: AsReg> PlaceOperand<M> {
             XmmMem::Mem(amode) => PlaceOperand::Memory(amode),
         }
     }
-
-    /// How many notices an instruction with this place has: of a trap, or of a target.
-    #[inline(always)]
-    pub fn notice_count(&self) -> u8
-        ensures { result ≡ memory_notices (memory_in self.now) }
-    {
-        match *self {
-            PlaceOperand::Memory(Amode::RipRelative { .. }) => 1,
-            PlaceOperand::Memory(amode) => u8::from(amode.trap_code().is_some()),
-            _ => 0,
-        }
-    }
-
-    /// The displacement of the memory operand, in bytes, with its late offset; 0 where there is none.
-    #[inline(always)]
-    pub fn displacement<S: CodeSink>(&self, sink: &S) -> i32
-        requires { IsTrue (place_is_addressable M.settled M.enc (S.state sink.now).offsets self.now) }
-        ensures { result ≡ displacement_in (S.state sink.now).offsets self.now }
-    {
-        match self {
-            PlaceOperand::Memory(amode) => amode.displacement(sink),
-            _ => 0,
-        }
-    }
 }
 
 /// A register that an instruction fixes to a number.
@@ -88,6 +62,18 @@ pub enum Role<M: AsReg> {
     /// The rest of the tail.
     Place(PlaceOperand<M>),
     Immediate(ImmOperand),
+}
+
+impl<M: AsReg> Role<M> {
+    /// What this operand is to the rest of the tail, or else this.
+    pub(crate) fn place_or(self, later: PlaceOperand<M>) -> PlaceOperand<M>
+        ensures { result ≡ place_or self later }
+    {
+        match self {
+            Role::Place(place) => place,
+            _ => later,
+        }
+    }
 }
 
 /// What an operand is to the bytes and to a visit.

@@ -1,7 +1,8 @@
 //! A few bytes as one word.
 
-ghost use Rattle.std.specs.Prelude.{◌≡◌, ◌≤◌, ◌<◌, ◌∷◌, [], ◌++◌, ◌+◌, length};
-ghost use Rattle.cax64_encoder.specs.ByteWhen.{byte_of, byte_when};
+ghost use Rattle.std.specs.Prelude.{◌≡◌, ◌≤◌, ◌<◌, ◌^◌, ◌∷◌, [], ◌++◌, ◌+◌, length, take};
+ghost use Rattle.std.specs.Int.{to_le_bytes, w64};
+ghost use Rattle.cax64_encoder.specs.ByteWhen.{byte_of};
 ghost use Rattle.cax64_sink.specs.Puts.{puts};
 ghost use Rattle.cax64_sink.specs.Run.{Ran};
 
@@ -34,57 +35,56 @@ impl Short {
         Short { word: 0, len: 0 }
     }
 
-    /// The same with one more byte behind the others.
     #[inline(always)]
-    fn longer(&self, byte: u8) -> Short
-        requires { length self.now < 8 }
-        ensures bytes { result ≡ self.now ++ (byte ∷ []) }
-        ensures length { length result ≡ length self.now + 1 }
+    pub fn one(byte: u8) -> Short
+        ensures bytes { result ≡ byte ∷ [] }
+        ensures length { length result ≡ 1 }
+    {
+        Short::of_word(u64::from(byte), 1)
+    }
+
+    /// The byte, if there is one.
+    #[inline(always)]
+    pub fn optional(byte: Option<u8>) -> Short
+        ensures bytes { result ≡ byte_of byte }
+        ensures length { length result ≤ 1 }
     {
         Short {
-            word: self.word + (u64::from(byte) << (8 * u32::from(self.len))),
-            len: self.len + 1,
+            word: u64::from(byte.unwrap_or(0)),
+            len: u8::from(byte.is_some()),
         }
     }
 
-    /// The same with one more byte behind the others.
+    /// So many lowest bytes of a word that has no others.
     #[inline(always)]
-    pub fn push(self, byte: u8) -> Short
-        requires { length self < 8 }
-        ensures bytes { result ≡ self ++ (byte ∷ []) }
-        ensures length { length result ≡ length self + 1 }
+    pub fn of_word(word: u64, len: u8) -> Short
+        requires few { len ≤ 8 }
+        requires below { word < 256 ^ len }
+        ensures bytes { result ≡ take len (to_le_bytes w64 word) }
+        ensures length { length result ≡ len }
     {
-        self.longer(byte)
+        Short { word, len }
     }
 
-    /// The same with a byte behind the others, if it stands. The longer word is made either way, and one of the two
-    /// taken: a branch would cost more.
+    /// The same with these behind the others. Nothing is tested: a branch would cost more.
     #[inline(always)]
-    pub fn push_if(self, stands: bool, byte: u8) -> Short
-        requires { length self < 8 }
-        ensures bytes { result ≡ self ++ byte_when stands byte }
-        ensures length { length result ≤ length self + 1 }
+    pub fn append(self, behind: Short) -> Short
+        requires few { length self < 8 }
+        requires room { length self + length behind ≤ 8 }
+        ensures bytes { result ≡ self ++ behind }
+        ensures length { length result ≡ length self + length behind }
     {
-        let longer = self.longer(byte);
-        if stands { longer } else { self }
-    }
-
-    /// The same with a byte behind the others, if there is one.
-    #[inline(always)]
-    pub fn push_some(self, byte: Option<u8>) -> Short
-        requires { length self < 8 }
-        ensures bytes { result ≡ self ++ byte_of byte }
-        ensures length { length result ≤ length self + 1 }
-    {
-        let longer = self.longer(byte.unwrap_or(0));
-        if byte.is_some() { longer } else { self }
+        Short {
+            word: self.word + (behind.word << (8 * u32::from(self.len))),
+            len: self.len + behind.len,
+        }
     }
 
     /// Puts the bytes, at least one, as one by one.
     #[inline(always)]
-    pub fn put<S: CodeSink>(self, sink: &mut S) -> Result<(), SinkError>
-        requires { 1 ≤ length self }
-        ensures { Ran (puts self) (S.state sink.old) (S.state sink.new) result }
+    pub fn put<S: CodeSink>(&self, sink: &mut S) -> Result<(), SinkError>
+        requires { 1 ≤ length self.now }
+        ensures { Ran (puts self.now) (S.state sink.old) (S.state sink.new) result }
     {
         sink.put_low_bytes(self.word, self.len)
     }

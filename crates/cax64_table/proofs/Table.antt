@@ -5,7 +5,7 @@ use Rattle.cax64_machine_code.specs.declared.row.Row.{Row}
 use Rattle.cax64_machine_code.specs.declared.row.Row.TheVariants.{lock_addb_mi}
 use Rattle.cax64_machine_code.specs.Line.{imm_bytes}
 use Rattle.cax64_machine_code.specs.Rows.{line_of}
-use Rattle.cax64_table.specs.Numbers.{digit_of, has_8bit}
+use Rattle.cax64_table.specs.Numbers.{digit_of, has_8bit, has_set_number}
 use Rattle.cax64_table.specs.Packed.{unpacked, number_of}
 use Rattle.cax64_table.specs.declared.packed.TheConstants.{TABLE}
 
@@ -39,3 +39,8 @@ pub imm_len_is : (row : Row) → slice_index TABLE (number_of row) / 2 ^ 0 % 2 ^
 unfolding line_of number_of
 imm_len_is lock_addb_mi = refl
 imm_len_is _ = refl
+
+pub legacy_is : (row : Row) → has_set_number (line_of row).prefix (slice_index TABLE (number_of row) / 2 ^ 7 % 2 ^ 4) ≡ true
+unfolding line_of number_of
+legacy_is lock_addb_mi = refl
+legacy_is _ = refl

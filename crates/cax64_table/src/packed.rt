@@ -1,11 +1,11 @@
 //! The table, one packed number for each row. Nothing outside this module knows how a row is packed.
 
-ghost use Rattle.std.specs.Prelude.{◌≡◌, ◌≤◌, ◌/◌, ◌%◌, ◌^◌, ◌<◌, nat_lt, true, false, length, All, Contains};
+ghost use Rattle.std.specs.Prelude.{◌≡◌, ◌≤◌, ◌/◌, ◌%◌, ◌^◌, ◌<◌, nat_lt, true, false, length, All, Contains, IsTrue};
 ghost use Rattle.std.specs.Option.{ForSome};
 ghost use Rattle.std.specs.List.Sorted.{IsNonDecreasingBy, IsPartitionPoint};
 ghost use Rattle.cax64_machine_code.specs.Line.{imm_bytes};
 ghost use Rattle.cax64_machine_code.specs.Rows.{line_of};
-ghost use Rattle.cax64_table.specs.Numbers.{digit_of, has_8bit};
+ghost use Rattle.cax64_table.specs.Numbers.{digit_of, has_8bit, has_set_number};
 ghost use Rattle.cax64_table.specs.Packed.{prefix_field, w_field, opcode_field, place_field, tail_field, imm_field, unpacked, flag_at, number_of, entry_of};
 ghost use Rattle.cax64_table.specs.Key.{key_of, row_key, HasKey};
 ghost use Rattle.cax64_machine_code.specs.declared.row.Row.{Row};
@@ -536,6 +536,8 @@ pub struct LineNumbers {
     pub uses_8bit: bool,
     /// How many bytes of immediate there are.
     pub imm_len: u8,
+    /// The flags of F0, 66, F2 and F3, from the lowest bit, where the row has legacy prefixes. Below 16.
+    pub legacy: u8,
 }
 
 /// What the bytes of a row's instructions take of its line as numbers.
@@ -544,6 +546,8 @@ pub fn line_numbers(row: Row) -> LineNumbers
     ensures digit { result.digit ≡ digit_of (line_of row).tail }
     ensures uses_8bit { result.uses_8bit ≡ has_8bit (line_of row).tail }
     ensures imm_len { result.imm_len ≡ imm_bytes (line_of row).imm }
+    ensures legacy { IsTrue (has_set_number (line_of row).prefix result.legacy) }
+    ensures below { result.legacy < 16 }
 {
     let packed = entry(row);
     LineNumbers {
@@ -551,5 +555,6 @@ pub fn line_numbers(row: Row) -> LineNumbers
         digit: bits(packed, 17, 3),
         uses_8bit: (bits(packed, 15, 2) == 2) | (bits(packed, 13, 2) == 2),
         imm_len: bits(packed, 0, 3),
+        legacy: bits(packed, 7, 4),
     }
 }

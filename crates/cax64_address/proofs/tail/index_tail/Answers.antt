@@ -3,7 +3,7 @@ use Rattle.std.proofs.lemmas.Int.{to_z-of_z}
 use Rattle.std.proofs.lemmas.Nat.{and_mask}
 use Rattle.cax64_address.specs.Address.{scale_number}
 use Rattle.cax64_address.specs.Displacement.{GivesBack, IsClassOf, factor_of, mode_of}
-use Rattle.cax64_address.proofs.Emits.{Chosen, chosen_five, chosen_other, emits_index}
+use Rattle.cax64_address.proofs.Emits.{Chosen, chosen_five, chosen_other, emits_index, parts}
 use Rattle.cax64_address.proofs.TailBytes.{sib_bytes}
 use Rattle.cax64_address.proofs.TailLengths.{index_length, some_factor}
 use Rattle.cax64_address.proofs.tail.index_tail.Goals as goal
@@ -19,7 +19,7 @@ returns-clause-shortest c =
       | then-low_base-eq5 w ↦ rw (w.disp-is, w.force_immediate.ensures) (chosen_five _ _ _ _ class back (omega (arith, and_mask c.args.base 3)))
       | else-low_base-eq5 w ↦ rw w.disp-is (chosen_other _ _ _ _ class back (omega (arith, and_mask c.args.base 3)))
     ] in
-    (emits_index _ _ _ _ _ _ _ _ _ _ chosen c.requires.reg c.requires.non_rsp byte sib).shortest
+    rw (parts c.if-low_base-eq5.disp c.byte.ensures c.long.ensures) (emits_index _ _ _ _ _ _ _ _ _ _ chosen c.requires.reg c.requires.non_rsp byte sib).shortest
 
 pub returns-clause-tail : goal.returns-clause-tail
 returns-clause-tail c =
@@ -31,7 +31,7 @@ returns-clause-tail c =
       | then-low_base-eq5 w ↦ rw (w.disp-is, w.force_immediate.ensures) (chosen_five _ _ _ _ class back (omega (arith, and_mask c.args.base 3)))
       | else-low_base-eq5 w ↦ rw w.disp-is (chosen_other _ _ _ _ class back (omega (arith, and_mask c.args.base 3)))
     ] in
-    emits_index _ _ _ _ _ _ _ _ _ _ chosen c.requires.reg c.requires.non_rsp byte sib
+    rw (parts c.if-low_base-eq5.disp c.byte.ensures c.long.ensures) (emits_index _ _ _ _ _ _ _ _ _ _ chosen c.requires.reg c.requires.non_rsp byte sib)
 
 pub returns-clause-bytes : goal.returns-clause-bytes
 returns-clause-bytes c =
@@ -45,7 +45,7 @@ returns-clause-bytes c =
     ] in
     let four : 4 < 8 = omega arith in
     let small : c.encode_modrm-2.result < 256 = omega arith in
-    sib_bytes _ _ _ _ _ _ _ _ _ chosen c.requires.reg four byte small
+    sib_bytes _ _ _ _ _ _ _ _ _ (parts c.if-low_base-eq5.disp c.byte.ensures c.long.ensures) chosen c.requires.reg four byte small
 
 pub returns-clause-length : goal.returns-clause-length
 returns-clause-length c =
@@ -55,4 +55,4 @@ returns-clause-length c =
       | then-low_base-eq5 w ↦ rw (w.disp-is, w.force_immediate.ensures) (chosen_five _ _ _ _ class back (omega (arith, and_mask c.args.base 3)))
       | else-low_base-eq5 w ↦ rw w.disp-is (chosen_other _ _ _ _ class back (omega (arith, and_mask c.args.base 3)))
     ] in
-    index_length _ _ (c.args.index, 2 ^ scale_number c.args.scale) _ _ _ (some_factor c.args.evex_scaling c.requires.factor) chosen
+    rw (parts c.if-low_base-eq5.disp c.byte.ensures c.long.ensures) (index_length _ _ (c.args.index, 2 ^ scale_number c.args.scale) _ _ _ (some_factor c.args.evex_scaling c.requires.factor) chosen)

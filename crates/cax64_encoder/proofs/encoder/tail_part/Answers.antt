@@ -1,10 +1,11 @@
-use Rattle.std.proofs.Common.{◌≡◌, ◌+◌, ◌*◌, ◌%◌, arith, refl}
-use Rattle.cax64_encoder.specs.Number.{number_value}
-use Rattle.cax64_encoder.proofs.Bytes.{one_byte}
+use Rattle.std.proofs.Common.{◌≡◌, ◌+◌, ◌*◌, ◌%◌}
 use Rattle.cax64_encoder.proofs.TailParts.{register_tail}
 use Rattle.cax64_encoder.proofs.encoder.tail_part.Goals as goal
 
-pub returns-in-Register : goal.returns-in-Register
-returns-in-Register g c =
-    let byte : c.encode_modrm.result ≡ 3 * 64 + c.args.reg % 8 * 8 + number_value c.in-Register.number % 8 = omega arith in
-    rw c.in-Register.is (record { tail = register_tail c.args.reg (number_value c.in-Register.number) c.encode_modrm.result byte; bytes = one_byte c.encode_modrm.result (omega (arith, byte)); length = refl })
+pub returns-in-Register-clause-tail : goal.returns-in-Register-clause-tail
+returns-in-Register-clause-tail c =
+    let byte : c.encode_modrm.result ≡ 3 * 64 + c.args.reg % 8 * 8 + c.args.place.now.register % 8 = c.encode_modrm.ensures in
+    rw (c.in-Register.is, c.one.ensures.bytes) (register_tail c.args.reg c.args.place.now.register c.encode_modrm.result byte)
+
+pub returns-in-Relative-clause-length : goal.returns-in-Relative-clause-length
+returns-in-Relative-clause-length c = rw (c.in-Relative.is, c.part_of-in-Relative.ensures.actions) (c.relative_tail.ensures.length 1)

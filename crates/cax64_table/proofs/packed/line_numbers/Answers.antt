@@ -1,6 +1,4 @@
-use Rattle.std.proofs.Common.{◌≡◌, ◌/◌, ◌%◌, ◌^◌}
-use Rattle.std.specs.Prelude.{◌==◌, ◌||◌}
-use Rattle.cax64_table.proofs.Table.{digit_is, uses_8bit_is, imm_len_is}
+use Rattle.cax64_table.proofs.Table.{digit_is, uses_8bit_is, imm_len_is, legacy_is}
 use Rattle.cax64_table.proofs.packed.line_numbers.Goals as goal
 
 pub returns-clause-digit : goal.returns-clause-digit
@@ -11,3 +9,6 @@ returns-clause-uses_8bit c = rw (c.bits-2.ensures, c.bits-3.ensures, c.entry-pac
 
 pub returns-clause-imm_len : goal.returns-clause-imm_len
 returns-clause-imm_len c = rw (c.bits-4.ensures, c.entry-packed.ensures) (imm_len_is c.args.row)
+
+pub returns-clause-legacy : goal.returns-clause-legacy
+returns-clause-legacy c = rw (c.bits-5.ensures, c.entry-packed.ensures) (legacy_is c.args.row)

@@ -13,5 +13,15 @@ returns-in_err-put_optional g c =
     let p = err_from_is_err_and c.from_residual-in_err-put_optional.result c.from_residual-in_err-put_optional.ensures.1 in
     ran_next c.put1.ensures c.in_ok-put1.was (ran_refused _ _ c.put_optional.ensures c.in_err-put_optional.was (p.1 ∙ ap Err p.2))
 
+pub returns-in_err-put_optional-2 : goal.returns-in_err-put_optional-2
+returns-in_err-put_optional-2 g c =
+    let p = err_from_is_err_and c.from_residual-in_err-put_optional-2.result c.from_residual-in_err-put_optional-2.ensures.1 in
+    ran_next c.put1.ensures c.in_ok-put1.was (ran_append c.put_optional.ensures c.in_ok-put_optional.was (ran_refused _ _ c.put_optional-2.ensures c.in_err-put_optional-2.was (p.1 ∙ ap Err p.2)))
+
+pub returns-in_err-use_optional : goal.returns-in_err-use_optional
+returns-in_err-use_optional g c =
+    let p = err_from_is_err_and c.from_residual-in_err-use_optional.result c.from_residual-in_err-use_optional.ensures.1 in
+    ran_next c.put1.ensures c.in_ok-put1.was (ran_append c.put_optional.ensures c.in_ok-put_optional.was (ran_append c.put_optional-2.ensures c.in_ok-put_optional-2.was (ran_refused _ _ c.use_optional.ensures c.in_err-use_optional.was (p.1 ∙ ap Err p.2))))
+
 pub returns : goal.returns
-returns g c = ran_next c.put1.ensures c.in_ok-put1.was (ran_append c.put_optional.ensures c.in_ok-put_optional.was c.put.ensures)
+returns g c = ran_next c.put1.ensures c.in_ok-put1.was (ran_append c.put_optional.ensures c.in_ok-put_optional.was (ran_append c.put_optional-2.ensures c.in_ok-put_optional-2.was (ran_append c.use_optional.ensures c.in_ok-use_optional.was c.put_long.ensures)))

@@ -1,0 +1,182 @@
+//! Operands by their numbers: all that the bytes hold, whatever the register types.
+
+ghost use Rattle.std.specs.Prelude.{◌≡◌};
+ghost use Rattle.cax64_encoder.specs.Numbered.{no_place, register_place, numbered_amode, no_form, with_register, with_role, notice_count};
+ghost use Rattle.cax64_encoder.specs.Role.{role_of};
+ghost use Rattle.cax64_operand.specs.Family.{numbering};
+
+use crate::imm::word_of;
+use crate::number::Number;
+use cax64_address::amode::{Amode, Scale};
+use cax64_address::offset::AmodeOffsetPlusKnownOffset;
+use cax64_address::operand::{GprMem, XmmMem};
+use cax64_operand::{Operand, RegisterFamily};
+use cax64_register::{AsReg, Registers};
+use cax64_sink::{DeferredTarget, TrapCode};
+
+/// What stands in the rest of the tail.
+#[derive(Clone, Copy)]
+pub enum PlaceKind {
+    NoPlace,
+    Register,
+    Base,
+    BaseAndIndex,
+    Relative(DeferredTarget),
+}
+
+/// What the rest of the tail names. What its kind lacks is 0 or absent.
+#[derive(Clone, Copy)]
+pub struct NumberedPlace {
+    pub kind: PlaceKind,
+    /// Of the register or of the base.
+    pub base: u8,
+    pub index: u8,
+    /// Of the register once more.
+    pub register: u8,
+    pub scale: Scale,
+    pub displacement: AmodeOffsetPlusKnownOffset,
+    pub trap: Option<TrapCode>,
+}
+
+/// The operands that the bytes hold. What an instruction lacks is absent or 0.
+#[derive(Clone, Copy)]
+pub struct NumberedForm {
+    /// Of the register in the reg field of ModR/M.
+    pub reg: Option<u8>,
+    /// Of the register in vvvv of a VEX prefix.
+    pub vvvv: Option<u8>,
+    pub place: NumberedPlace,
+    /// The bytes of the immediate as one word, the first one the lowest; 0 where there is none.
+    pub imm: u32,
+}
+
+impl NumberedPlace {
+    #[inline(always)]
+    fn none() -> NumberedPlace
+        ensures { result ≡ no_place }
+    {
+        NumberedPlace {
+            kind: PlaceKind::NoPlace,
+            base: 0,
+            index: 0,
+            register: 0,
+            scale: Scale::One,
+            displacement: AmodeOffsetPlusKnownOffset::ZERO,
+            trap: None,
+        }
+    }
+
+    /// The place of a register of this number.
+    #[inline(always)]
+    fn of_register(number: u8) -> NumberedPlace
+        ensures { result ≡ register_place number }
+    {
+        let mut numbers = NumberedPlace::none();
+        numbers.kind = PlaceKind::Register;
+        numbers.base = number;
+        numbers.register = number;
+        numbers
+    }
+
+    /// The numbers of an address, 0 of a virtual register.
+    #[inline(always)]
+    fn of_amode<M: AsReg>(amode: &Amode<M>) -> NumberedPlace
+        ensures { result ≡ numbered_amode (numbering M.settled M.enc) amode.now }
+    {
+        let mut numbers = NumberedPlace::none();
+        match amode {
+            Amode::ImmReg { base, simm32, trap } => {
+                numbers.kind = PlaceKind::Base;
+                numbers.base = Number::value_of(*base);
+                numbers.displacement = *simm32;
+                numbers.trap = *trap;
+            }
+            Amode::ImmRegRegShift {
+                base,
+                index,
+                scale,
+                simm32,
+                trap,
+            } => {
+                numbers.kind = PlaceKind::BaseAndIndex;
+                numbers.base = Number::value_of(*base);
+                numbers.index = Number::value_of(*index.as_ref());
+                numbers.scale = *scale;
+                numbers.displacement.simm32 = *simm32;
+                numbers.trap = *trap;
+            }
+            Amode::RipRelative { target } => numbers.kind = PlaceKind::Relative(*target),
+        }
+        numbers
+    }
+
+    /// How many notices an instruction with this place has: of a trap, or of a target.
+    #[inline(always)]
+    pub fn notice_count(&self) -> u8
+        ensures { result ≡ notice_count self.now }
+    {
+        match self.kind {
+            PlaceKind::Relative(_) => 1,
+            _ => u8::from(self.trap.is_some()),
+        }
+    }
+}
+
+impl NumberedForm {
+    #[inline(always)]
+    pub(crate) fn none() -> NumberedForm
+        ensures { result ≡ no_form }
+    {
+        NumberedForm {
+            reg: None,
+            vvvv: None,
+            place: NumberedPlace::none(),
+            imm: 0,
+        }
+    }
+
+    /// Puts a register before the others: the first stands in reg, the second in vvvv.
+    #[inline(always)]
+    fn add_register(&mut self, number: u8)
+        ensures { self.new ≡ with_register number self.old }
+    {
+        self.vvvv = self.reg;
+        self.reg = Some(number);
+    }
+
+    /// Puts one more operand before the others.
+    #[inline(always)]
+    pub(crate) fn add<R: Registers>(&mut self, operand: &Operand<R>)
+        ensures { self.new ≡ with_role ⟦<R as RegisterFamily>⟧.family.read_gpr (role_of ⟦<R as RegisterFamily>⟧.family operand.now) self.old }
+    {
+        match operand {
+            Operand::ReadGpr(reg, _) => self.add_register(Number::value_of(*reg)),
+            Operand::ReadWriteGpr(reg, _) => self.add_register(Number::value_of(*reg)),
+            Operand::WriteGpr(reg, _) => self.add_register(Number::value_of(*reg)),
+            Operand::WriteTwoGprs(first, second, _) => {
+                self.reg = Some(Number::value_of(*first));
+                self.vvvv = Some(Number::value_of(*second));
+            }
+            Operand::FixedReadGpr(_, _, _) | Operand::FixedReadWriteGpr(_, _, _) => {}
+            Operand::ReadXmm(reg) => self.add_register(Number::value_of(*reg)),
+            Operand::ReadWriteXmm(reg) => self.add_register(Number::value_of(*reg)),
+            Operand::WriteXmm(reg) => self.add_register(Number::value_of(*reg)),
+            Operand::ReadGprMem(GprMem::Gpr(reg), _) => {
+                self.place = NumberedPlace::of_register(Number::value_of(*reg));
+            }
+            Operand::ReadWriteGprMem(GprMem::Gpr(reg), _) => {
+                self.place = NumberedPlace::of_register(Number::value_of(*reg));
+            }
+            Operand::ReadXmmMem(XmmMem::Xmm(reg)) => {
+                self.place = NumberedPlace::of_register(Number::value_of(*reg));
+            }
+            Operand::ReadAmode(amode)
+            | Operand::ReadGprMem(GprMem::Mem(amode), _)
+            | Operand::ReadWriteGprMem(GprMem::Mem(amode), _)
+            | Operand::ReadXmmMem(XmmMem::Mem(amode)) => {
+                self.place = NumberedPlace::of_amode(amode);
+            }
+            Operand::Imm(imm) => self.imm = word_of(imm.bytes()),
+        }
+    }
+}
