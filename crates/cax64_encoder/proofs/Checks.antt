@@ -1,5 +1,7 @@
 use Rattle.std.proofs.Common.{◌≡◌, ℕ, Bool, true, false, refl, ◌∙◌, ap, Option, Some, None, List, [], ◌∷◌, ◌++◌, ℤ}
-use Rattle.std.specs.Prelude.{◌&&◌}
+use Rattle.std.specs.Prelude.{◌&&◌, ◌||◌}
+use Rattle.cax64_address.specs.Offset.{sum_fits}
+use Rattle.cax64_address.specs.declared.offset.AmodeOffsetPlusKnownOffset.{AmodeOffsetPlusKnownOffset}
 use Rattle.cax64_address.specs.declared.amode.Amode.{Amode}
 use Rattle.cax64_address.specs.declared.amode.Amode.TheVariants.{ImmReg, ImmRegRegShift, RipRelative}
 use Rattle.cax64_operand.specs.declared.operand.Operand.{Operand}
@@ -9,12 +11,18 @@ use Rattle.cax64_operand.specs.OperandList.{list_of}
 use Rattle.cax64_operand.specs.declared.operand.Operands.{Operands}
 use Rattle.cax64_operand.specs.declared.operand.Operands.TheVariants as operands
 use Rattle.cax64_machine_code.specs.declared.row.Row.{Row}
-use Rattle.cax64_encoder.specs.Checked.{none_checked, checked_of, checked_roles, with_checked, with_checked_operand, holds, offset_of, offset_fits}
+use Rattle.cax64_encoder.specs.Checked.{none_checked, amode_met, checked_of, checked_roles, with_checked, with_checked_operand, holds, offset_of}
+use Rattle.cax64_encoder.specs.Number.{is_index_number, is_number, is_real_number}
+use Rattle.cax64_encoder.specs.Numbered.{no_displacement}
 use Rattle.cax64_encoder.specs.Fault.{is_met, all_met, late_offset_fits, is_encodable}
 use Rattle.cax64_encoder.specs.Meant.{meant_of, place_in}
 use Rattle.cax64_encoder.specs.Place.{memory_in}
-use Rattle.cax64_encoder.specs.Role.{roles_of}
-use Rattle.cax64_encoder.specs.Visits.{visits_of}
+use Rattle.cax64_encoder.specs.Role.{number, roles_of}
+use Rattle.cax64_encoder.specs.Visits.{amode_visits, visits_of}
+use Rattle.cax64_encoder.specs.declared.checked.Checked.{Checked}
+use Rattle.cax64_encoder.specs.declared.number.Number.{Number}
+use Rattle.cax64_encoder.specs.declared.role.PlaceOperand as place
+use Rattle.cax64_encoder.specs.declared.role.PlaceOperand.{PlaceOperand}
 use Rattle.cax64_encoder.specs.declared.role.Role.TheVariants.{Register, TwoRegisters, FixedRegister, Place, Immediate}
 use Rattle.cax64_encoder.specs.declared.fault.Visited.{Visited}
 use Rattle.cax64_encoder.specs.declared.role.Role.{Role}
@@ -39,20 +47,45 @@ met_before n r role later a b is e h =
     sym_of : {x y : Bool} → x ≡ y → y ≡ x
     sym_of e = rw e refl
 
-late_same : {M : Type 0} (offsets : ℕ → Option ℤ) (memory : Option (Amode M)) → offset_fits offsets (offset_of memory) ≡ late_offset_fits offsets memory
-late_same offsets None = refl
-late_same offsets (Some (ImmReg base simm32 trap)) = refl
-late_same offsets (Some (ImmRegRegShift base index scale simm32 trap)) = refl
-late_same offsets (Some (RipRelative target)) = refl
+and_true : (b : Bool) → b ≡ (b && true)
+and_true true = refl
+and_true false = refl
+
+amode_same : {M : Type 0} (n : Numbering M) (amode : Amode M) → amode_met n amode ≡ all_met (amode_visits n amode [])
+amode_same n (ImmReg base simm32 trap) = and_true (is_real_number (number n base))
+amode_same n (ImmRegRegShift base index scale simm32 trap) = ap (λ (x : Bool). is_real_number (number n base) && x) (and_true (is_index_number (number n index)))
+amode_same n (RipRelative target) = refl
+
+two_same : {M : Type 0} (n : Numbering M) (first second : Number) (same : Bool) → (is_real_number first && (same || is_real_number second)) ≡ all_met (visits_of n (TwoRegisters first second same ∷ []))
+two_same n first second true = refl
+two_same n first second false = ap (λ (x : Bool). is_real_number first && x) (and_true (is_real_number second))
+
+-- the displacement that is kept of a place
+abbrev kept : {M : Type 0} → PlaceOperand M → AmodeOffsetPlusKnownOffset
+kept place.TheVariants.NoPlace = no_displacement
+kept (place.TheVariants.Register number) = no_displacement
+kept (place.TheVariants.Memory amode) = offset_of amode
+
+late_same : {M : Type 0} (offsets : ℕ → Option ℤ) (p : PlaceOperand M) → sum_fits offsets (kept p).offset (kept p).simm32 ≡ late_offset_fits offsets (memory_in p)
+late_same offsets place.TheVariants.NoPlace = refl
+late_same offsets (place.TheVariants.Register number) = refl
+late_same offsets (place.TheVariants.Memory (ImmReg base simm32 trap)) = refl
+late_same offsets (place.TheVariants.Memory (ImmRegRegShift base index scale simm32 trap)) = refl
+late_same offsets (place.TheVariants.Memory (RipRelative target)) = refl
+
+abbrev met_with : AmodeOffsetPlusKnownOffset → Bool → Checked
+met_with displacement met = record { met = met; displacement = displacement }
 
 -- what is kept of operands is what they come to
-checked_is : {M : Type 0} (n : Numbering M) (roles : List (Role M)) → checked_roles n roles ≡ record { met = all_met (visits_of n roles); displacement = offset_of (memory_in (place_in roles)) }
+checked_is : {M : Type 0} (n : Numbering M) (roles : List (Role M)) → checked_roles n roles ≡ met_with (kept (place_in roles)) (all_met (visits_of n roles))
 checked_is n [] = refl
-checked_is n (Register number ∷ later) = ap (with_checked n (Register number)) (checked_is n later) ∙ ap (λ (b : Bool). record { met = b; displacement = offset_of (memory_in (place_in later)) }) (met_before n (Register number) (Register number) later _ _ refl refl refl)
-checked_is n (TwoRegisters high low same ∷ later) = ap (with_checked n (TwoRegisters high low same)) (checked_is n later) ∙ ap (λ (b : Bool). record { met = b; displacement = offset_of (memory_in (place_in later)) }) (met_before n (TwoRegisters high low same) (TwoRegisters high low same) later _ _ refl refl refl)
-checked_is n (FixedRegister fixed ∷ later) = ap (with_checked n (FixedRegister fixed)) (checked_is n later) ∙ ap (λ (b : Bool). record { met = b; displacement = offset_of (memory_in (place_in later)) }) (met_before n (FixedRegister fixed) (FixedRegister fixed) later _ _ refl refl refl)
-checked_is n (Place operand ∷ later) = ap (with_checked n (Place operand)) (checked_is n later) ∙ ap (λ (b : Bool). record { met = b; displacement = offset_of (memory_in operand) }) (met_before n (Place operand) (Place operand) later _ _ refl refl refl)
-checked_is n (Immediate imm ∷ later) = ap (with_checked n (Immediate imm)) (checked_is n later) ∙ ap (λ (b : Bool). record { met = b; displacement = offset_of (memory_in (place_in later)) }) (met_before n (Immediate imm) (Immediate imm) later _ _ refl refl refl)
+checked_is n (Register number ∷ later) = ap (with_checked n (Register number)) (checked_is n later) ∙ ap (met_with (kept (place_in later))) (met_before n (Register number) (Register number) later _ _ refl (and_true (is_real_number number)) refl)
+checked_is n (TwoRegisters first second same ∷ later) = ap (with_checked n (TwoRegisters first second same)) (checked_is n later) ∙ ap (met_with (kept (place_in later))) (met_before n (TwoRegisters first second same) (TwoRegisters first second same) later _ _ refl (two_same n first second same) refl)
+checked_is n (FixedRegister fixed ∷ later) = ap (with_checked n (FixedRegister fixed)) (checked_is n later) ∙ ap (met_with (kept (place_in later))) (met_before n (FixedRegister fixed) (FixedRegister fixed) later _ _ refl (and_true (is_number fixed.held fixed.expected)) refl)
+checked_is n (Place place.TheVariants.NoPlace ∷ later) = ap (with_checked n (Place place.TheVariants.NoPlace)) (checked_is n later)
+checked_is n (Place (place.TheVariants.Register number) ∷ later) = ap (with_checked n (Place (place.TheVariants.Register number))) (checked_is n later) ∙ ap (met_with no_displacement) (met_before n (Register number) (Register number) later _ _ refl (and_true (is_real_number number)) refl)
+checked_is n (Place (place.TheVariants.Memory amode) ∷ later) = ap (with_checked n (Place (place.TheVariants.Memory amode))) (checked_is n later) ∙ ap (met_with (offset_of amode)) (met_before n (Place (place.TheVariants.Memory amode)) (Place (place.TheVariants.Memory amode)) later _ _ refl (amode_same n amode) refl)
+checked_is n (Immediate imm ∷ later) = checked_is n later
 
 -- what is checked of operands one by one
 pub checked_fold : {R A B C D E F : Type 0} (f : Family A B C D E F) (o : Operands R A B C D E F) → fold none_checked (with_checked_operand f) (λ _. none_checked) o ≡ checked_of f (list_of o)
@@ -65,7 +98,7 @@ checked_fold f (operands.Five a b c d e) = refl
 checked_fold f (operands.Nop nop) = refl
 
 holds_list : {R A B C D E F : Type 0} (f : Family A B C D E F) (list : List (Operand R A B C D E F)) (offsets : ℕ → Option ℤ) → holds offsets (checked_of f list) ≡ (all_met (visits_of f.read_gpr (roles_of f list)) && late_offset_fits offsets (memory_in (place_in (roles_of f list))))
-holds_list f list offsets = ap (holds offsets) (checked_is f.read_gpr (roles_of f list)) ∙ ap (λ (x : Bool). all_met (visits_of f.read_gpr (roles_of f list)) && x) (late_same offsets (memory_in (place_in (roles_of f list))))
+holds_list f list offsets = ap (holds offsets) (checked_is f.read_gpr (roles_of f list)) ∙ ap (λ (x : Bool). all_met (visits_of f.read_gpr (roles_of f list)) && x) (late_same offsets (place_in (roles_of f list)))
 
 pub holds_is : {R A B C D E F : Type 0} (f : Family A B C D E F) (row : Row) (o : Operands R A B C D E F) (offsets : ℕ → Option ℤ) → holds offsets (checked_of f (list_of o)) ≡ is_encodable offsets (meant_of f row o offsets)
 holds_is {R = R} f row operands.Zero offsets = holds_list {R = R} f (list_of operands.Zero) offsets

@@ -1,4 +1,4 @@
-use Rattle.std.specs.Prelude.{ℕ, ◌==◌, nat_lt, Bool, false, if◌then◌else◌}
+use Rattle.std.specs.Prelude.{ℕ, ◌==◌, ◌&&◌, not, nat_lt, Bool, false, if◌then◌else◌}
 use Rattle.cax64_encoder.specs.declared.number.Number.{Number}
 use Rattle.cax64_encoder.specs.declared.number.Number.TheVariants.{Settled, Unsettled}
 
@@ -20,3 +20,7 @@ is_real_number Unsettled = false
 abbrev pub is_number : Number → ℕ → Bool
 is_number (Settled number) expected = number == expected
 is_number Unsettled expected = false
+
+-- as an index, real and not number 4, which means none
+abbrev pub is_index_number : Number → Bool
+is_index_number number = is_real_number number && not (is_number number 4)

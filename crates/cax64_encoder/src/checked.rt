@@ -1,17 +1,15 @@
 //! Whether operands can be encoded: a conjunction, whatever the order of visits.
 
-ghost use Rattle.std.specs.Prelude.{◌≡◌, [], ◌∷◌};
-ghost use Rattle.cax64_encoder.specs.Checked.{holds, none_checked, offset_of, with_checked, with_checked_operand};
-ghost use Rattle.cax64_encoder.specs.Fault.{all_met};
-ghost use Rattle.cax64_encoder.specs.Place.{memory_in};
-ghost use Rattle.cax64_encoder.specs.Visits.{place_visits, visits_of};
+ghost use Rattle.std.specs.Prelude.{◌≡◌};
+ghost use Rattle.cax64_encoder.specs.Checked.{holds, none_checked, with_amode, with_checked_operand, with_met};
+ghost use Rattle.cax64_encoder.specs.Number.{is_real_number};
+ghost use Rattle.cax64_encoder.specs.Numbered.{no_displacement};
 ghost use Rattle.cax64_operand.specs.Family.{numbering};
 
-use crate::fault::Visited;
 use crate::number::Number;
-use crate::role::{PlaceOperand, Role, role_of};
 use cax64_address::amode::Amode;
 use cax64_address::offset::AmodeOffsetPlusKnownOffset;
+use cax64_address::operand::{GprMem, XmmMem};
 use cax64_operand::{FromOperands, Nop, Operand, RegisterFamily};
 use cax64_register::{AsReg, Registers};
 use cax64_sink::CodeSink;
@@ -21,50 +19,8 @@ use cax64_sink::CodeSink;
 pub struct Checked {
     /// Whether each register is as it has to be.
     pub met: bool,
-    /// The displacement that may have a late offset.
-    pub displacement: Option<AmodeOffsetPlusKnownOffset>,
-}
-
-/// Whether the register, or the base and the index, are as they have to be.
-#[inline(always)]
-fn place_is_met<M: AsReg>(place: &PlaceOperand<M>) -> bool
-    ensures { result ≡ all_met (place_visits (numbering M.settled M.enc) place.now []) }
-{
-    match *place {
-        PlaceOperand::NoPlace => true,
-        PlaceOperand::Register(number) => number.is_real(),
-        PlaceOperand::Memory(Amode::ImmReg { base, .. }) => Number::of(base).is_real(),
-        PlaceOperand::Memory(Amode::ImmRegRegShift { base, index, .. }) => {
-            let index = Visited::Index(Number::of(*index.as_ref()));
-            Number::of(base).is_real() & index.is_met()
-        }
-        PlaceOperand::Memory(Amode::RipRelative { .. }) => true,
-    }
-}
-
-/// Whether the registers of an operand are as they have to be.
-#[inline(always)]
-fn role_is_met<M: AsReg>(role: Role<M>) -> bool
-    ensures { result ≡ all_met (visits_of (numbering M.settled M.enc) (role ∷ [])) }
-{
-    match role {
-        Role::Register(number) => number.is_real(),
-        Role::TwoRegisters(first, second, same) => first.is_real() & (same | second.is_real()),
-        Role::FixedRegister(fixed) => Visited::Fixed(fixed).is_met(),
-        Role::Place(place) => place_is_met(&place),
-        Role::Immediate(_) => true,
-    }
-}
-
-/// The displacement that may have a late offset.
-#[inline(always)]
-pub(crate) fn offset_of<M: AsReg>(place: &PlaceOperand<M>) -> Option<AmodeOffsetPlusKnownOffset>
-    ensures { result ≡ offset_of (memory_in place.now) }
-{
-    match *place {
-        PlaceOperand::Memory(Amode::ImmReg { simm32, .. }) => Some(simm32),
-        _ => None,
-    }
+    /// The displacement that may have a late offset, or one that has none.
+    pub displacement: AmodeOffsetPlusKnownOffset,
 }
 
 impl<R: Registers> FromOperands<R> for Checked {
@@ -82,10 +38,11 @@ impl<R: Registers> FromOperands<R> for Checked {
     }
 
     #[inline(always)]
-    fn with(self, operand: Operand<R>) -> Checked
+    fn with(mut self, operand: Operand<R>) -> Checked
         ensures { result ≡ with_checked_operand ⟦<R as RegisterFamily>⟧.family operand self }
     {
-        self.with_role(role_of(&operand))
+        self.add(&operand);
+        self
     }
 
     #[inline(always)]
@@ -103,21 +60,79 @@ impl Checked {
     {
         Checked {
             met: true,
-            displacement: None,
+            displacement: AmodeOffsetPlusKnownOffset::ZERO,
         }
     }
 
-    /// The same with one more operand before the others.
+    /// One more thing has to hold. Nothing is tested: a branch would cost more.
     #[inline(always)]
-    fn with_role<M: AsReg>(self, role: Role<M>) -> Checked
-        ensures { result ≡ with_checked (numbering M.settled M.enc) role self }
+    fn and(&mut self, met: bool)
+        ensures { self.new ≡ with_met met self.old }
     {
-        Checked {
-            displacement: match &role {
-                Role::Place(place) => offset_of(place),
-                _ => self.displacement,
-            },
-            met: role_is_met(role) & self.met,
+        self.met = met & self.met;
+    }
+
+    /// Puts an address before the other operands.
+    #[inline(always)]
+    fn add_amode<M: AsReg>(&mut self, amode: &Amode<M>)
+        ensures { self.new ≡ with_amode (numbering M.settled M.enc) amode.now self.old }
+    {
+        match amode {
+            Amode::ImmReg { base, simm32, .. } => {
+                self.and(Number::of(*base).is_real());
+                self.displacement = *simm32;
+            }
+            Amode::ImmRegRegShift { base, index, .. } => {
+                let base = Number::of(*base);
+                let index = Number::of(*index.as_ref());
+                self.and(base.is_real() & index.is_index());
+                self.displacement = AmodeOffsetPlusKnownOffset::ZERO;
+            }
+            Amode::RipRelative { .. } => self.displacement = AmodeOffsetPlusKnownOffset::ZERO,
+        }
+    }
+
+    /// Puts a register that stands in the place of an address before the other operands.
+    #[inline(always)]
+    fn add_place_register(&mut self, number: Number)
+        ensures { self.new ≡ record { met = (with_met (is_real_number number) self.old).met; displacement = no_displacement } }
+    {
+        self.and(number.is_real());
+        self.displacement = AmodeOffsetPlusKnownOffset::ZERO;
+    }
+
+    /// Puts one more operand before the others.
+    #[inline(always)]
+    fn add<R: Registers>(&mut self, operand: &Operand<R>)
+        ensures { self.new ≡ with_checked_operand ⟦<R as RegisterFamily>⟧.family operand.now self.old }
+    {
+        match operand {
+            Operand::ReadGpr(reg, _) => self.and(Number::of(*reg).is_real()),
+            Operand::ReadWriteGpr(reg, _) => self.and(Number::of(*reg).is_real()),
+            Operand::WriteGpr(reg, _) => self.and(Number::of(*reg).is_real()),
+            Operand::WriteTwoGprs(first, second, _) => {
+                let is_second_real = (*first == *second) | Number::of(*second).is_real();
+                self.and(Number::of(*first).is_real() & is_second_real);
+            }
+            Operand::FixedReadGpr(reg, expected, _) => self.and(Number::of(*reg).is(*expected)),
+            Operand::FixedReadWriteGpr(reg, expected, _) => {
+                self.and(Number::of(*reg).is(*expected));
+            }
+            Operand::ReadXmm(reg) => self.and(Number::of(*reg).is_real()),
+            Operand::ReadWriteXmm(reg) => self.and(Number::of(*reg).is_real()),
+            Operand::WriteXmm(reg) => self.and(Number::of(*reg).is_real()),
+            Operand::ReadGprMem(GprMem::Gpr(reg), _) => {
+                self.add_place_register(Number::of(*reg));
+            }
+            Operand::ReadWriteGprMem(GprMem::Gpr(reg), _) => {
+                self.add_place_register(Number::of(*reg));
+            }
+            Operand::ReadXmmMem(XmmMem::Xmm(reg)) => self.add_place_register(Number::of(*reg)),
+            Operand::ReadAmode(amode)
+            | Operand::ReadGprMem(GprMem::Mem(amode), _)
+            | Operand::ReadWriteGprMem(GprMem::Mem(amode), _)
+            | Operand::ReadXmmMem(XmmMem::Mem(amode)) => self.add_amode(amode),
+            Operand::Imm(_) => {}
         }
     }
 
@@ -126,9 +141,6 @@ impl Checked {
     pub fn holds<S: CodeSink>(&self, sink: &S) -> bool
         ensures { result ≡ holds (S.state sink.now).offsets self.now }
     {
-        match self.displacement {
-            Some(simm32) => self.met & simm32.fits(sink),
-            None => self.met,
-        }
+        self.met & self.displacement.fits(sink)
     }
 }

@@ -50,10 +50,8 @@ impl Visited {
     {
         match self {
             Visited::Plain(number) => number.is_real(),
-            Visited::Index(number) => {
-                number.is_real() && number != Number::Settled(gpr::enc::RSP)
-            }
-            Visited::Fixed(fixed) => fixed.held == Number::Settled(fixed.expected),
+            Visited::Index(number) => number.is_index(),
+            Visited::Fixed(fixed) => fixed.held.is(fixed.expected),
         }
     }
 
@@ -64,7 +62,7 @@ impl Visited {
         match self {
             Visited::Plain(_) => Fault::Register(at),
             Visited::Index(number) => {
-                if number == Number::Settled(gpr::enc::RSP) {
+                if number.is(gpr::enc::RSP) {
                     Fault::Index(at)
                 } else {
                     Fault::Register(at)

@@ -1,9 +1,9 @@
 //! Registers by their hardware numbers.
 
 ghost use Rattle.std.specs.Prelude.{◌≡◌};
-ghost use Rattle.cax64_encoder.specs.Number.{number_of, number_value, is_real_number};
+ghost use Rattle.cax64_encoder.specs.Number.{number_of, number_value, is_real_number, is_number, is_index_number};
 
-use cax64_register::AsReg;
+use cax64_register::{AsReg, gpr};
 
 /// The hardware number of a register operand.
 #[derive(Clone, Copy, Debug, PartialEq)]
@@ -41,6 +41,28 @@ impl Number {
     {
         match self {
             Number::Settled(number) => number < 16,
+            Number::Unsettled => false,
+        }
+    }
+
+    /// Whether an address can hold the register as its index: the stack pointer's number means none there.
+    #[inline(always)]
+    pub fn is_index(self) -> bool
+        ensures { result ≡ is_index_number self }
+    {
+        match self {
+            Number::Settled(number) => (number < 16) & (number != gpr::enc::RSP),
+            Number::Unsettled => false,
+        }
+    }
+
+    /// Whether the register is settled with this number.
+    #[inline(always)]
+    pub fn is(self, expected: u8) -> bool
+        ensures { result ≡ is_number self expected }
+    {
+        match self {
+            Number::Settled(number) => number == expected,
             Number::Unsettled => false,
         }
     }
