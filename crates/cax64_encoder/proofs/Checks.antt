@@ -1,4 +1,4 @@
-use Rattle.std.proofs.Common.{◌≡◌, ℕ, Bool, true, false, refl, ◌∙◌, ap, Option, Some, None, List, [], ◌∷◌, ◌++◌, ℤ}
+use Rattle.std.proofs.Common.{◌≡◌, ℕ, Bool, true, false, refl, ◌∙◌, ap, Option, List, [], ◌∷◌, ◌++◌, ℤ}
 use Rattle.std.specs.Prelude.{◌&&◌, ◌||◌}
 use Rattle.cax64_address.specs.Offset.{sum_fits}
 use Rattle.cax64_address.specs.declared.offset.AmodeOffsetPlusKnownOffset.{AmodeOffsetPlusKnownOffset}
