@@ -19,7 +19,7 @@ use cax64_register::{AsReg, Registers, gpr};
 use cax64_sink::{CodeSink, KnownOffset};
 
 /// A register as a visit meets it.
-#[derive(Clone, Copy, Debug, PartialEq)]
+#[derive(Clone, Copy, Debug)]
 pub enum Visited {
     /// Any real register will do.
     Plain(Number),

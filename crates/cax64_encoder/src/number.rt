@@ -6,7 +6,7 @@ ghost use Rattle.cax64_encoder.specs.Number.{number_of, number_value, is_real_nu
 use cax64_register::{AsReg, gpr};
 
 /// The hardware number of a register operand.
-#[derive(Clone, Copy, Debug, PartialEq)]
+#[derive(Clone, Copy, Debug)]
 pub enum Number {
     /// The register is still virtual.
     Unsettled,

@@ -12,7 +12,7 @@ use cax64_operand::{ImmOperand, Operand, RegisterFamily};
 use cax64_register::{AsReg, Registers};
 
 /// What the rest of the tail names.
-#[derive(Clone, Copy, Debug, PartialEq)]
+#[derive(Clone, Copy, Debug)]
 pub enum PlaceOperand<M: AsReg> {
     NoPlace,
     Register(Number),
@@ -44,7 +44,7 @@ impl<M: AsReg> PlaceOperand<M> {
 }
 
 /// A register that an instruction fixes to a number.
-#[derive(Clone, Copy, Debug, PartialEq)]
+#[derive(Clone, Copy, Debug)]
 pub struct FixedNumber {
     pub held: Number,
     pub expected: u8,

@@ -9,11 +9,13 @@ ghost use Rattle.cax64_machine_code.specs.Rows.{line_of};
 ghost use Rattle.cax64_machine_code.specs.Sequence.{IsProperFront};
 ghost use Rattle.cax64_machine_code.specs.Shortest.{Shortest};
 ghost use Rattle.cax64_machine_code.specs.Tail.{IsTail, Tail, read_tail};
+ghost use Rattle.cax64_machine_code.specs.declared.line.Line.{Line};
 ghost use Rattle.cax64_machine_code.specs.declared.reading.Place.{Place};
 ghost use Rattle.cax64_machine_code.specs.declared.reading.Reading.{Reading};
 ghost use Rattle.cax64_machine_code.specs.declared.reading.RegView.{RegView};
 ghost use Rattle.cax64_machine_code.specs.declared.row.Row.{Row};
 
+use crate::line::Line;
 use crate::reading::{Place, Reading, RegView};
 use crate::row::Row;
 
@@ -58,9 +60,10 @@ pub fn what_follows_is_not_read(reading: Reading)
     ensures { (t more : List ℕ) → read t ≡ Some reading → read (t ++ more) ≡ Some reading }
 {}
 
-/// Rows, registers, places and readings compare equal where they are equal, and nowhere else.
+/// Rows, lines of the table, registers, places and readings compare equal where they are equal, and nowhere else.
 pub fn laws_of_equality()
     ensures rows { (a b : Row) → (⟦<Row as PartialEq>⟧.eq a b ≡ true) ↔ (a ≡ b) }
+    ensures lines { (a b : Line) → (⟦<Line as PartialEq>⟧.eq a b ≡ true) ↔ (a ≡ b) }
     ensures registers { (a b : RegView) → (⟦<RegView as PartialEq>⟧.eq a b ≡ true) ↔ (a ≡ b) }
     ensures places { (a b : Place) → (⟦<Place as PartialEq>⟧.eq a b ≡ true) ↔ (a ≡ b) }
     ensures readings { (a b : Reading) → (⟦<Reading as PartialEq>⟧.eq a b ≡ true) ↔ (a ≡ b) }

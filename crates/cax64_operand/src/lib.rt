@@ -5,6 +5,7 @@ pub mod family;
 pub mod fold;
 pub mod immediate;
 pub mod instruction;
+pub mod laws;
 pub mod nop;
 pub mod operand;
 pub mod visitor;

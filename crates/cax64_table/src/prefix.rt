@@ -9,7 +9,7 @@ ghost use Rattle.cax64_table.specs.Prefix.{prefix_of};
 use cax64_machine_code::line::{LegacySet, Line, PrefixField, VvvvField};
 
 /// The bits of a REX byte.
-#[derive(Clone, Copy, Debug, PartialEq)]
+#[derive(Clone, Copy, Debug)]
 pub struct Rex {
     pub w: bool,
     pub r: bool,
@@ -18,7 +18,7 @@ pub struct Rex {
 }
 
 /// The fields of a VEX prefix, none of them inverted.
-#[derive(Clone, Copy, Debug, PartialEq)]
+#[derive(Clone, Copy, Debug)]
 pub struct Vex {
     pub w: bool,
     pub r: bool,
@@ -31,7 +31,7 @@ pub struct Vex {
 }
 
 /// Legacy prefixes and the REX byte behind them, or a VEX prefix.
-#[derive(Clone, Copy, Debug, PartialEq)]
+#[derive(Clone, Copy, Debug)]
 pub enum Prefix {
     LegacyPrefix(LegacySet, Option<Rex>),
     VexPrefix(Vex),
