@@ -47,6 +47,7 @@ impl<R: Registers> RowAndOperands for andb_i<R> {
     }
 
     #[tactic(auto, unfolding(cax64_machine_code::specs::Rows::line_of))]
+    #[inline(always)]
     fn fold_operands<T: FromOperands<R>>(&self) -> T {
         of_two(
             Operand::FixedReadWriteGpr(self.al.0, 0, Some(Size::Byte)),

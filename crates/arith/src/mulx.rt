@@ -60,6 +60,7 @@ impl<R: Registers> RowAndOperands for mulxl_rvm<R> {
     }
 
     #[tactic(auto, unfolding(cax64_machine_code::specs::Rows::line_of))]
+    #[inline(always)]
     fn fold_operands<T: FromOperands<R>>(&self) -> T {
         of_three(
             Operand::WriteTwoGprs(*self.r32a.as_ref(), *self.r32b.as_ref(), Size::Doubleword),
@@ -120,6 +121,7 @@ impl<R: Registers> RowAndOperands for mulxq_rvm<R> {
     }
 
     #[tactic(auto, unfolding(cax64_machine_code::specs::Rows::line_of))]
+    #[inline(always)]
     fn fold_operands<T: FromOperands<R>>(&self) -> T {
         of_three(
             Operand::WriteTwoGprs(*self.r64a.as_ref(), *self.r64b.as_ref(), Size::Quadword),

@@ -45,6 +45,7 @@ impl<R: Registers> RowAndOperands for rolb_m1<R> {
     }
 
     #[tactic(auto, unfolding(cax64_machine_code::specs::Rows::line_of))]
+    #[inline(always)]
     fn fold_operands<T: FromOperands<R>>(&self) -> T {
         of_one(Operand::ReadWriteGprMem(self.rm8, Size::Byte))
     }
@@ -86,6 +87,7 @@ impl<R: Registers> RowAndOperands for rolw_m1<R> {
     }
 
     #[tactic(auto, unfolding(cax64_machine_code::specs::Rows::line_of))]
+    #[inline(always)]
     fn fold_operands<T: FromOperands<R>>(&self) -> T {
         of_one(Operand::ReadWriteGprMem(self.rm16, Size::Word))
     }
@@ -127,6 +129,7 @@ impl<R: Registers> RowAndOperands for roll_m1<R> {
     }
 
     #[tactic(auto, unfolding(cax64_machine_code::specs::Rows::line_of))]
+    #[inline(always)]
     fn fold_operands<T: FromOperands<R>>(&self) -> T {
         of_one(Operand::ReadWriteGprMem(self.rm32, Size::Doubleword))
     }
@@ -168,6 +171,7 @@ impl<R: Registers> RowAndOperands for rolq_m1<R> {
     }
 
     #[tactic(auto, unfolding(cax64_machine_code::specs::Rows::line_of))]
+    #[inline(always)]
     fn fold_operands<T: FromOperands<R>>(&self) -> T {
         of_one(Operand::ReadWriteGprMem(self.rm64, Size::Quadword))
     }

@@ -46,6 +46,7 @@ impl<R: Registers> RowAndOperands for xchgb_rm<R> {
     }
 
     #[tactic(auto, unfolding(cax64_machine_code::specs::Rows::line_of))]
+    #[inline(always)]
     fn fold_operands<T: FromOperands<R>>(&self) -> T {
         of_two(
             Operand::ReadWriteGpr(*self.r8.as_ref(), Size::Byte),
@@ -92,6 +93,7 @@ impl<R: Registers> RowAndOperands for xchgw_rm<R> {
     }
 
     #[tactic(auto, unfolding(cax64_machine_code::specs::Rows::line_of))]
+    #[inline(always)]
     fn fold_operands<T: FromOperands<R>>(&self) -> T {
         of_two(
             Operand::ReadWriteGpr(*self.r16.as_ref(), Size::Word),
@@ -138,6 +140,7 @@ impl<R: Registers> RowAndOperands for xchgl_rm<R> {
     }
 
     #[tactic(auto, unfolding(cax64_machine_code::specs::Rows::line_of))]
+    #[inline(always)]
     fn fold_operands<T: FromOperands<R>>(&self) -> T {
         of_two(
             Operand::ReadWriteGpr(*self.r32.as_ref(), Size::Doubleword),
@@ -184,6 +187,7 @@ impl<R: Registers> RowAndOperands for xchgq_rm<R> {
     }
 
     #[tactic(auto, unfolding(cax64_machine_code::specs::Rows::line_of))]
+    #[inline(always)]
     fn fold_operands<T: FromOperands<R>>(&self) -> T {
         of_two(
             Operand::ReadWriteGpr(*self.r64.as_ref(), Size::Quadword),

@@ -540,8 +540,9 @@ impl<R: Registers> RowAndOperands for Inst<R> {
         }
     }
 
+    #[inline(always)]
     fn fold_operands<T: FromOperands<R>>(&self) -> T {
-        self.fold_operands_locked()
+        self.fold_operands_within()
     }
 
     fn visit<V: RegisterVisitor<R>>(&mut self, visitor: &mut V) {

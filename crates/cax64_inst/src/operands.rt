@@ -1,8 +1,6 @@
-//! Operands of the instruction within, in two functions: what the prover keeps of an arm that borrows what is within
-//! grows with the arms before it.
+//! Operands of the instruction within, by one match: what goes over them jumps once.
 
-ghost use Rattle.std.specs.Prelude.{◌≡◌, ◌≤◌};
-ghost use Rattle.cax64_inst.specs.Group.{group_of};
+ghost use Rattle.std.specs.Prelude.{◌≡◌};
 ghost use Rattle.cax64_inst.specs.Inst.{row_of, operands_of};
 ghost use Rattle.cax64_operand.specs.Fold.{fold};
 ghost use Rattle.cax64_operand.specs.Shape.{HasShape};
@@ -12,9 +10,10 @@ use cax64_operand::{FromOperands, RowAndOperands};
 use cax64_register::Registers;
 
 impl<R: Registers> Inst<R> {
-    /// The operands of what is within, if it is locked, and else of the others.
-    #[tactic(auto, unfolding(crate::specs::Inst::row_of, crate::specs::Inst::operands_of, crate::specs::Group::group_of))]
-    pub(crate) fn fold_operands_locked<T: FromOperands<R>>(&self) -> T
+    /// What is made of the operands of what is within.
+    #[tactic(auto, unfolding(crate::specs::Inst::row_of, crate::specs::Inst::operands_of))]
+    #[inline(always)]
+    pub(crate) fn fold_operands_within<T: FromOperands<R>>(&self) -> T
         ensures value { result ≡ fold T.made_of_none T.made_with T.made_of_nop (operands_of self.now) }
         ensures shape { HasShape (row_of self.now) (operands_of self.now) }
     {
@@ -98,17 +97,6 @@ impl<R: Registers> Inst<R> {
             Inst::lock_xorw_mr(i) => i.fold_operands(),
             Inst::lock_xorl_mr(i) => i.fold_operands(),
             Inst::lock_xorq_mr(i) => i.fold_operands(),
-            _ => self.fold_operands_unlocked(),
-        }
-    }
-
-    #[tactic(auto, unfolding(crate::specs::Inst::row_of, crate::specs::Inst::operands_of, crate::specs::Group::group_of))]
-    fn fold_operands_unlocked<T: FromOperands<R>>(&self) -> T
-        requires { 4 ≤ group_of self.now }
-        ensures value { result ≡ fold T.made_of_none T.made_with T.made_of_nop (operands_of self.now) }
-        ensures shape { HasShape (row_of self.now) (operands_of self.now) }
-    {
-        match self {
             Inst::nop_1b(i) => i.fold_operands(),
             Inst::nop_2b(i) => i.fold_operands(),
             Inst::nop_3b(i) => i.fold_operands(),
@@ -193,7 +181,6 @@ impl<R: Registers> Inst<R> {
             Inst::jge_d32(i) => i.fold_operands(),
             Inst::jle_d32(i) => i.fold_operands(),
             Inst::jg_d32(i) => i.fold_operands(),
-            _ => T::none(),
         }
     }
 }

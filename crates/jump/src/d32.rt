@@ -29,6 +29,7 @@ impl callq_d {
 
     /// What is made of the operands, for any family.
     #[tactic(auto, unfolding(cax64_machine_code::specs::Rows::line_of))]
+    #[inline(always)]
     pub fn fold_operands<R: Registers, T: FromOperands<R>>(&self) -> T
         ensures value { result ≡ fold T.made_of_none T.made_with T.made_of_nop (operands_callq_d {R = R} self.now) }
         ensures shape { HasShape {F = R.WriteXmm} row.callq_d (operands_callq_d {R = R} {A = R.ReadGpr} {B = R.ReadWriteGpr} {C = R.WriteGpr} {D = R.ReadXmm} {E = R.ReadWriteXmm} self.now) }
@@ -53,6 +54,7 @@ impl RowAndOperands for callq_d {
         Row::callq_d
     }
 
+    #[inline(always)]
     fn fold_operands<T: FromOperands<Numbers>>(&self) -> T {
         callq_d::fold_operands(self)
     }
@@ -77,6 +79,7 @@ impl jmp_d32 {
 
     /// What is made of the operands, for any family.
     #[tactic(auto, unfolding(cax64_machine_code::specs::Rows::line_of))]
+    #[inline(always)]
     pub fn fold_operands<R: Registers, T: FromOperands<R>>(&self) -> T
         ensures value { result ≡ fold T.made_of_none T.made_with T.made_of_nop (operands_jmp_d32 {R = R} self.now) }
         ensures shape { HasShape {F = R.WriteXmm} row.jmp_d32 (operands_jmp_d32 {R = R} {A = R.ReadGpr} {B = R.ReadWriteGpr} {C = R.WriteGpr} {D = R.ReadXmm} {E = R.ReadWriteXmm} self.now) }
@@ -101,6 +104,7 @@ impl RowAndOperands for jmp_d32 {
         Row::jmp_d32
     }
 
+    #[inline(always)]
     fn fold_operands<T: FromOperands<Numbers>>(&self) -> T {
         jmp_d32::fold_operands(self)
     }
@@ -125,6 +129,7 @@ impl jo_d32 {
 
     /// What is made of the operands, for any family.
     #[tactic(auto, unfolding(cax64_machine_code::specs::Rows::line_of))]
+    #[inline(always)]
     pub fn fold_operands<R: Registers, T: FromOperands<R>>(&self) -> T
         ensures value { result ≡ fold T.made_of_none T.made_with T.made_of_nop (operands_jo_d32 {R = R} self.now) }
         ensures shape { HasShape {F = R.WriteXmm} row.jo_d32 (operands_jo_d32 {R = R} {A = R.ReadGpr} {B = R.ReadWriteGpr} {C = R.WriteGpr} {D = R.ReadXmm} {E = R.ReadWriteXmm} self.now) }
@@ -149,6 +154,7 @@ impl RowAndOperands for jo_d32 {
         Row::jo_d32
     }
 
+    #[inline(always)]
     fn fold_operands<T: FromOperands<Numbers>>(&self) -> T {
         jo_d32::fold_operands(self)
     }
@@ -173,6 +179,7 @@ impl jno_d32 {
 
     /// What is made of the operands, for any family.
     #[tactic(auto, unfolding(cax64_machine_code::specs::Rows::line_of))]
+    #[inline(always)]
     pub fn fold_operands<R: Registers, T: FromOperands<R>>(&self) -> T
         ensures value { result ≡ fold T.made_of_none T.made_with T.made_of_nop (operands_jno_d32 {R = R} self.now) }
         ensures shape { HasShape {F = R.WriteXmm} row.jno_d32 (operands_jno_d32 {R = R} {A = R.ReadGpr} {B = R.ReadWriteGpr} {C = R.WriteGpr} {D = R.ReadXmm} {E = R.ReadWriteXmm} self.now) }
@@ -197,6 +204,7 @@ impl RowAndOperands for jno_d32 {
         Row::jno_d32
     }
 
+    #[inline(always)]
     fn fold_operands<T: FromOperands<Numbers>>(&self) -> T {
         jno_d32::fold_operands(self)
     }
@@ -221,6 +229,7 @@ impl jb_d32 {
 
     /// What is made of the operands, for any family.
     #[tactic(auto, unfolding(cax64_machine_code::specs::Rows::line_of))]
+    #[inline(always)]
     pub fn fold_operands<R: Registers, T: FromOperands<R>>(&self) -> T
         ensures value { result ≡ fold T.made_of_none T.made_with T.made_of_nop (operands_jb_d32 {R = R} self.now) }
         ensures shape { HasShape {F = R.WriteXmm} row.jb_d32 (operands_jb_d32 {R = R} {A = R.ReadGpr} {B = R.ReadWriteGpr} {C = R.WriteGpr} {D = R.ReadXmm} {E = R.ReadWriteXmm} self.now) }
@@ -245,6 +254,7 @@ impl RowAndOperands for jb_d32 {
         Row::jb_d32
     }
 
+    #[inline(always)]
     fn fold_operands<T: FromOperands<Numbers>>(&self) -> T {
         jb_d32::fold_operands(self)
     }
@@ -269,6 +279,7 @@ impl jae_d32 {
 
     /// What is made of the operands, for any family.
     #[tactic(auto, unfolding(cax64_machine_code::specs::Rows::line_of))]
+    #[inline(always)]
     pub fn fold_operands<R: Registers, T: FromOperands<R>>(&self) -> T
         ensures value { result ≡ fold T.made_of_none T.made_with T.made_of_nop (operands_jae_d32 {R = R} self.now) }
         ensures shape { HasShape {F = R.WriteXmm} row.jae_d32 (operands_jae_d32 {R = R} {A = R.ReadGpr} {B = R.ReadWriteGpr} {C = R.WriteGpr} {D = R.ReadXmm} {E = R.ReadWriteXmm} self.now) }
@@ -293,6 +304,7 @@ impl RowAndOperands for jae_d32 {
         Row::jae_d32
     }
 
+    #[inline(always)]
     fn fold_operands<T: FromOperands<Numbers>>(&self) -> T {
         jae_d32::fold_operands(self)
     }
@@ -317,6 +329,7 @@ impl je_d32 {
 
     /// What is made of the operands, for any family.
     #[tactic(auto, unfolding(cax64_machine_code::specs::Rows::line_of))]
+    #[inline(always)]
     pub fn fold_operands<R: Registers, T: FromOperands<R>>(&self) -> T
         ensures value { result ≡ fold T.made_of_none T.made_with T.made_of_nop (operands_je_d32 {R = R} self.now) }
         ensures shape { HasShape {F = R.WriteXmm} row.je_d32 (operands_je_d32 {R = R} {A = R.ReadGpr} {B = R.ReadWriteGpr} {C = R.WriteGpr} {D = R.ReadXmm} {E = R.ReadWriteXmm} self.now) }
@@ -341,6 +354,7 @@ impl RowAndOperands for je_d32 {
         Row::je_d32
     }
 
+    #[inline(always)]
     fn fold_operands<T: FromOperands<Numbers>>(&self) -> T {
         je_d32::fold_operands(self)
     }
@@ -365,6 +379,7 @@ impl jne_d32 {
 
     /// What is made of the operands, for any family.
     #[tactic(auto, unfolding(cax64_machine_code::specs::Rows::line_of))]
+    #[inline(always)]
     pub fn fold_operands<R: Registers, T: FromOperands<R>>(&self) -> T
         ensures value { result ≡ fold T.made_of_none T.made_with T.made_of_nop (operands_jne_d32 {R = R} self.now) }
         ensures shape { HasShape {F = R.WriteXmm} row.jne_d32 (operands_jne_d32 {R = R} {A = R.ReadGpr} {B = R.ReadWriteGpr} {C = R.WriteGpr} {D = R.ReadXmm} {E = R.ReadWriteXmm} self.now) }
@@ -389,6 +404,7 @@ impl RowAndOperands for jne_d32 {
         Row::jne_d32
     }
 
+    #[inline(always)]
     fn fold_operands<T: FromOperands<Numbers>>(&self) -> T {
         jne_d32::fold_operands(self)
     }
@@ -413,6 +429,7 @@ impl jbe_d32 {
 
     /// What is made of the operands, for any family.
     #[tactic(auto, unfolding(cax64_machine_code::specs::Rows::line_of))]
+    #[inline(always)]
     pub fn fold_operands<R: Registers, T: FromOperands<R>>(&self) -> T
         ensures value { result ≡ fold T.made_of_none T.made_with T.made_of_nop (operands_jbe_d32 {R = R} self.now) }
         ensures shape { HasShape {F = R.WriteXmm} row.jbe_d32 (operands_jbe_d32 {R = R} {A = R.ReadGpr} {B = R.ReadWriteGpr} {C = R.WriteGpr} {D = R.ReadXmm} {E = R.ReadWriteXmm} self.now) }
@@ -437,6 +454,7 @@ impl RowAndOperands for jbe_d32 {
         Row::jbe_d32
     }
 
+    #[inline(always)]
     fn fold_operands<T: FromOperands<Numbers>>(&self) -> T {
         jbe_d32::fold_operands(self)
     }
@@ -461,6 +479,7 @@ impl ja_d32 {
 
     /// What is made of the operands, for any family.
     #[tactic(auto, unfolding(cax64_machine_code::specs::Rows::line_of))]
+    #[inline(always)]
     pub fn fold_operands<R: Registers, T: FromOperands<R>>(&self) -> T
         ensures value { result ≡ fold T.made_of_none T.made_with T.made_of_nop (operands_ja_d32 {R = R} self.now) }
         ensures shape { HasShape {F = R.WriteXmm} row.ja_d32 (operands_ja_d32 {R = R} {A = R.ReadGpr} {B = R.ReadWriteGpr} {C = R.WriteGpr} {D = R.ReadXmm} {E = R.ReadWriteXmm} self.now) }
@@ -485,6 +504,7 @@ impl RowAndOperands for ja_d32 {
         Row::ja_d32
     }
 
+    #[inline(always)]
     fn fold_operands<T: FromOperands<Numbers>>(&self) -> T {
         ja_d32::fold_operands(self)
     }
@@ -509,6 +529,7 @@ impl js_d32 {
 
     /// What is made of the operands, for any family.
     #[tactic(auto, unfolding(cax64_machine_code::specs::Rows::line_of))]
+    #[inline(always)]
     pub fn fold_operands<R: Registers, T: FromOperands<R>>(&self) -> T
         ensures value { result ≡ fold T.made_of_none T.made_with T.made_of_nop (operands_js_d32 {R = R} self.now) }
         ensures shape { HasShape {F = R.WriteXmm} row.js_d32 (operands_js_d32 {R = R} {A = R.ReadGpr} {B = R.ReadWriteGpr} {C = R.WriteGpr} {D = R.ReadXmm} {E = R.ReadWriteXmm} self.now) }
@@ -533,6 +554,7 @@ impl RowAndOperands for js_d32 {
         Row::js_d32
     }
 
+    #[inline(always)]
     fn fold_operands<T: FromOperands<Numbers>>(&self) -> T {
         js_d32::fold_operands(self)
     }
@@ -557,6 +579,7 @@ impl jns_d32 {
 
     /// What is made of the operands, for any family.
     #[tactic(auto, unfolding(cax64_machine_code::specs::Rows::line_of))]
+    #[inline(always)]
     pub fn fold_operands<R: Registers, T: FromOperands<R>>(&self) -> T
         ensures value { result ≡ fold T.made_of_none T.made_with T.made_of_nop (operands_jns_d32 {R = R} self.now) }
         ensures shape { HasShape {F = R.WriteXmm} row.jns_d32 (operands_jns_d32 {R = R} {A = R.ReadGpr} {B = R.ReadWriteGpr} {C = R.WriteGpr} {D = R.ReadXmm} {E = R.ReadWriteXmm} self.now) }
@@ -581,6 +604,7 @@ impl RowAndOperands for jns_d32 {
         Row::jns_d32
     }
 
+    #[inline(always)]
     fn fold_operands<T: FromOperands<Numbers>>(&self) -> T {
         jns_d32::fold_operands(self)
     }
@@ -605,6 +629,7 @@ impl jp_d32 {
 
     /// What is made of the operands, for any family.
     #[tactic(auto, unfolding(cax64_machine_code::specs::Rows::line_of))]
+    #[inline(always)]
     pub fn fold_operands<R: Registers, T: FromOperands<R>>(&self) -> T
         ensures value { result ≡ fold T.made_of_none T.made_with T.made_of_nop (operands_jp_d32 {R = R} self.now) }
         ensures shape { HasShape {F = R.WriteXmm} row.jp_d32 (operands_jp_d32 {R = R} {A = R.ReadGpr} {B = R.ReadWriteGpr} {C = R.WriteGpr} {D = R.ReadXmm} {E = R.ReadWriteXmm} self.now) }
@@ -629,6 +654,7 @@ impl RowAndOperands for jp_d32 {
         Row::jp_d32
     }
 
+    #[inline(always)]
     fn fold_operands<T: FromOperands<Numbers>>(&self) -> T {
         jp_d32::fold_operands(self)
     }
@@ -653,6 +679,7 @@ impl jnp_d32 {
 
     /// What is made of the operands, for any family.
     #[tactic(auto, unfolding(cax64_machine_code::specs::Rows::line_of))]
+    #[inline(always)]
     pub fn fold_operands<R: Registers, T: FromOperands<R>>(&self) -> T
         ensures value { result ≡ fold T.made_of_none T.made_with T.made_of_nop (operands_jnp_d32 {R = R} self.now) }
         ensures shape { HasShape {F = R.WriteXmm} row.jnp_d32 (operands_jnp_d32 {R = R} {A = R.ReadGpr} {B = R.ReadWriteGpr} {C = R.WriteGpr} {D = R.ReadXmm} {E = R.ReadWriteXmm} self.now) }
@@ -677,6 +704,7 @@ impl RowAndOperands for jnp_d32 {
         Row::jnp_d32
     }
 
+    #[inline(always)]
     fn fold_operands<T: FromOperands<Numbers>>(&self) -> T {
         jnp_d32::fold_operands(self)
     }
@@ -701,6 +729,7 @@ impl jl_d32 {
 
     /// What is made of the operands, for any family.
     #[tactic(auto, unfolding(cax64_machine_code::specs::Rows::line_of))]
+    #[inline(always)]
     pub fn fold_operands<R: Registers, T: FromOperands<R>>(&self) -> T
         ensures value { result ≡ fold T.made_of_none T.made_with T.made_of_nop (operands_jl_d32 {R = R} self.now) }
         ensures shape { HasShape {F = R.WriteXmm} row.jl_d32 (operands_jl_d32 {R = R} {A = R.ReadGpr} {B = R.ReadWriteGpr} {C = R.WriteGpr} {D = R.ReadXmm} {E = R.ReadWriteXmm} self.now) }
@@ -725,6 +754,7 @@ impl RowAndOperands for jl_d32 {
         Row::jl_d32
     }
 
+    #[inline(always)]
     fn fold_operands<T: FromOperands<Numbers>>(&self) -> T {
         jl_d32::fold_operands(self)
     }
@@ -749,6 +779,7 @@ impl jge_d32 {
 
     /// What is made of the operands, for any family.
     #[tactic(auto, unfolding(cax64_machine_code::specs::Rows::line_of))]
+    #[inline(always)]
     pub fn fold_operands<R: Registers, T: FromOperands<R>>(&self) -> T
         ensures value { result ≡ fold T.made_of_none T.made_with T.made_of_nop (operands_jge_d32 {R = R} self.now) }
         ensures shape { HasShape {F = R.WriteXmm} row.jge_d32 (operands_jge_d32 {R = R} {A = R.ReadGpr} {B = R.ReadWriteGpr} {C = R.WriteGpr} {D = R.ReadXmm} {E = R.ReadWriteXmm} self.now) }
@@ -773,6 +804,7 @@ impl RowAndOperands for jge_d32 {
         Row::jge_d32
     }
 
+    #[inline(always)]
     fn fold_operands<T: FromOperands<Numbers>>(&self) -> T {
         jge_d32::fold_operands(self)
     }
@@ -797,6 +829,7 @@ impl jle_d32 {
 
     /// What is made of the operands, for any family.
     #[tactic(auto, unfolding(cax64_machine_code::specs::Rows::line_of))]
+    #[inline(always)]
     pub fn fold_operands<R: Registers, T: FromOperands<R>>(&self) -> T
         ensures value { result ≡ fold T.made_of_none T.made_with T.made_of_nop (operands_jle_d32 {R = R} self.now) }
         ensures shape { HasShape {F = R.WriteXmm} row.jle_d32 (operands_jle_d32 {R = R} {A = R.ReadGpr} {B = R.ReadWriteGpr} {C = R.WriteGpr} {D = R.ReadXmm} {E = R.ReadWriteXmm} self.now) }
@@ -821,6 +854,7 @@ impl RowAndOperands for jle_d32 {
         Row::jle_d32
     }
 
+    #[inline(always)]
     fn fold_operands<T: FromOperands<Numbers>>(&self) -> T {
         jle_d32::fold_operands(self)
     }
@@ -845,6 +879,7 @@ impl jg_d32 {
 
     /// What is made of the operands, for any family.
     #[tactic(auto, unfolding(cax64_machine_code::specs::Rows::line_of))]
+    #[inline(always)]
     pub fn fold_operands<R: Registers, T: FromOperands<R>>(&self) -> T
         ensures value { result ≡ fold T.made_of_none T.made_with T.made_of_nop (operands_jg_d32 {R = R} self.now) }
         ensures shape { HasShape {F = R.WriteXmm} row.jg_d32 (operands_jg_d32 {R = R} {A = R.ReadGpr} {B = R.ReadWriteGpr} {C = R.WriteGpr} {D = R.ReadXmm} {E = R.ReadWriteXmm} self.now) }
@@ -869,6 +904,7 @@ impl RowAndOperands for jg_d32 {
         Row::jg_d32
     }
 
+    #[inline(always)]
     fn fold_operands<T: FromOperands<Numbers>>(&self) -> T {
         jg_d32::fold_operands(self)
     }

@@ -29,6 +29,7 @@ impl jmp_d8 {
 
     /// What is made of the operands, for any family.
     #[tactic(auto, unfolding(cax64_machine_code::specs::Rows::line_of))]
+    #[inline(always)]
     pub fn fold_operands<R: Registers, T: FromOperands<R>>(&self) -> T
         ensures value { result ≡ fold T.made_of_none T.made_with T.made_of_nop (operands_jmp_d8 {R = R} self.now) }
         ensures shape { HasShape {F = R.WriteXmm} row.jmp_d8 (operands_jmp_d8 {R = R} {A = R.ReadGpr} {B = R.ReadWriteGpr} {C = R.WriteGpr} {D = R.ReadXmm} {E = R.ReadWriteXmm} self.now) }
@@ -53,6 +54,7 @@ impl RowAndOperands for jmp_d8 {
         Row::jmp_d8
     }
 
+    #[inline(always)]
     fn fold_operands<T: FromOperands<Numbers>>(&self) -> T {
         jmp_d8::fold_operands(self)
     }
@@ -77,6 +79,7 @@ impl jo_d8 {
 
     /// What is made of the operands, for any family.
     #[tactic(auto, unfolding(cax64_machine_code::specs::Rows::line_of))]
+    #[inline(always)]
     pub fn fold_operands<R: Registers, T: FromOperands<R>>(&self) -> T
         ensures value { result ≡ fold T.made_of_none T.made_with T.made_of_nop (operands_jo_d8 {R = R} self.now) }
         ensures shape { HasShape {F = R.WriteXmm} row.jo_d8 (operands_jo_d8 {R = R} {A = R.ReadGpr} {B = R.ReadWriteGpr} {C = R.WriteGpr} {D = R.ReadXmm} {E = R.ReadWriteXmm} self.now) }
@@ -101,6 +104,7 @@ impl RowAndOperands for jo_d8 {
         Row::jo_d8
     }
 
+    #[inline(always)]
     fn fold_operands<T: FromOperands<Numbers>>(&self) -> T {
         jo_d8::fold_operands(self)
     }
@@ -125,6 +129,7 @@ impl jno_d8 {
 
     /// What is made of the operands, for any family.
     #[tactic(auto, unfolding(cax64_machine_code::specs::Rows::line_of))]
+    #[inline(always)]
     pub fn fold_operands<R: Registers, T: FromOperands<R>>(&self) -> T
         ensures value { result ≡ fold T.made_of_none T.made_with T.made_of_nop (operands_jno_d8 {R = R} self.now) }
         ensures shape { HasShape {F = R.WriteXmm} row.jno_d8 (operands_jno_d8 {R = R} {A = R.ReadGpr} {B = R.ReadWriteGpr} {C = R.WriteGpr} {D = R.ReadXmm} {E = R.ReadWriteXmm} self.now) }
@@ -149,6 +154,7 @@ impl RowAndOperands for jno_d8 {
         Row::jno_d8
     }
 
+    #[inline(always)]
     fn fold_operands<T: FromOperands<Numbers>>(&self) -> T {
         jno_d8::fold_operands(self)
     }
@@ -173,6 +179,7 @@ impl jb_d8 {
 
     /// What is made of the operands, for any family.
     #[tactic(auto, unfolding(cax64_machine_code::specs::Rows::line_of))]
+    #[inline(always)]
     pub fn fold_operands<R: Registers, T: FromOperands<R>>(&self) -> T
         ensures value { result ≡ fold T.made_of_none T.made_with T.made_of_nop (operands_jb_d8 {R = R} self.now) }
         ensures shape { HasShape {F = R.WriteXmm} row.jb_d8 (operands_jb_d8 {R = R} {A = R.ReadGpr} {B = R.ReadWriteGpr} {C = R.WriteGpr} {D = R.ReadXmm} {E = R.ReadWriteXmm} self.now) }
@@ -197,6 +204,7 @@ impl RowAndOperands for jb_d8 {
         Row::jb_d8
     }
 
+    #[inline(always)]
     fn fold_operands<T: FromOperands<Numbers>>(&self) -> T {
         jb_d8::fold_operands(self)
     }
@@ -221,6 +229,7 @@ impl jae_d8 {
 
     /// What is made of the operands, for any family.
     #[tactic(auto, unfolding(cax64_machine_code::specs::Rows::line_of))]
+    #[inline(always)]
     pub fn fold_operands<R: Registers, T: FromOperands<R>>(&self) -> T
         ensures value { result ≡ fold T.made_of_none T.made_with T.made_of_nop (operands_jae_d8 {R = R} self.now) }
         ensures shape { HasShape {F = R.WriteXmm} row.jae_d8 (operands_jae_d8 {R = R} {A = R.ReadGpr} {B = R.ReadWriteGpr} {C = R.WriteGpr} {D = R.ReadXmm} {E = R.ReadWriteXmm} self.now) }
@@ -245,6 +254,7 @@ impl RowAndOperands for jae_d8 {
         Row::jae_d8
     }
 
+    #[inline(always)]
     fn fold_operands<T: FromOperands<Numbers>>(&self) -> T {
         jae_d8::fold_operands(self)
     }
@@ -269,6 +279,7 @@ impl je_d8 {
 
     /// What is made of the operands, for any family.
     #[tactic(auto, unfolding(cax64_machine_code::specs::Rows::line_of))]
+    #[inline(always)]
     pub fn fold_operands<R: Registers, T: FromOperands<R>>(&self) -> T
         ensures value { result ≡ fold T.made_of_none T.made_with T.made_of_nop (operands_je_d8 {R = R} self.now) }
         ensures shape { HasShape {F = R.WriteXmm} row.je_d8 (operands_je_d8 {R = R} {A = R.ReadGpr} {B = R.ReadWriteGpr} {C = R.WriteGpr} {D = R.ReadXmm} {E = R.ReadWriteXmm} self.now) }
@@ -293,6 +304,7 @@ impl RowAndOperands for je_d8 {
         Row::je_d8
     }
 
+    #[inline(always)]
     fn fold_operands<T: FromOperands<Numbers>>(&self) -> T {
         je_d8::fold_operands(self)
     }
@@ -317,6 +329,7 @@ impl jne_d8 {
 
     /// What is made of the operands, for any family.
     #[tactic(auto, unfolding(cax64_machine_code::specs::Rows::line_of))]
+    #[inline(always)]
     pub fn fold_operands<R: Registers, T: FromOperands<R>>(&self) -> T
         ensures value { result ≡ fold T.made_of_none T.made_with T.made_of_nop (operands_jne_d8 {R = R} self.now) }
         ensures shape { HasShape {F = R.WriteXmm} row.jne_d8 (operands_jne_d8 {R = R} {A = R.ReadGpr} {B = R.ReadWriteGpr} {C = R.WriteGpr} {D = R.ReadXmm} {E = R.ReadWriteXmm} self.now) }
@@ -341,6 +354,7 @@ impl RowAndOperands for jne_d8 {
         Row::jne_d8
     }
 
+    #[inline(always)]
     fn fold_operands<T: FromOperands<Numbers>>(&self) -> T {
         jne_d8::fold_operands(self)
     }
@@ -365,6 +379,7 @@ impl jbe_d8 {
 
     /// What is made of the operands, for any family.
     #[tactic(auto, unfolding(cax64_machine_code::specs::Rows::line_of))]
+    #[inline(always)]
     pub fn fold_operands<R: Registers, T: FromOperands<R>>(&self) -> T
         ensures value { result ≡ fold T.made_of_none T.made_with T.made_of_nop (operands_jbe_d8 {R = R} self.now) }
         ensures shape { HasShape {F = R.WriteXmm} row.jbe_d8 (operands_jbe_d8 {R = R} {A = R.ReadGpr} {B = R.ReadWriteGpr} {C = R.WriteGpr} {D = R.ReadXmm} {E = R.ReadWriteXmm} self.now) }
@@ -389,6 +404,7 @@ impl RowAndOperands for jbe_d8 {
         Row::jbe_d8
     }
 
+    #[inline(always)]
     fn fold_operands<T: FromOperands<Numbers>>(&self) -> T {
         jbe_d8::fold_operands(self)
     }
@@ -413,6 +429,7 @@ impl ja_d8 {
 
     /// What is made of the operands, for any family.
     #[tactic(auto, unfolding(cax64_machine_code::specs::Rows::line_of))]
+    #[inline(always)]
     pub fn fold_operands<R: Registers, T: FromOperands<R>>(&self) -> T
         ensures value { result ≡ fold T.made_of_none T.made_with T.made_of_nop (operands_ja_d8 {R = R} self.now) }
         ensures shape { HasShape {F = R.WriteXmm} row.ja_d8 (operands_ja_d8 {R = R} {A = R.ReadGpr} {B = R.ReadWriteGpr} {C = R.WriteGpr} {D = R.ReadXmm} {E = R.ReadWriteXmm} self.now) }
@@ -437,6 +454,7 @@ impl RowAndOperands for ja_d8 {
         Row::ja_d8
     }
 
+    #[inline(always)]
     fn fold_operands<T: FromOperands<Numbers>>(&self) -> T {
         ja_d8::fold_operands(self)
     }
@@ -461,6 +479,7 @@ impl js_d8 {
 
     /// What is made of the operands, for any family.
     #[tactic(auto, unfolding(cax64_machine_code::specs::Rows::line_of))]
+    #[inline(always)]
     pub fn fold_operands<R: Registers, T: FromOperands<R>>(&self) -> T
         ensures value { result ≡ fold T.made_of_none T.made_with T.made_of_nop (operands_js_d8 {R = R} self.now) }
         ensures shape { HasShape {F = R.WriteXmm} row.js_d8 (operands_js_d8 {R = R} {A = R.ReadGpr} {B = R.ReadWriteGpr} {C = R.WriteGpr} {D = R.ReadXmm} {E = R.ReadWriteXmm} self.now) }
@@ -485,6 +504,7 @@ impl RowAndOperands for js_d8 {
         Row::js_d8
     }
 
+    #[inline(always)]
     fn fold_operands<T: FromOperands<Numbers>>(&self) -> T {
         js_d8::fold_operands(self)
     }
@@ -509,6 +529,7 @@ impl jns_d8 {
 
     /// What is made of the operands, for any family.
     #[tactic(auto, unfolding(cax64_machine_code::specs::Rows::line_of))]
+    #[inline(always)]
     pub fn fold_operands<R: Registers, T: FromOperands<R>>(&self) -> T
         ensures value { result ≡ fold T.made_of_none T.made_with T.made_of_nop (operands_jns_d8 {R = R} self.now) }
         ensures shape { HasShape {F = R.WriteXmm} row.jns_d8 (operands_jns_d8 {R = R} {A = R.ReadGpr} {B = R.ReadWriteGpr} {C = R.WriteGpr} {D = R.ReadXmm} {E = R.ReadWriteXmm} self.now) }
@@ -533,6 +554,7 @@ impl RowAndOperands for jns_d8 {
         Row::jns_d8
     }
 
+    #[inline(always)]
     fn fold_operands<T: FromOperands<Numbers>>(&self) -> T {
         jns_d8::fold_operands(self)
     }
@@ -557,6 +579,7 @@ impl jp_d8 {
 
     /// What is made of the operands, for any family.
     #[tactic(auto, unfolding(cax64_machine_code::specs::Rows::line_of))]
+    #[inline(always)]
     pub fn fold_operands<R: Registers, T: FromOperands<R>>(&self) -> T
         ensures value { result ≡ fold T.made_of_none T.made_with T.made_of_nop (operands_jp_d8 {R = R} self.now) }
         ensures shape { HasShape {F = R.WriteXmm} row.jp_d8 (operands_jp_d8 {R = R} {A = R.ReadGpr} {B = R.ReadWriteGpr} {C = R.WriteGpr} {D = R.ReadXmm} {E = R.ReadWriteXmm} self.now) }
@@ -581,6 +604,7 @@ impl RowAndOperands for jp_d8 {
         Row::jp_d8
     }
 
+    #[inline(always)]
     fn fold_operands<T: FromOperands<Numbers>>(&self) -> T {
         jp_d8::fold_operands(self)
     }
@@ -605,6 +629,7 @@ impl jnp_d8 {
 
     /// What is made of the operands, for any family.
     #[tactic(auto, unfolding(cax64_machine_code::specs::Rows::line_of))]
+    #[inline(always)]
     pub fn fold_operands<R: Registers, T: FromOperands<R>>(&self) -> T
         ensures value { result ≡ fold T.made_of_none T.made_with T.made_of_nop (operands_jnp_d8 {R = R} self.now) }
         ensures shape { HasShape {F = R.WriteXmm} row.jnp_d8 (operands_jnp_d8 {R = R} {A = R.ReadGpr} {B = R.ReadWriteGpr} {C = R.WriteGpr} {D = R.ReadXmm} {E = R.ReadWriteXmm} self.now) }
@@ -629,6 +654,7 @@ impl RowAndOperands for jnp_d8 {
         Row::jnp_d8
     }
 
+    #[inline(always)]
     fn fold_operands<T: FromOperands<Numbers>>(&self) -> T {
         jnp_d8::fold_operands(self)
     }
@@ -653,6 +679,7 @@ impl jl_d8 {
 
     /// What is made of the operands, for any family.
     #[tactic(auto, unfolding(cax64_machine_code::specs::Rows::line_of))]
+    #[inline(always)]
     pub fn fold_operands<R: Registers, T: FromOperands<R>>(&self) -> T
         ensures value { result ≡ fold T.made_of_none T.made_with T.made_of_nop (operands_jl_d8 {R = R} self.now) }
         ensures shape { HasShape {F = R.WriteXmm} row.jl_d8 (operands_jl_d8 {R = R} {A = R.ReadGpr} {B = R.ReadWriteGpr} {C = R.WriteGpr} {D = R.ReadXmm} {E = R.ReadWriteXmm} self.now) }
@@ -677,6 +704,7 @@ impl RowAndOperands for jl_d8 {
         Row::jl_d8
     }
 
+    #[inline(always)]
     fn fold_operands<T: FromOperands<Numbers>>(&self) -> T {
         jl_d8::fold_operands(self)
     }
@@ -701,6 +729,7 @@ impl jge_d8 {
 
     /// What is made of the operands, for any family.
     #[tactic(auto, unfolding(cax64_machine_code::specs::Rows::line_of))]
+    #[inline(always)]
     pub fn fold_operands<R: Registers, T: FromOperands<R>>(&self) -> T
         ensures value { result ≡ fold T.made_of_none T.made_with T.made_of_nop (operands_jge_d8 {R = R} self.now) }
         ensures shape { HasShape {F = R.WriteXmm} row.jge_d8 (operands_jge_d8 {R = R} {A = R.ReadGpr} {B = R.ReadWriteGpr} {C = R.WriteGpr} {D = R.ReadXmm} {E = R.ReadWriteXmm} self.now) }
@@ -725,6 +754,7 @@ impl RowAndOperands for jge_d8 {
         Row::jge_d8
     }
 
+    #[inline(always)]
     fn fold_operands<T: FromOperands<Numbers>>(&self) -> T {
         jge_d8::fold_operands(self)
     }
@@ -749,6 +779,7 @@ impl jle_d8 {
 
     /// What is made of the operands, for any family.
     #[tactic(auto, unfolding(cax64_machine_code::specs::Rows::line_of))]
+    #[inline(always)]
     pub fn fold_operands<R: Registers, T: FromOperands<R>>(&self) -> T
         ensures value { result ≡ fold T.made_of_none T.made_with T.made_of_nop (operands_jle_d8 {R = R} self.now) }
         ensures shape { HasShape {F = R.WriteXmm} row.jle_d8 (operands_jle_d8 {R = R} {A = R.ReadGpr} {B = R.ReadWriteGpr} {C = R.WriteGpr} {D = R.ReadXmm} {E = R.ReadWriteXmm} self.now) }
@@ -773,6 +804,7 @@ impl RowAndOperands for jle_d8 {
         Row::jle_d8
     }
 
+    #[inline(always)]
     fn fold_operands<T: FromOperands<Numbers>>(&self) -> T {
         jle_d8::fold_operands(self)
     }
@@ -797,6 +829,7 @@ impl jg_d8 {
 
     /// What is made of the operands, for any family.
     #[tactic(auto, unfolding(cax64_machine_code::specs::Rows::line_of))]
+    #[inline(always)]
     pub fn fold_operands<R: Registers, T: FromOperands<R>>(&self) -> T
         ensures value { result ≡ fold T.made_of_none T.made_with T.made_of_nop (operands_jg_d8 {R = R} self.now) }
         ensures shape { HasShape {F = R.WriteXmm} row.jg_d8 (operands_jg_d8 {R = R} {A = R.ReadGpr} {B = R.ReadWriteGpr} {C = R.WriteGpr} {D = R.ReadXmm} {E = R.ReadWriteXmm} self.now) }
@@ -821,6 +854,7 @@ impl RowAndOperands for jg_d8 {
         Row::jg_d8
     }
 
+    #[inline(always)]
     fn fold_operands<T: FromOperands<Numbers>>(&self) -> T {
         jg_d8::fold_operands(self)
     }

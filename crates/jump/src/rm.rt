@@ -45,6 +45,7 @@ impl<R: Registers> RowAndOperands for callq_m<R> {
     }
 
     #[tactic(auto, unfolding(cax64_machine_code::specs::Rows::line_of))]
+    #[inline(always)]
     fn fold_operands<T: FromOperands<R>>(&self) -> T {
         of_one(Operand::ReadGprMem(self.rm64, Size::Quadword))
     }
@@ -86,6 +87,7 @@ impl<R: Registers> RowAndOperands for jmpq_m<R> {
     }
 
     #[tactic(auto, unfolding(cax64_machine_code::specs::Rows::line_of))]
+    #[inline(always)]
     fn fold_operands<T: FromOperands<R>>(&self) -> T {
         of_one(Operand::ReadGprMem(self.rm64, Size::Quadword))
     }

@@ -49,6 +49,7 @@ impl<R: Registers> RowAndOperands for lock_addb_mi<R> {
     }
 
     #[tactic(auto, unfolding(cax64_machine_code::specs::Rows::line_of))]
+    #[inline(always)]
     fn fold_operands<T: FromOperands<R>>(&self) -> T {
         of_two(
             Operand::ReadAmode(self.m8),
@@ -94,6 +95,7 @@ impl<R: Registers> RowAndOperands for lock_addw_mi<R> {
     }
 
     #[tactic(auto, unfolding(cax64_machine_code::specs::Rows::line_of))]
+    #[inline(always)]
     fn fold_operands<T: FromOperands<R>>(&self) -> T {
         of_two(
             Operand::ReadAmode(self.m16),
@@ -139,6 +141,7 @@ impl<R: Registers> RowAndOperands for lock_addl_mi<R> {
     }
 
     #[tactic(auto, unfolding(cax64_machine_code::specs::Rows::line_of))]
+    #[inline(always)]
     fn fold_operands<T: FromOperands<R>>(&self) -> T {
         of_two(
             Operand::ReadAmode(self.m32),
@@ -184,6 +187,7 @@ impl<R: Registers> RowAndOperands for lock_addq_mi_sxl<R> {
     }
 
     #[tactic(auto, unfolding(cax64_machine_code::specs::Rows::line_of))]
+    #[inline(always)]
     fn fold_operands<T: FromOperands<R>>(&self) -> T {
         of_two(
             Operand::ReadAmode(self.m64),
@@ -229,6 +233,7 @@ impl<R: Registers> RowAndOperands for lock_addl_mi_sxb<R> {
     }
 
     #[tactic(auto, unfolding(cax64_machine_code::specs::Rows::line_of))]
+    #[inline(always)]
     fn fold_operands<T: FromOperands<R>>(&self) -> T {
         of_two(
             Operand::ReadAmode(self.m32),
@@ -274,6 +279,7 @@ impl<R: Registers> RowAndOperands for lock_addq_mi_sxb<R> {
     }
 
     #[tactic(auto, unfolding(cax64_machine_code::specs::Rows::line_of))]
+    #[inline(always)]
     fn fold_operands<T: FromOperands<R>>(&self) -> T {
         of_two(
             Operand::ReadAmode(self.m64),
@@ -319,6 +325,7 @@ impl<R: Registers> RowAndOperands for lock_addb_mr<R> {
     }
 
     #[tactic(auto, unfolding(cax64_machine_code::specs::Rows::line_of))]
+    #[inline(always)]
     fn fold_operands<T: FromOperands<R>>(&self) -> T {
         of_two(
             Operand::ReadAmode(self.m8),
@@ -365,6 +372,7 @@ impl<R: Registers> RowAndOperands for lock_addw_mr<R> {
     }
 
     #[tactic(auto, unfolding(cax64_machine_code::specs::Rows::line_of))]
+    #[inline(always)]
     fn fold_operands<T: FromOperands<R>>(&self) -> T {
         of_two(
             Operand::ReadAmode(self.m16),
@@ -411,6 +419,7 @@ impl<R: Registers> RowAndOperands for lock_addl_mr<R> {
     }
 
     #[tactic(auto, unfolding(cax64_machine_code::specs::Rows::line_of))]
+    #[inline(always)]
     fn fold_operands<T: FromOperands<R>>(&self) -> T {
         of_two(
             Operand::ReadAmode(self.m32),
@@ -457,6 +466,7 @@ impl<R: Registers> RowAndOperands for lock_addq_mr<R> {
     }
 
     #[tactic(auto, unfolding(cax64_machine_code::specs::Rows::line_of))]
+    #[inline(always)]
     fn fold_operands<T: FromOperands<R>>(&self) -> T {
         of_two(
             Operand::ReadAmode(self.m64),

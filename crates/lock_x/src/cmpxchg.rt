@@ -48,6 +48,7 @@ impl<R: Registers> RowAndOperands for lock_cmpxchgb_mr<R> {
     }
 
     #[tactic(auto, unfolding(cax64_machine_code::specs::Rows::line_of))]
+    #[inline(always)]
     fn fold_operands<T: FromOperands<R>>(&self) -> T {
         of_three(
             Operand::ReadAmode(self.m8),
@@ -98,6 +99,7 @@ impl<R: Registers> RowAndOperands for lock_cmpxchgw_mr<R> {
     }
 
     #[tactic(auto, unfolding(cax64_machine_code::specs::Rows::line_of))]
+    #[inline(always)]
     fn fold_operands<T: FromOperands<R>>(&self) -> T {
         of_three(
             Operand::ReadAmode(self.m16),
@@ -148,6 +150,7 @@ impl<R: Registers> RowAndOperands for lock_cmpxchgl_mr<R> {
     }
 
     #[tactic(auto, unfolding(cax64_machine_code::specs::Rows::line_of))]
+    #[inline(always)]
     fn fold_operands<T: FromOperands<R>>(&self) -> T {
         of_three(
             Operand::ReadAmode(self.m32),
@@ -198,6 +201,7 @@ impl<R: Registers> RowAndOperands for lock_cmpxchgq_mr<R> {
     }
 
     #[tactic(auto, unfolding(cax64_machine_code::specs::Rows::line_of))]
+    #[inline(always)]
     fn fold_operands<T: FromOperands<R>>(&self) -> T {
         of_three(
             Operand::ReadAmode(self.m64),
@@ -262,6 +266,7 @@ impl<R: Registers> RowAndOperands for lock_cmpxchg16b_m<R> {
     }
 
     #[tactic(auto, unfolding(cax64_machine_code::specs::Rows::line_of))]
+    #[inline(always)]
     fn fold_operands<T: FromOperands<R>>(&self) -> T {
         of_five(
             Operand::ReadAmode(self.m128),

@@ -46,6 +46,7 @@ impl<R: Registers> RowAndOperands for lock_xaddb_mr<R> {
     }
 
     #[tactic(auto, unfolding(cax64_machine_code::specs::Rows::line_of))]
+    #[inline(always)]
     fn fold_operands<T: FromOperands<R>>(&self) -> T {
         of_two(
             Operand::ReadWriteGpr(*self.r8.as_ref(), Size::Byte),
@@ -92,6 +93,7 @@ impl<R: Registers> RowAndOperands for lock_xaddw_mr<R> {
     }
 
     #[tactic(auto, unfolding(cax64_machine_code::specs::Rows::line_of))]
+    #[inline(always)]
     fn fold_operands<T: FromOperands<R>>(&self) -> T {
         of_two(
             Operand::ReadWriteGpr(*self.r16.as_ref(), Size::Word),
@@ -138,6 +140,7 @@ impl<R: Registers> RowAndOperands for lock_xaddl_mr<R> {
     }
 
     #[tactic(auto, unfolding(cax64_machine_code::specs::Rows::line_of))]
+    #[inline(always)]
     fn fold_operands<T: FromOperands<R>>(&self) -> T {
         of_two(
             Operand::ReadWriteGpr(*self.r32.as_ref(), Size::Doubleword),
@@ -184,6 +187,7 @@ impl<R: Registers> RowAndOperands for lock_xaddq_mr<R> {
     }
 
     #[tactic(auto, unfolding(cax64_machine_code::specs::Rows::line_of))]
+    #[inline(always)]
     fn fold_operands<T: FromOperands<R>>(&self) -> T {
         of_two(
             Operand::ReadWriteGpr(*self.r64.as_ref(), Size::Quadword),

@@ -21,6 +21,7 @@ impl nop_1b {
     }
 
     /// What is made of the operands, for any family.
+    #[inline(always)]
     pub fn fold_operands<R: Registers, T: FromOperands<R>>(&self) -> T
         ensures value { result ≡ fold T.made_of_none T.made_with T.made_of_nop (operands_nop_1b {R = R} self.now) }
         ensures shape { HasShape {F = R.WriteXmm} row.nop_1b (operands_nop_1b {R = R} {A = R.ReadGpr} {B = R.ReadWriteGpr} {C = R.WriteGpr} {D = R.ReadXmm} {E = R.ReadWriteXmm} self.now) }
@@ -45,6 +46,7 @@ impl RowAndOperands for nop_1b {
         Row::nop_1b
     }
 
+    #[inline(always)]
     fn fold_operands<T: FromOperands<Numbers>>(&self) -> T {
         nop_1b::fold_operands(self)
     }
@@ -64,6 +66,7 @@ impl nop_2b {
     }
 
     /// What is made of the operands, for any family.
+    #[inline(always)]
     pub fn fold_operands<R: Registers, T: FromOperands<R>>(&self) -> T
         ensures value { result ≡ fold T.made_of_none T.made_with T.made_of_nop (operands_nop_2b {R = R} self.now) }
         ensures shape { HasShape {F = R.WriteXmm} row.nop_2b (operands_nop_2b {R = R} {A = R.ReadGpr} {B = R.ReadWriteGpr} {C = R.WriteGpr} {D = R.ReadXmm} {E = R.ReadWriteXmm} self.now) }
@@ -88,6 +91,7 @@ impl RowAndOperands for nop_2b {
         Row::nop_2b
     }
 
+    #[inline(always)]
     fn fold_operands<T: FromOperands<Numbers>>(&self) -> T {
         nop_2b::fold_operands(self)
     }
@@ -107,6 +111,7 @@ impl nop_3b {
     }
 
     /// What is made of the operands, for any family.
+    #[inline(always)]
     pub fn fold_operands<R: Registers, T: FromOperands<R>>(&self) -> T
         ensures value { result ≡ fold T.made_of_none T.made_with T.made_of_nop (operands_nop_3b {R = R} self.now) }
         ensures shape { HasShape {F = R.WriteXmm} row.nopl_rm (operands_nop_3b {R = R} {A = R.ReadGpr} {B = R.ReadWriteGpr} {C = R.WriteGpr} {D = R.ReadXmm} {E = R.ReadWriteXmm} self.now) }
@@ -131,6 +136,7 @@ impl RowAndOperands for nop_3b {
         Row::nopl_rm
     }
 
+    #[inline(always)]
     fn fold_operands<T: FromOperands<Numbers>>(&self) -> T {
         nop_3b::fold_operands(self)
     }
@@ -150,6 +156,7 @@ impl nop_4b {
     }
 
     /// What is made of the operands, for any family.
+    #[inline(always)]
     pub fn fold_operands<R: Registers, T: FromOperands<R>>(&self) -> T
         ensures value { result ≡ fold T.made_of_none T.made_with T.made_of_nop (operands_nop_4b {R = R} self.now) }
         ensures shape { HasShape {F = R.WriteXmm} row.nopl_rm (operands_nop_4b {R = R} {A = R.ReadGpr} {B = R.ReadWriteGpr} {C = R.WriteGpr} {D = R.ReadXmm} {E = R.ReadWriteXmm} self.now) }
@@ -174,6 +181,7 @@ impl RowAndOperands for nop_4b {
         Row::nopl_rm
     }
 
+    #[inline(always)]
     fn fold_operands<T: FromOperands<Numbers>>(&self) -> T {
         nop_4b::fold_operands(self)
     }
@@ -193,6 +201,7 @@ impl nop_5b {
     }
 
     /// What is made of the operands, for any family.
+    #[inline(always)]
     pub fn fold_operands<R: Registers, T: FromOperands<R>>(&self) -> T
         ensures value { result ≡ fold T.made_of_none T.made_with T.made_of_nop (operands_nop_5b {R = R} self.now) }
         ensures shape { HasShape {F = R.WriteXmm} row.nopl_rm (operands_nop_5b {R = R} {A = R.ReadGpr} {B = R.ReadWriteGpr} {C = R.WriteGpr} {D = R.ReadXmm} {E = R.ReadWriteXmm} self.now) }
@@ -217,6 +226,7 @@ impl RowAndOperands for nop_5b {
         Row::nopl_rm
     }
 
+    #[inline(always)]
     fn fold_operands<T: FromOperands<Numbers>>(&self) -> T {
         nop_5b::fold_operands(self)
     }
@@ -236,6 +246,7 @@ impl nop_6b {
     }
 
     /// What is made of the operands, for any family.
+    #[inline(always)]
     pub fn fold_operands<R: Registers, T: FromOperands<R>>(&self) -> T
         ensures value { result ≡ fold T.made_of_none T.made_with T.made_of_nop (operands_nop_6b {R = R} self.now) }
         ensures shape { HasShape {F = R.WriteXmm} row.nopw_rm (operands_nop_6b {R = R} {A = R.ReadGpr} {B = R.ReadWriteGpr} {C = R.WriteGpr} {D = R.ReadXmm} {E = R.ReadWriteXmm} self.now) }
@@ -260,6 +271,7 @@ impl RowAndOperands for nop_6b {
         Row::nopw_rm
     }
 
+    #[inline(always)]
     fn fold_operands<T: FromOperands<Numbers>>(&self) -> T {
         nop_6b::fold_operands(self)
     }
@@ -279,6 +291,7 @@ impl nop_7b {
     }
 
     /// What is made of the operands, for any family.
+    #[inline(always)]
     pub fn fold_operands<R: Registers, T: FromOperands<R>>(&self) -> T
         ensures value { result ≡ fold T.made_of_none T.made_with T.made_of_nop (operands_nop_7b {R = R} self.now) }
         ensures shape { HasShape {F = R.WriteXmm} row.nopl_rm (operands_nop_7b {R = R} {A = R.ReadGpr} {B = R.ReadWriteGpr} {C = R.WriteGpr} {D = R.ReadXmm} {E = R.ReadWriteXmm} self.now) }
@@ -303,6 +316,7 @@ impl RowAndOperands for nop_7b {
         Row::nopl_rm
     }
 
+    #[inline(always)]
     fn fold_operands<T: FromOperands<Numbers>>(&self) -> T {
         nop_7b::fold_operands(self)
     }
@@ -322,6 +336,7 @@ impl nop_8b {
     }
 
     /// What is made of the operands, for any family.
+    #[inline(always)]
     pub fn fold_operands<R: Registers, T: FromOperands<R>>(&self) -> T
         ensures value { result ≡ fold T.made_of_none T.made_with T.made_of_nop (operands_nop_8b {R = R} self.now) }
         ensures shape { HasShape {F = R.WriteXmm} row.nopl_rm (operands_nop_8b {R = R} {A = R.ReadGpr} {B = R.ReadWriteGpr} {C = R.WriteGpr} {D = R.ReadXmm} {E = R.ReadWriteXmm} self.now) }
@@ -346,6 +361,7 @@ impl RowAndOperands for nop_8b {
         Row::nopl_rm
     }
 
+    #[inline(always)]
     fn fold_operands<T: FromOperands<Numbers>>(&self) -> T {
         nop_8b::fold_operands(self)
     }
@@ -365,6 +381,7 @@ impl nop_9b {
     }
 
     /// What is made of the operands, for any family.
+    #[inline(always)]
     pub fn fold_operands<R: Registers, T: FromOperands<R>>(&self) -> T
         ensures value { result ≡ fold T.made_of_none T.made_with T.made_of_nop (operands_nop_9b {R = R} self.now) }
         ensures shape { HasShape {F = R.WriteXmm} row.nopw_rm (operands_nop_9b {R = R} {A = R.ReadGpr} {B = R.ReadWriteGpr} {C = R.WriteGpr} {D = R.ReadXmm} {E = R.ReadWriteXmm} self.now) }
@@ -389,6 +406,7 @@ impl RowAndOperands for nop_9b {
         Row::nopw_rm
     }
 
+    #[inline(always)]
     fn fold_operands<T: FromOperands<Numbers>>(&self) -> T {
         nop_9b::fold_operands(self)
     }

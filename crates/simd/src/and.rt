@@ -45,6 +45,7 @@ impl<R: Registers> RowAndOperands for andps_a<R> {
     }
 
     #[tactic(auto, unfolding(cax64_machine_code::specs::Rows::line_of))]
+    #[inline(always)]
     fn fold_operands<T: FromOperands<R>>(&self) -> T {
         of_two(
             Operand::ReadWriteXmm(*self.xmm1.as_ref()),

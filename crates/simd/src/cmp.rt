@@ -57,6 +57,7 @@ impl<R: Registers> RowAndOperands for cmpps_a<R> {
     }
 
     #[tactic(auto, unfolding(cax64_machine_code::specs::Rows::line_of))]
+    #[inline(always)]
     fn fold_operands<T: FromOperands<R>>(&self) -> T {
         of_three(
             Operand::ReadWriteXmm(*self.xmm1.as_ref()),
@@ -114,6 +115,7 @@ impl<R: Registers> RowAndOperands for cmppd_a<R> {
     }
 
     #[tactic(auto, unfolding(cax64_machine_code::specs::Rows::line_of))]
+    #[inline(always)]
     fn fold_operands<T: FromOperands<R>>(&self) -> T {
         of_three(
             Operand::ReadWriteXmm(*self.xmm1.as_ref()),
@@ -171,6 +173,7 @@ impl<R: Registers> RowAndOperands for cmpss_a<R> {
     }
 
     #[tactic(auto, unfolding(cax64_machine_code::specs::Rows::line_of))]
+    #[inline(always)]
     fn fold_operands<T: FromOperands<R>>(&self) -> T {
         of_three(
             Operand::ReadWriteXmm(*self.xmm1.as_ref()),
@@ -228,6 +231,7 @@ impl<R: Registers> RowAndOperands for cmpsd_a<R> {
     }
 
     #[tactic(auto, unfolding(cax64_machine_code::specs::Rows::line_of))]
+    #[inline(always)]
     fn fold_operands<T: FromOperands<R>>(&self) -> T {
         of_three(
             Operand::ReadWriteXmm(*self.xmm1.as_ref()),

@@ -60,6 +60,7 @@ impl<R: Registers> RowAndOperands for vcmpps_b<R> {
     }
 
     #[tactic(auto, unfolding(cax64_machine_code::specs::Rows::line_of))]
+    #[inline(always)]
     fn fold_operands<T: FromOperands<R>>(&self) -> T {
         of_four(
             Operand::WriteXmm(*self.xmm1.as_ref()),
@@ -122,6 +123,7 @@ impl<R: Registers> RowAndOperands for vcmppd_b<R> {
     }
 
     #[tactic(auto, unfolding(cax64_machine_code::specs::Rows::line_of))]
+    #[inline(always)]
     fn fold_operands<T: FromOperands<R>>(&self) -> T {
         of_four(
             Operand::WriteXmm(*self.xmm1.as_ref()),
@@ -184,6 +186,7 @@ impl<R: Registers> RowAndOperands for vcmpss_b<R> {
     }
 
     #[tactic(auto, unfolding(cax64_machine_code::specs::Rows::line_of))]
+    #[inline(always)]
     fn fold_operands<T: FromOperands<R>>(&self) -> T {
         of_four(
             Operand::WriteXmm(*self.xmm1.as_ref()),
@@ -246,6 +249,7 @@ impl<R: Registers> RowAndOperands for vcmpsd_b<R> {
     }
 
     #[tactic(auto, unfolding(cax64_machine_code::specs::Rows::line_of))]
+    #[inline(always)]
     fn fold_operands<T: FromOperands<R>>(&self) -> T {
         of_four(
             Operand::WriteXmm(*self.xmm1.as_ref()),

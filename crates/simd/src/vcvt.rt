@@ -46,6 +46,7 @@ impl<R: Registers> RowAndOperands for vcvtpd2ps_a<R> {
     }
 
     #[tactic(auto, unfolding(cax64_machine_code::specs::Rows::line_of))]
+    #[inline(always)]
     fn fold_operands<T: FromOperands<R>>(&self) -> T {
         of_two(
             Operand::WriteXmm(*self.xmm1.as_ref()),
@@ -93,6 +94,7 @@ impl<R: Registers> RowAndOperands for vcvttpd2dq_a<R> {
     }
 
     #[tactic(auto, unfolding(cax64_machine_code::specs::Rows::line_of))]
+    #[inline(always)]
     fn fold_operands<T: FromOperands<R>>(&self) -> T {
         of_two(
             Operand::WriteXmm(*self.xmm1.as_ref()),
