@@ -9,14 +9,13 @@ use Rattle.cax64_sink.specs.Run.{all_bytes}
 use Rattle.cax64_encoder.specs.Code.{code_actions}
 use Rattle.cax64_encoder.specs.Content.{content_of}
 use Rattle.cax64_encoder.specs.Encodes.{EncodesParts, form_parts}
-use Rattle.cax64_encoder.specs.Form.{form_of, fits}
+use Rattle.cax64_encoder.specs.Form.{form_of}
 use Rattle.cax64_encoder.specs.Numbered.{numbered_form, plain, place_named, form_named}
 use Rattle.cax64_encoder.specs.Place.{memory_in, displacement_in}
 use Rattle.cax64_encoder.specs.declared.content.Content.{Content}
 use Rattle.cax64_encoder.proofs.Encodable.{content_is, nop_is, fits_row, is_real, is_addressable, encodes_form}
 use Rattle.cax64_encoder.proofs.Nops.{nop_encodes}
 use Rattle.cax64_encoder.proofs.Numbers.{numbered_of, fits_of, imm_of, offset_of, displacement_of, real_of, encodes_of, length_of}
-use Rattle.cax64_encoder.proofs.Table.{row_is_line}
 use Rattle.cax64_encoder.proofs.encoder.code_in.Goals as goal
 
 pub returns-in-Some-clause-encodes : goal.returns-in-Some-clause-encodes
@@ -41,21 +40,6 @@ value-displacement-requires g c =
     let offsets = (g.S.CodeSink.state c.args.sink.now).offsets in
     offset_of f.read_gpr _ form is offsets (is_addressable f row o none g.met.I.Family.WriteGpr.AsReg.same offsets c.requires)
 
-pub code_of-requires-clause-line : goal.code_of-requires-clause-line
-code_of-requires-clause-line g c = rw c.line.ensures (row_is_line c.row-row.result)
-
-pub code_of-requires-clause-digit : goal.code_of-requires-clause-digit
-code_of-requires-clause-digit g c = rw c.line.ensures c.line_numbers.ensures.digit
-
-pub code_of-requires-clause-uses_8bit : goal.code_of-requires-clause-uses_8bit
-code_of-requires-clause-uses_8bit g c = rw c.line.ensures c.line_numbers.ensures.uses_8bit
-
-pub code_of-requires-clause-imm_len : goal.code_of-requires-clause-imm_len
-code_of-requires-clause-imm_len g c = rw c.line.ensures c.line_numbers.ensures.imm_len
-
-pub code_of-requires-clause-legacy : goal.code_of-requires-clause-legacy
-code_of-requires-clause-legacy g c = rw c.line.ensures c.line_numbers.ensures.legacy
-
 pub code_of-requires-clause-fits : goal.code_of-requires-clause-fits
 code_of-requires-clause-fits g c =
     let f = family_of (numbering g.I.Family.ReadGpr.AsReg.settled g.I.Family.ReadGpr.AsReg.enc) (numbering g.I.Family.ReadWriteGpr.AsReg.settled g.I.Family.ReadWriteGpr.AsReg.enc) (numbering g.I.Family.WriteGpr.AsReg.settled g.I.Family.WriteGpr.AsReg.enc) (numbering g.I.Family.ReadXmm.AsReg.settled g.I.Family.ReadXmm.AsReg.enc) (numbering g.I.Family.ReadWriteXmm.AsReg.settled g.I.Family.ReadWriteXmm.AsReg.enc) (numbering g.I.Family.WriteXmm.AsReg.settled g.I.Family.WriteXmm.AsReg.enc) g.I.Family.WriteGpr.PartialEq.eq in
@@ -66,7 +50,7 @@ code_of-requires-clause-fits g c =
     let form = form_of f (list_of o) in
     let is : c.fold_operands-content.result.form ≡ numbered_form f.read_gpr form = ap (λ (content : Content). content.form) kept in
     let offsets = (g.S.CodeSink.state c.args.sink.now).offsets in
-    fits_of f.read_gpr _ form is c.line.result (rw (c.line.ensures, c.row-row.ensures) (fits_row f row o none c.fold_operands-content.ensures.shape))
+    fits_of f.read_gpr _ form is (line_of c.row.result) (rw c.row.ensures (fits_row f row o none c.fold_operands-content.ensures.shape))
 
 pub code_of-requires-clause-imm : goal.code_of-requires-clause-imm
 code_of-requires-clause-imm g c =
@@ -78,7 +62,7 @@ code_of-requires-clause-imm g c =
     let form = form_of f (list_of o) in
     let is : c.fold_operands-content.result.form ≡ numbered_form f.read_gpr form = ap (λ (content : Content). content.form) kept in
     let offsets = (g.S.CodeSink.state c.args.sink.now).offsets in
-    imm_of f.read_gpr _ form is c.line.result (rw (c.line.ensures, c.row-row.ensures) (fits_row f row o none c.fold_operands-content.ensures.shape))
+    imm_of f.read_gpr _ form is (line_of c.row.result) (rw c.row.ensures (fits_row f row o none c.fold_operands-content.ensures.shape))
 
 pub code_of-requires-clause-numbered : goal.code_of-requires-clause-numbered
 code_of-requires-clause-numbered g c =
@@ -115,10 +99,9 @@ returns-in-None-clause-encodes g c =
     let is : c.fold_operands-content.result.form ≡ numbered_form f.read_gpr form = ap (λ (content : Content). content.form) kept in
     let offsets = (g.S.CodeSink.state c.args.sink.now).offsets in
     let real = is_real f row o none g.met.I.Family.WriteGpr.AsReg.same offsets c.requires in
-    let line = c.line.ensures ∙ ap line_of c.row-row.ensures in
-    let shape : fits c.line.result form ≡ true = rw (c.line.ensures, c.row-row.ensures) (fits_row f row o none c.fold_operands-content.ensures.shape) in
+    let shape = fits_row f row o none c.fold_operands-content.ensures.shape in
     let small : FitsSigned w32 c.value-displacement.result = search rules in
     let displaced = to_z-of_z w32 c.value-displacement.result small ∙ c.value-displacement.ensures ∙ displacement_of f.read_gpr _ form is offsets in
-    let written : EncodesParts (form_parts plain.enc row (displacement_in offsets form.place) (form_named c.line.result c.fold_operands-content.result.form)) (memory_in (place_named c.fold_operands-content.result.form.place)) (code_actions c.code_of.result) = rw displaced at c.code_of.ensures.encodes row (sym line) in
-    let size : length (all_bytes (code_actions c.code_of.result)) ≡ len_of (form_parts plain.enc row (displacement_in offsets form.place) (form_named c.line.result c.fold_operands-content.result.form)) = rw displaced at c.code_of.ensures.length row (sym line) in
-    encodes_form f row o none offsets _ (encodes_of f.read_gpr _ form is c.line.result shape real row (displacement_in offsets form.place) _ written) (length_of f.read_gpr _ form is c.line.result shape real row (displacement_in offsets form.place) _ size)
+    let written : EncodesParts (form_parts plain.enc row (displacement_in offsets form.place) (form_named (line_of row) c.fold_operands-content.result.form)) (memory_in (place_named c.fold_operands-content.result.form.place)) (code_actions c.code_of.result) = rw (c.row.ensures, displaced) at c.code_of.ensures.encodes in
+    let size : length (all_bytes (code_actions c.code_of.result)) ≡ len_of (form_parts plain.enc row (displacement_in offsets form.place) (form_named (line_of row) c.fold_operands-content.result.form)) = rw (c.row.ensures, displaced) at c.code_of.ensures.length in
+    encodes_form f row o none offsets _ (encodes_of f.read_gpr _ form is (line_of row) shape real row (displacement_in offsets form.place) _ written) (length_of f.read_gpr _ form is (line_of row) shape real row (displacement_in offsets form.place) _ size)

@@ -1,4 +1,5 @@
 use Rattle.std.proofs.Common.{◌≡◌, ◌+◌, ◌*◌, ◌%◌}
+use Rattle.cax64_encoder.proofs.Numbers.{base_index, index_other, numbers_below}
 use Rattle.cax64_encoder.proofs.TailParts.{register_tail}
 use Rattle.cax64_encoder.proofs.encoder.tail_part.Goals as goal
 
@@ -8,4 +9,4 @@ returns-in-Register-clause-tail c =
     rw (c.in-Register.is, c.one.ensures.bytes) (register_tail c.args.reg c.args.place.now.register c.encode_modrm.result byte)
 
 pub returns-in-Relative-clause-length : goal.returns-in-Relative-clause-length
-returns-in-Relative-clause-length c = rw (c.in-Relative.is, c.part_of-in-Relative.ensures.actions) (c.relative_tail.ensures.length 1)
+returns-in-Relative-clause-length c = rw (c.in-Relative.is, c.relative_part.ensures.actions) (c.relative_tail.ensures.length 1)
