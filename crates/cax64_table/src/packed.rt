@@ -1,4 +1,4 @@
-//! The table, one packed number for each row. Nothing outside this module knows how a row is packed.
+//! The table, one packed number for each row. Nothing but this module and `numbers` knows how a row is packed.
 
 ghost use Rattle.std.specs.Prelude.{◌≡◌, ◌≤◌, ◌/◌, ◌%◌, ◌^◌, ◌<◌, nat_lt, true, false, length, All, Contains};
 ghost use Rattle.std.specs.Option.{ForSome};
