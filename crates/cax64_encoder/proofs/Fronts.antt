@@ -2,7 +2,8 @@ use Rattle.std.proofs.Common.{◌≡◌, ℕ, ◌+◌, ◌≤◌, Bool, true, fa
 use Rattle.std.specs.Prelude.{option_map, if◌then◌else◌}
 use Rattle.std.proofs.lemmas.Bool.Decides.{nat_tests}
 use Rattle.cax64_address.specs.Emitted as address
-use Rattle.cax64_address.specs.Emitted.{target_actions, long_actions}
+use Rattle.cax64_address.specs.Emitted.{target_actions}
+use Rattle.cax64_sink.specs.Rest.{long_actions}
 use Rattle.cax64_address.specs.declared.tail.TailCode.{TailCode}
 use Rattle.cax64_machine_code.specs.Len.{opcode_len}
 use Rattle.cax64_machine_code.specs.Line.{opcode_bytes}

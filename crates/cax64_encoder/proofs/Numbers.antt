@@ -33,7 +33,8 @@ use Rattle.cax64_sink.specs.Call.{Action, put}
 use Rattle.cax64_encoder.specs.Encodes.{EncodesParts, form_parts}
 use Rattle.cax64_encoder.specs.Form.{Form, with_roles, is_absent, is_no_place, reg_fits, place_fits, tail_fits, vvvv_fits, fits}
 use Rattle.cax64_encoder.specs.Form as forms
-use Rattle.cax64_encoder.specs.ImmActions.{imm_actions, optional_imm_actions, word_actions, imm_word, optional_imm_word, imm_named}
+use Rattle.cax64_sink.specs.Rest.{word_actions}
+use Rattle.cax64_encoder.specs.ImmActions.{imm_actions, optional_imm_actions, imm_word, optional_imm_word, imm_named}
 use Rattle.cax64_encoder.specs.Instruction.{ShortestFor}
 use Rattle.cax64_encoder.specs.Meant.{low}
 use Rattle.cax64_encoder.specs.Notices.{memory_notices, notices_of}

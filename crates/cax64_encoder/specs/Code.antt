@@ -1,9 +1,9 @@
 use Rattle.std.specs.Prelude.{Option, Some, None, List, [], ◌∷◌, ◌++◌, length, ◌≤◌}
-use Rattle.cax64_address.specs.Emitted.{target_actions, long_actions}
+use Rattle.cax64_address.specs.Emitted.{target_actions}
 use Rattle.cax64_sink.specs.Call.{Action, trap}
 use Rattle.cax64_sink.specs.Puts.{puts}
 use Rattle.cax64_sink.specs.declared.TrapCode.{TrapCode}
-use Rattle.cax64_encoder.specs.ImmActions.{word_actions}
+use Rattle.cax64_sink.specs.Rest.{long_actions, word_actions}
 use Rattle.cax64_encoder.specs.declared.code.Code.{Code}
 use Rattle.cax64_encoder.specs.declared.code.TailPart.{TailPart}
 

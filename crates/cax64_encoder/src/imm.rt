@@ -1,7 +1,8 @@
 //! Immediates at the end of an instruction.
 
 ghost use Rattle.std.specs.Prelude.{◌≡◌};
-ghost use Rattle.cax64_encoder.specs.ImmActions.{imm_word, word_actions};
+ghost use Rattle.cax64_encoder.specs.ImmActions.{imm_word};
+ghost use Rattle.cax64_sink.specs.Rest.{word_actions};
 ghost use Rattle.cax64_sink.specs.Run.{Ran};
 
 use cax64_operand::ImmOperand;

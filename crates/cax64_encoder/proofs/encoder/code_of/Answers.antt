@@ -1,7 +1,7 @@
 use Rattle.std.proofs.Common.{◌≡◌, ◌++◌, ◌∙◌, ap, length, w32, arith, List}
 use Rattle.std.proofs.lemmas.Int.{to_z-of_z}
 use Rattle.std.proofs.lemmas.List.{length-append}
-use Rattle.cax64_address.specs.Emitted.{target_actions, long_actions}
+use Rattle.cax64_address.specs.Emitted.{target_actions}
 use Rattle.cax64_machine_code.specs.Len.{tail_len}
 use Rattle.cax64_machine_code.specs.Line.{imm_bytes, opcode_bytes}
 use Rattle.cax64_operand.specs.Immediate.{imm_size}
@@ -11,7 +11,8 @@ use Rattle.cax64_sink.specs.Run.{all_bytes}
 use Rattle.cax64_sink.proofs.PutRuns.{all_bytes-puts, all_notices-puts}
 use Rattle.cax64_encoder.specs.Code.{tail_actions}
 use Rattle.cax64_encoder.specs.Encodes.{TailPartOf}
-use Rattle.cax64_encoder.specs.ImmActions.{optional_imm_actions, word_actions}
+use Rattle.cax64_encoder.specs.ImmActions.{optional_imm_actions}
+use Rattle.cax64_sink.specs.Rest.{long_actions, word_actions}
 use Rattle.cax64_encoder.specs.Numbered.{plain, form_named}
 use Rattle.cax64_encoder.specs.Place.{place_read}
 use Rattle.cax64_encoder.specs.Prefix.{reg_number, register_number, PrefixFor}
