@@ -18,7 +18,8 @@ use Rattle.cax64_sink.specs.Ends.{EndsInBytes}
 use Rattle.cax64_sink.specs.declared.Notice.TheVariants.{Target}
 use Rattle.cax64_sink.specs.declared.DeferredTarget.{DeferredTarget}
 use Rattle.cax64_address.specs.Displacement.{GivesBack, IsClassOf, mode_of, disp_actions, disp_byte, disp_long, forced}
-use Rattle.cax64_address.specs.Emitted.{TailOf, byte_actions, long_actions}
+use Rattle.cax64_address.specs.Emitted.{TailOf, byte_actions}
+use Rattle.cax64_sink.specs.Rest.{long_actions}
 use Rattle.cax64_address.specs.declared.disp.Disp.{Disp}
 use Rattle.cax64_address.specs.declared.disp.Disp.TheVariants.{None, Imm8, Imm32}
 use Rattle.cax64_address.proofs.Classes.{byte_class}
