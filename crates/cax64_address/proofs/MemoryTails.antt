@@ -9,7 +9,8 @@ use Rattle.cax64_machine_code.specs.declared.reading.Place.TheVariants.{Mem}
 use Rattle.cax64_sink.specs.Run.{all_bytes}
 use Rattle.cax64_sink.specs.Call.{Action, put}
 use Rattle.cax64_address.specs.Displacement.{IsClassOf, mode_of, disp_actions, forced}
-use Rattle.cax64_address.specs.Emitted.{TailOf, byte_actions, long_actions}
+use Rattle.cax64_address.specs.Emitted.{TailOf, byte_actions}
+use Rattle.cax64_sink.specs.Rest.{long_actions}
 use Rattle.cax64_address.specs.Length.{least_tail_under}
 use Rattle.cax64_address.specs.Memory.{option_when}
 use Rattle.cax64_address.specs.declared.disp.Disp.{Disp}
