@@ -1,9 +1,10 @@
-use Rattle.std.proofs.Common.{◌≡◌, ℕ, ◌/◌, ◌%◌, ◌^◌, ◌<◌, ◌≤ℤ◌, arith, Bool, true, false, refl, ◌∙◌, ap, sym, subst, Option, Some, None, List, [], ◌∷◌, ℤ, pos, negsuc, w8, w16, w32, FitsSigned}
+use Rattle.std.proofs.Common.{◌≡◌, ℕ, ◌/◌, ◌%◌, ◌^◌, ◌<◌, ◌≤ℤ◌, arith, Bool, true, false, ◌⊎◌, inl, inr, refl, ◌∙◌, ap, sym, subst, Option, Some, None, List, [], ◌∷◌, ℤ, pos, negsuc, w8, w16, w32, FitsSigned}
 use Rattle.std.specs.Int.{cast_unsigned, to_le_bytes}
 use Rattle.std.specs.Prelude.{◌-ℤ◌, ◌==◌, ◌||◌, not, nat_lt, nat_le, option_map}
 use Rattle.std.proofs.lemmas.Bool.{and_parts}
 use Rattle.std.proofs.lemmas.Bool.Decides.{nat_tests}
 use Rattle.std.proofs.lemmas.Int.{ints, to_z-of_z}
+use Rattle.cax64_address.specs.Memory.{index_named}
 use Rattle.cax64_address.specs.Offset.{sum_fits, sum_of}
 use Rattle.cax64_address.specs.declared.amode.Amode.TheVariants.{ImmReg, ImmRegRegShift, RipRelative}
 use Rattle.cax64_machine_code.specs.Len.{len_of}
@@ -20,6 +21,7 @@ use Rattle.cax64_machine_code.specs.declared.line.RegField.TheVariants.{Digit, R
 use Rattle.cax64_machine_code.specs.declared.line.TailField.{TailField}
 use Rattle.cax64_machine_code.specs.declared.line.TailField.TheVariants.{NoTail, Modrm}
 use Rattle.cax64_machine_code.specs.declared.line.VvvvField.TheVariants.{VvvvRegister, Stored1111}
+use Rattle.cax64_machine_code.specs.declared.reading.Place.TheVariants.{Mem}
 use Rattle.cax64_machine_code.specs.declared.reading.Reading.{Reading}
 use Rattle.cax64_machine_code.specs.declared.row.Row.{Row}
 use Rattle.cax64_operand.specs.Family.{Numbering}
@@ -49,6 +51,7 @@ use Rattle.cax64_encoder.specs.declared.number.Number.{Number}
 use Rattle.cax64_encoder.specs.declared.number.Number.TheVariants.{Settled, Unsettled}
 use Rattle.cax64_encoder.specs.declared.numbered.NumberedForm.{NumberedForm}
 use Rattle.cax64_encoder.specs.declared.numbered.NumberedPlace.{NumberedPlace}
+use Rattle.cax64_encoder.specs.declared.numbered.PlaceKind.{PlaceKind}
 use Rattle.cax64_encoder.specs.declared.numbered.PlaceKind.TheVariants as kind
 use Rattle.cax64_encoder.specs.declared.role.PlaceOperand as place
 use Rattle.cax64_encoder.specs.declared.role.PlaceOperand.{PlaceOperand}
@@ -124,12 +127,17 @@ numbers_below numbers e h =
     by_place (place.TheVariants.Memory (RipRelative target)) h = (omega arith, omega arith)
 
 -- a base alone has no index, and the number of an index is another
-pub base_index : (numbers : NumberedPlace) → IsNumbered numbers → numbers.kind ≡ kind.Base → numbers.index ≡ 4
-base_index numbers e k =
-    let alone : numbers ≡ numbered_place plain (kind_named kind.Base numbers) = rw k at e in
-    ap (λ (p : NumberedPlace). p.index) alone
+base_of : (k : PlaceKind) (numbers : NumberedPlace) → k ≡ kind.Base → numbers ≡ numbered_place plain (kind_named k numbers) → numbers.index ≡ 4
+base_of kind.NoPlace numbers k e = cc
+base_of kind.Register numbers k e = cc
+base_of kind.Base numbers k e = ap (λ (p : NumberedPlace). p.index) e
+base_of kind.BaseAndIndex numbers k e = cc
+base_of (kind.Relative target) numbers k e = cc
 
-pub index_other : (numbers : NumberedPlace) → numbers.kind ≡ kind.BaseAndIndex → numbered.place_is_real numbers ≡ true → (numbers.index == 4) ≡ false
+base_index : (numbers : NumberedPlace) → IsNumbered numbers → numbers.kind ≡ kind.Base → numbers.index ≡ 4
+base_index numbers e k = base_of numbers.kind numbers k e
+
+index_other : (numbers : NumberedPlace) → numbers.kind ≡ kind.BaseAndIndex → numbered.place_is_real numbers ≡ true → (numbers.index == 4) ≡ false
 index_other numbers k h =
     let both : place_is_real plain.settled plain.enc (kind_named kind.BaseAndIndex numbers) ≡ true = rw k at h in
     let p = and_parts (nat_lt numbers.base 16) _ both in
@@ -139,6 +147,26 @@ index_other numbers k h =
     is_not : (b : Bool) → not b ≡ true → b ≡ false
     is_not true h = cc
     is_not false h = refl
+
+-- what is read for an address of a base, in which the number 4 is no index
+
+base_read : (k : PlaceKind) (numbers : NumberedPlace) (disp : ℤ) (at_end : ℕ) → k ≡ kind.Base → numbers.index ≡ 4 → place_read plain.enc disp at_end (kind_named k numbers) ≡ Some (Mem (Some numbers.base) (index_named numbers.index numbers.scale) disp)
+base_read kind.NoPlace numbers disp at_end e i = cc
+base_read kind.Register numbers disp at_end e i = cc
+base_read kind.Base numbers disp at_end e i = rw i refl
+base_read kind.BaseAndIndex numbers disp at_end e i = cc
+base_read (kind.Relative target) numbers disp at_end e i = cc
+
+both_read : (k : PlaceKind) (numbers : NumberedPlace) (disp : ℤ) (at_end : ℕ) → k ≡ kind.BaseAndIndex → (numbers.index == 4) ≡ false → place_read plain.enc disp at_end (kind_named k numbers) ≡ Some (Mem (Some numbers.base) (index_named numbers.index numbers.scale) disp)
+both_read kind.NoPlace numbers disp at_end e i = cc
+both_read kind.Register numbers disp at_end e i = cc
+both_read kind.Base numbers disp at_end e i = cc
+both_read kind.BaseAndIndex numbers disp at_end e i = rw i refl
+both_read (kind.Relative target) numbers disp at_end e i = cc
+
+pub memory_read : (numbers : NumberedPlace) (disp : ℤ) (at_end : ℕ) → IsNumbered numbers → numbered.place_is_real numbers ≡ true → (numbers.kind ≡ kind.Base) ⊎ (numbers.kind ≡ kind.BaseAndIndex) → place_read plain.enc disp at_end (place_named numbers) ≡ Some (Mem (Some numbers.base) (index_named numbers.index numbers.scale) disp)
+memory_read numbers disp at_end n h (inl e) = base_read numbers.kind numbers disp at_end e (base_index numbers n e)
+memory_read numbers disp at_end n h (inr e) = both_read numbers.kind numbers disp at_end e (index_other numbers e h)
 
 -- What they stand for has the shape of the operands.
 

@@ -239,9 +239,9 @@ vex_by_prefix (VexField p m k field) opcode tail pp map l h v hp hm hl =
       field = field;
       is = rw (ep, em, el) refl;
       pp_below = omega (arith, ep, facts.0);
-      map_least = omega (arith, em, facts.1.0);
-      map_most = omega (arith, em, facts.1.1.0);
-      l_below = omega (arith, el, facts.1.1.1);
+      map_least = omega (arith, em, facts.1);
+      map_most = omega (arith, em, facts.2);
+      l_below = omega (arith, el, facts.3);
     }
 
 pub vex_is : (line : Line) (pp map l : ℕ) → is_line line ≡ true → is_vex line.prefix ≡ true → has_pp line.prefix pp ≡ true → has_map line.prefix map ≡ true → has_l line.prefix l ≡ true → VexIs line.prefix pp map l
