@@ -4,6 +4,6 @@
 pub mod address;
 pub mod fields;
 mod names;
-mod values;
+pub mod values;
 
 pub use names::{Takes, take_named};

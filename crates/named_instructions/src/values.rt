@@ -9,13 +9,14 @@ use cranelift_assembler_x64::{
 /// The fields of an instruction that are still to be read, each a name, `=` and a value. A field that can't be read is 0,
 /// and the fault is kept.
 #[derive(Clone, Copy)]
-pub(crate) struct Values<'a> {
+pub struct Values<'a> {
     rest: Fields<'a>,
     fault: Option<Fault>,
 }
 
 impl<'a> Values<'a> {
-    pub(crate) fn new(fields: &'a str) -> Values<'a> {
+    /// The fields with spaces between them; `-` where there are none.
+    pub fn new(fields: &'a str) -> Values<'a> {
         Values {
             rest: Fields::list(fields, ' '),
             fault: None,
@@ -23,7 +24,7 @@ impl<'a> Values<'a> {
     }
 
     /// Whether all was read, and nothing is left.
-    pub(crate) fn end(&self) -> Result<(), Fault> {
+    pub fn end(&self) -> Result<(), Fault> {
         match self.fault {
             Some(fault) => Err(fault),
             None if self.rest.is_at_end() => Ok(()),
@@ -53,56 +54,67 @@ impl<'a> Values<'a> {
         self.or_fault(read, 0)
     }
 
-    pub(crate) fn gpr(&mut self, name: &str) -> Gpr {
+    /// A general register, where the next field has this name.
+    pub fn gpr(&mut self, name: &str) -> Gpr {
         Gpr::new(self.register(name))
     }
 
-    pub(crate) fn xmm(&mut self, name: &str) -> Xmm {
+    /// An XMM register.
+    pub fn xmm(&mut self, name: &str) -> Xmm {
         Xmm::new(self.register(name))
     }
 
-    pub(crate) fn fixed<const E: u8>(&mut self, name: &str) -> Fixed<u8, E> {
+    /// A register that the instruction fixes.
+    pub fn fixed<const E: u8>(&mut self, name: &str) -> Fixed<u8, E> {
         Fixed(self.register(name))
     }
 
-    pub(crate) fn amode(&mut self, name: &str) -> Amode<u8> {
+    /// An address.
+    pub fn amode(&mut self, name: &str) -> Amode<u8> {
         let read = self.value(name).and_then(amode_of);
         self.or_fault(read, NOWHERE)
     }
 
-    pub(crate) fn gpr_mem(&mut self, name: &str) -> GprMem<u8, u8> {
+    /// A general register or an address.
+    pub fn gpr_mem(&mut self, name: &str) -> GprMem<u8, u8> {
         let read = self.value(name).and_then(gpr_mem_of);
         self.or_fault(read, GprMem::Gpr(0))
     }
 
-    pub(crate) fn xmm_mem(&mut self, name: &str) -> XmmMem<u8, u8> {
+    /// An XMM register or an address.
+    pub fn xmm_mem(&mut self, name: &str) -> XmmMem<u8, u8> {
         match self.gpr_mem(name) {
             GprMem::Gpr(number) => XmmMem::Xmm(number),
             GprMem::Mem(amode) => XmmMem::Mem(amode),
         }
     }
 
-    pub(crate) fn imm8(&mut self, name: &str) -> Imm8 {
+    /// An immediate of 8 bits.
+    pub fn imm8(&mut self, name: &str) -> Imm8 {
         let read = self.value(name).and_then(parsed);
         Imm8::new(self.or_fault(read, 0))
     }
 
-    pub(crate) fn imm16(&mut self, name: &str) -> Imm16 {
+    /// An immediate of 16 bits.
+    pub fn imm16(&mut self, name: &str) -> Imm16 {
         let read = self.value(name).and_then(parsed);
         Imm16::new(self.or_fault(read, 0))
     }
 
-    pub(crate) fn imm32(&mut self, name: &str) -> Imm32 {
+    /// An immediate of 32 bits.
+    pub fn imm32(&mut self, name: &str) -> Imm32 {
         let read = self.value(name).and_then(parsed);
         Imm32::new(self.or_fault(read, 0u32))
     }
 
-    pub(crate) fn simm8(&mut self, name: &str) -> Simm8 {
+    /// A signed immediate of 8 bits.
+    pub fn simm8(&mut self, name: &str) -> Simm8 {
         let read = self.value(name).and_then(parsed);
         Simm8::new(self.or_fault(read, 0))
     }
 
-    pub(crate) fn simm32(&mut self, name: &str) -> Simm32 {
+    /// A signed immediate of 32 bits.
+    pub fn simm32(&mut self, name: &str) -> Simm32 {
         let read = self.value(name).and_then(parsed);
         Simm32::new(self.or_fault(read, 0))
     }
