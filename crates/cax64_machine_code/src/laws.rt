@@ -9,13 +9,23 @@ ghost use Rattle.cax64_machine_code.specs.Rows.{line_of};
 ghost use Rattle.cax64_machine_code.specs.Sequence.{IsProperFront};
 ghost use Rattle.cax64_machine_code.specs.Shortest.{Shortest};
 ghost use Rattle.cax64_machine_code.specs.Tail.{IsTail, Tail, read_tail};
+ghost use Rattle.cax64_machine_code.specs.declared.line.ImmField.{ImmField};
+ghost use Rattle.cax64_machine_code.specs.declared.line.LegacySet.{LegacySet};
 ghost use Rattle.cax64_machine_code.specs.declared.line.Line.{Line};
+ghost use Rattle.cax64_machine_code.specs.declared.line.Opcode.{Opcode};
+ghost use Rattle.cax64_machine_code.specs.declared.line.PlaceField.{PlaceField};
+ghost use Rattle.cax64_machine_code.specs.declared.line.PrefixField.{PrefixField};
+ghost use Rattle.cax64_machine_code.specs.declared.line.RegField.{RegField};
+ghost use Rattle.cax64_machine_code.specs.declared.line.TailField.{TailField};
+ghost use Rattle.cax64_machine_code.specs.declared.line.VvvvField.{VvvvField};
 ghost use Rattle.cax64_machine_code.specs.declared.reading.Place.{Place};
 ghost use Rattle.cax64_machine_code.specs.declared.reading.Reading.{Reading};
 ghost use Rattle.cax64_machine_code.specs.declared.reading.RegView.{RegView};
 ghost use Rattle.cax64_machine_code.specs.declared.row.Row.{Row};
 
-use crate::line::Line;
+use crate::line::{
+    ImmField, LegacySet, Line, Opcode, PlaceField, PrefixField, RegField, TailField, VvvvField,
+};
 use crate::reading::{Place, Reading, RegView};
 use crate::row::Row;
 
@@ -60,9 +70,18 @@ pub fn what_follows_is_not_read(reading: Reading)
     ensures { (t more : List ℕ) → read t ≡ Some reading → read (t ++ more) ≡ Some reading }
 {}
 
-/// Rows, lines of the table, registers, places and readings compare equal where they are equal, and nowhere else.
+/// Rows, lines of the table and each of their parts, registers, places and readings compare equal where they are equal,
+/// and nowhere else.
 pub fn laws_of_equality()
     ensures rows { (a b : Row) → (⟦<Row as PartialEq>⟧.eq a b ≡ true) ↔ (a ≡ b) }
+    ensures legacy_sets { (a b : LegacySet) → (⟦<LegacySet as PartialEq>⟧.eq a b ≡ true) ↔ (a ≡ b) }
+    ensures vvvv_fields { (a b : VvvvField) → (⟦<VvvvField as PartialEq>⟧.eq a b ≡ true) ↔ (a ≡ b) }
+    ensures prefix_fields { (a b : PrefixField) → (⟦<PrefixField as PartialEq>⟧.eq a b ≡ true) ↔ (a ≡ b) }
+    ensures opcodes { (a b : Opcode) → (⟦<Opcode as PartialEq>⟧.eq a b ≡ true) ↔ (a ≡ b) }
+    ensures reg_fields { (a b : RegField) → (⟦<RegField as PartialEq>⟧.eq a b ≡ true) ↔ (a ≡ b) }
+    ensures place_fields { (a b : PlaceField) → (⟦<PlaceField as PartialEq>⟧.eq a b ≡ true) ↔ (a ≡ b) }
+    ensures tail_fields { (a b : TailField) → (⟦<TailField as PartialEq>⟧.eq a b ≡ true) ↔ (a ≡ b) }
+    ensures imm_fields { (a b : ImmField) → (⟦<ImmField as PartialEq>⟧.eq a b ≡ true) ↔ (a ≡ b) }
     ensures lines { (a b : Line) → (⟦<Line as PartialEq>⟧.eq a b ≡ true) ↔ (a ≡ b) }
     ensures registers { (a b : RegView) → (⟦<RegView as PartialEq>⟧.eq a b ≡ true) ↔ (a ≡ b) }
     ensures places { (a b : Place) → (⟦<Place as PartialEq>⟧.eq a b ≡ true) ↔ (a ≡ b) }

@@ -6,7 +6,7 @@ ghost use Rattle.cax64_text.specs.Style.{style_of, is_forward, has_xed_text, bra
 use cax64_machine_code::row::Row;
 
 /// How the instructions of a row print, beyond mnemonic and operands.
-#[derive(Clone, Copy, Debug, PartialEq)]
+#[derive(Clone, Copy, Debug)]
 pub enum Style {
     /// The operands stand from the last to the first.
     Plain,
