@@ -14,13 +14,14 @@ ghost use Rattle.cax64_encoder.specs.Numbered.{HasImmWord, IsNumbered, plain, pl
 ghost use Rattle.cax64_encoder.specs.Place.{memory_in, place_read};
 ghost use Rattle.cax64_encoder.specs.Prefix.{register_number, PrefixFor};
 ghost use Rattle.cax64_encoder.specs.Real.{is_absent_or_real};
+ghost use Rattle.cax64_encoder.specs.Task.{Asked, Kept};
 ghost use Rattle.cax64_encoder.specs.declared.number.Number.TheVariants.{Settled};
 ghost use Rattle.cax64_machine_code.specs.Fields.{IsBytes};
 ghost use Rattle.cax64_machine_code.specs.Len.{tail_len, len_of};
 ghost use Rattle.cax64_machine_code.specs.Prefix.{rex_bits};
 ghost use Rattle.cax64_machine_code.specs.Rows.{line_of};
 ghost use Rattle.cax64_prefix.specs.Rex.{is_special_if_8bit};
-ghost use Rattle.cax64_operand.specs.Shape.{HasShape};
+ghost use Rattle.cax64_operand.specs.declared.operand.Operands.{Operands};
 ghost use Rattle.cax64_sink.specs.Run.{all_bytes};
 
 use crate::code::{Code, TailPart};
@@ -36,6 +37,7 @@ use cax64_machine_code::row::Row;
 use cax64_operand::{RegisterFamily, RowAndOperands};
 use cax64_prefix::rex::{RexPrefix, is_special_if_8bit};
 use cax64_prefix::vex::VexPrefix;
+use cax64_register::Registers;
 use cax64_sink::CodeSink;
 use cax64_table::numbers;
 
@@ -180,20 +182,28 @@ fn code_of(row: Row, form: &NumberedForm, displacement: i32) -> Code
     }
 }
 
-/// The sink calls that write an instruction.
+/// The sink calls that write an instruction of a row, of whose operands this was kept.
 #[inline(always)]
-pub fn code_in<I: RowAndOperands, S: CodeSink>(inst: &I, sink: &S) -> Code
-    requires { IsTrue (is_encodable (S.state sink.now).offsets (meant_of ⟦<I::Family as RegisterFamily>⟧.family (I.row_of inst.now) (I.operands_of inst.now) (S.state sink.now).offsets)) }
-    ensures encodes { EncodesAs (meant_of ⟦<I::Family as RegisterFamily>⟧.family (I.row_of inst.now) (I.operands_of inst.now) (S.state sink.now).offsets) (code_actions result) }
-    ensures shape { HasShape (I.row_of inst.now) (I.operands_of inst.now) }
+pub(crate) fn code_for<R: Registers, S: CodeSink>(row: Row, content: &Content, sink: &S) -> Code
+    requires { Asked R ⟦<R as RegisterFamily>⟧.family (S.state sink.now).offsets row content.now }
+    ensures encodes { (o : Operands R R.ReadGpr R.ReadWriteGpr R.WriteGpr R.ReadXmm R.ReadWriteXmm R.WriteXmm) → Kept ⟦<R as RegisterFamily>⟧.family (S.state sink.now).offsets row o content.now → EncodesAs (meant_of ⟦<R as RegisterFamily>⟧.family row o (S.state sink.now).offsets) (code_actions result) }
     ensures is { IsCode result }
 {
-    let content: Content = inst.fold_operands();
     match content.nop {
         Some(nop) => nop_code(nop),
         None => {
             let displacement = content.form.place.displacement.value(sink);
-            code_of(inst.row(), &content.form, displacement)
+            code_of(row, &content.form, displacement)
         }
     }
+}
+
+/// The sink calls that write an instruction.
+pub fn code_in<I: RowAndOperands, S: CodeSink>(inst: &I, sink: &S) -> Code
+    requires { IsTrue (is_encodable (S.state sink.now).offsets (meant_of ⟦<I::Family as RegisterFamily>⟧.family (I.row_of inst.now) (I.operands_of inst.now) (S.state sink.now).offsets)) }
+    ensures encodes { EncodesAs (meant_of ⟦<I::Family as RegisterFamily>⟧.family (I.row_of inst.now) (I.operands_of inst.now) (S.state sink.now).offsets) (code_actions result) }
+    ensures is { IsCode result }
+{
+    let content: Content = inst.fold_operands();
+    code_for::<I::Family, S>(inst.row(), &content, sink)
 }

@@ -122,6 +122,6 @@ impl<I: RowAndOperands> Instruction for I {
     }
 
     fn encode<S: CodeSink>(&self, sink: &mut S) -> Result<(), SinkError> {
-        code_in(self, sink).put(sink)
+        self.hand_to::<Content, S>(sink)
     }
 }

@@ -35,6 +35,7 @@ use cax64_machine_code::row::Row;
 use cax64_operand::FromOperands;
 use cax64_operand::RegisterVisitor;
 use cax64_operand::RowAndOperands;
+use cax64_operand::Task;
 use cax64_register::Registers;
 use jump::callq_d;
 use jump::callq_m;
@@ -181,6 +182,7 @@ mod from_lock_x;
 mod from_nop;
 mod from_simd;
 mod operands;
+mod tasks;
 mod visit;
 
 /// An instruction of any kind, for lists that mix them.
@@ -543,6 +545,11 @@ impl<R: Registers> RowAndOperands for Inst<R> {
     #[inline(always)]
     fn fold_operands<T: FromOperands<R>>(&self) -> T {
         self.fold_operands_within()
+    }
+
+    #[inline(always)]
+    fn hand_to<T: Task<R, X>, X>(&self, to: &mut X) -> T::Answer {
+        self.hand_to_within::<T, X>(to)
     }
 
     fn visit<V: RegisterVisitor<R>>(&mut self, visitor: &mut V) {

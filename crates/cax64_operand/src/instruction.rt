@@ -9,6 +9,7 @@ ghost use Rattle.cax64_operand.specs.declared.operand.Operands.{Operands};
 
 use crate::fold::FromOperands;
 use crate::operand::Operands;
+use crate::task::Task;
 use crate::visitor::RegisterVisitor;
 use cax64_machine_code::row::Row;
 use cax64_register::Registers;
@@ -29,6 +30,17 @@ pub trait RowAndOperands {
     fn fold_operands<T: FromOperands<Self::Family>>(&self) -> T
         ensures value { result ≡ fold T.made_of_none T.made_with T.made_of_nop (operands_of self.now) }
         ensures shape { HasShape (row_of self.now) (operands_of self.now) };
+
+    /// Hands the instruction to a task. What holds instructions of several kinds hands on the one within, so that each kind
+    /// has code of its own, in which the row is known.
+    fn hand_to<T: Task<Self::Family, X>, X>(&self, to: &mut X) -> T::Answer
+        requires { HasShape (row_of self.now) (operands_of self.now) → T.asks (row_of self.now) (fold T.made_of_none T.made_with T.made_of_nop (operands_of self.now)) to.old }
+        ensures answers { T.answers (row_of self.now) (fold T.made_of_none T.made_with T.made_of_nop (operands_of self.now)) to.old to.new result }
+        ensures shape { HasShape (row_of self.now) (operands_of self.now) }
+    {
+        let task: T = self.fold_operands();
+        task.take(self.row(), to)
+    }
 
     /// Goes over the registers, and puts what the visitor gives in their place. All else stays.
     fn visit<V: RegisterVisitor<Self::Family>>(&mut self, visitor: &mut V)

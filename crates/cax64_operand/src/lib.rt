@@ -8,6 +8,7 @@ pub mod instruction;
 pub mod laws;
 pub mod nop;
 pub mod operand;
+pub mod task;
 pub mod visitor;
 
 pub use family::RegisterFamily;
@@ -16,4 +17,5 @@ pub use immediate::{ImmOperand, Immediate};
 pub use instruction::{Numbers, RowAndOperands, operands_of};
 pub use nop::Nop;
 pub use operand::{Operand, Operands};
+pub use task::Task;
 pub use visitor::{RegisterVisitor, visit_two_gprs};
