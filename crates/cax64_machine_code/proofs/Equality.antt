@@ -12,19 +12,15 @@ use Rattle.cax64_machine_code.specs.contracts.line.ImmFieldPartialEq.TheImpl as 
 use Rattle.cax64_machine_code.specs.contracts.line.LegacySetPartialEq.TheImpl as legacy_set
 use Rattle.cax64_machine_code.specs.contracts.line.LinePartialEq.TheImpl as line
 use Rattle.cax64_machine_code.specs.contracts.line.OpcodePartialEq.TheImpl as opcode
-use Rattle.cax64_machine_code.specs.contracts.line.PlaceFieldPartialEq.TheImpl as place_field
 use Rattle.cax64_machine_code.specs.contracts.line.PrefixFieldPartialEq.TheImpl as prefix_field
-use Rattle.cax64_machine_code.specs.contracts.line.RegFieldPartialEq.TheImpl as reg_field
 use Rattle.cax64_machine_code.specs.contracts.line.TailFieldPartialEq.TheImpl as tail_field
 use Rattle.cax64_machine_code.specs.contracts.line.VvvvFieldPartialEq.TheImpl as vvvv_field
 use Rattle.cax64_machine_code.specs.declared.line.ImmField.{ImmField}
 use Rattle.cax64_machine_code.specs.declared.line.LegacySet.{LegacySet}
 use Rattle.cax64_machine_code.specs.declared.line.Line.{Line}
 use Rattle.cax64_machine_code.specs.declared.line.Opcode.{Opcode}
-use Rattle.cax64_machine_code.specs.declared.line.PlaceField.{PlaceField}
 use Rattle.cax64_machine_code.specs.declared.line.PrefixField.{PrefixField}
 use Rattle.cax64_machine_code.specs.declared.line.PrefixField.TheVariants.{LegacyField, VexField}
-use Rattle.cax64_machine_code.specs.declared.line.RegField.{RegField}
 use Rattle.cax64_machine_code.specs.declared.line.TailField.{TailField}
 use Rattle.cax64_machine_code.specs.declared.line.VvvvField.{VvvvField}
 use Rattle.cax64_machine_code.specs.declared.reading.Place.{Place}
@@ -97,16 +93,16 @@ tells_reading a b = let t = tells_fields a b in (λ h. from_fields a b (t.0 h), 
 
 -- lines of the table
 
-pub tells_opcode : (a b : Opcode) → Tells ((opcode.ghosts).eq a b) (a ≡ b)
+tells_opcode : (a b : Opcode) → Tells ((opcode.ghosts).eq a b) (a ≡ b)
 tells_opcode a b = search rules
 
 tells_flag : (a b : Bool) → Tells (beq a b) (a ≡ b)
 tells_flag a b = search rules
 
-pub tells_set : (a b : LegacySet) → Tells ((legacy_set.ghosts).eq a b) (a ≡ b)
+tells_set : (a b : LegacySet) → Tells ((legacy_set.ghosts).eq a b) (a ≡ b)
 tells_set a b = search rules
 
-pub tells_vvvv : (a b : VvvvField) → Tells ((vvvv_field.ghosts).eq a b) (a ≡ b)
+tells_vvvv : (a b : VvvvField) → Tells ((vvvv_field.ghosts).eq a b) (a ≡ b)
 tells_vvvv a b = search rules
 
 same_legacy : (s t : LegacySet) (x y : Bool) → LegacyField s x ≡ LegacyField t y → (s ≡ t) × (x ≡ y)
@@ -125,16 +121,10 @@ tells_prefix (VexField p m l v) (VexField q n k w) =
     let r = tells_both _ _ (tells_number p q) (tells_both _ _ (tells_number m n) (tells_both _ _ (tells_number l k) (tells_vvvv v w))) in
     (λ h. let e = r.0 h in rw (e.0, e.1.0, e.1.1.0, e.1.1.1) refl, λ e. r.1 (same_vex p q m n l k v w e))
 
-pub tells_reg_field : (a b : RegField) → Tells ((reg_field.ghosts).eq a b) (a ≡ b)
-tells_reg_field a b = search rules
-
-pub tells_place_field : (a b : PlaceField) → Tells ((place_field.ghosts).eq a b) (a ≡ b)
-tells_place_field a b = search rules
-
-pub tells_tail : (a b : TailField) → Tells ((tail_field.ghosts).eq a b) (a ≡ b)
+tells_tail : (a b : TailField) → Tells ((tail_field.ghosts).eq a b) (a ≡ b)
 tells_tail a b = search rules
 
-pub tells_imm : (a b : ImmField) → Tells ((imm_field.ghosts).eq a b) (a ≡ b)
+tells_imm : (a b : ImmField) → Tells ((imm_field.ghosts).eq a b) (a ≡ b)
 tells_imm a b = search rules
 
 -- the fields of a line
