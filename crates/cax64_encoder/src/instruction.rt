@@ -108,8 +108,8 @@ impl<I: RowAndOperands> Instruction for I {
     }
 
     fn is_encodable<S: CodeSink>(&self, sink: &S) -> bool {
-        let checked: Checked = self.fold_operands();
-        checked.holds(sink)
+        let mut sink = sink;
+        self.hand_to::<Checked, &S>(&mut sink)
     }
 
     fn encoded_len<S: CodeSink>(&self, sink: &S) -> u8 {

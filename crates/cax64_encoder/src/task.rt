@@ -1,7 +1,10 @@
-//! Encoding as a task.
+//! Encoding, and the test whether that can be, as tasks.
 
+ghost use Rattle.std.specs.Prelude.{◌≡◌};
+ghost use Rattle.cax64_encoder.specs.Checked.{holds};
 ghost use Rattle.cax64_encoder.specs.Task.{Answered, Asked};
 
+use crate::checked::Checked;
 use crate::content::Content;
 use crate::encoder::code_for;
 use cax64_machine_code::row::Row;
@@ -20,5 +23,20 @@ impl<R: Registers, S: CodeSink> Task<R, S> for Content {
     #[inline(always)]
     fn take(self, row: Row, sink: &mut S) -> Result<(), SinkError> {
         code_for::<R, S>(row, &self, sink).put(sink)
+    }
+}
+
+/// Whether the instruction can be encoded for a sink.
+impl<'a, R: Registers, S: CodeSink> Task<R, &'a S> for Checked {
+    type Answer = bool;
+
+    ghost asks = { λ row checked sink. checked ≡ checked };
+
+    ghost answers = { λ row checked old new result. result ≡ holds (S.state old.now).offsets checked };
+
+    #[inline(always)]
+    fn take(self, _row: Row, sink: &mut &'a S) -> bool {
+        let sink: &S = *sink;
+        self.holds(sink)
     }
 }

@@ -17,5 +17,5 @@ pub use immediate::{ImmOperand, Immediate};
 pub use instruction::{Numbers, RowAndOperands, operands_of};
 pub use nop::Nop;
 pub use operand::{Operand, Operands};
-pub use task::Task;
+pub use task::{Made, Task};
 pub use visitor::{RegisterVisitor, visit_two_gprs};

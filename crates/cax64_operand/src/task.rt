@@ -1,8 +1,12 @@
 //! What is done with an instruction, whichever it is.
 
+ghost use Rattle.std.specs.Prelude.{◌≡◌};
 ghost use Rattle.cax64_machine_code.specs.declared.row.Row.{Row};
+ghost use Rattle.cax64_operand.specs.Made.{made};
 
 use crate::fold::FromOperands;
+use crate::nop::Nop;
+use crate::operand::Operand;
 use cax64_machine_code::row::Row;
 use cax64_register::Registers;
 
@@ -19,4 +23,56 @@ pub trait Task<R: Registers, X>: FromOperands<R> {
     fn take(self, row: Row, to: &mut X) -> Self::Answer
         requires { asks row self to.old }
         ensures { answers row self to.old to.new result };
+}
+
+/// What is made of operands, which gives itself back: the task whose answer is the fold.
+#[derive(Drop)]
+pub struct Made<T> {
+    pub made: T,
+}
+
+impl<R: Registers, T: FromOperands<R>> FromOperands<R> for Made<T> {
+    ghost made_of_none = { made T.made_of_none };
+
+    ghost made_with = { λ operand later. made (T.made_with operand later.made) };
+
+    ghost made_of_nop = { λ nop. made (T.made_of_nop nop) };
+
+    #[inline(always)]
+    fn none() -> Made<T>
+        ensures { result ≡ made T.made_of_none }
+    {
+        Made { made: T::none() }
+    }
+
+    #[inline(always)]
+    fn with(self, operand: Operand<R>) -> Made<T>
+        ensures { result ≡ made (T.made_with operand self.made) }
+    {
+        Made {
+            made: self.made.with(operand),
+        }
+    }
+
+    #[inline(always)]
+    fn nop(nop: Nop) -> Made<T>
+        ensures { result ≡ made (T.made_of_nop nop) }
+    {
+        Made { made: T::nop(nop) }
+    }
+}
+
+impl<R: Registers, T: FromOperands<R>> Task<R, ()> for Made<T> {
+    type Answer = T;
+
+    ghost asks = { λ row task to. task ≡ task };
+
+    ghost answers = { λ row task old new result. result ≡ task.made };
+
+    #[inline(always)]
+    fn take(self, _row: Row, _to: &mut ()) -> T
+        ensures { result ≡ self.made }
+    {
+        self.made
+    }
 }

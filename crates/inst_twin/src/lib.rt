@@ -6,7 +6,7 @@ ghost use Rattle.std.specs.Prelude.{◌≡◌};
 ghost use Rattle.inst_twin.specs.Twin.{row_of, operands_of};
 
 use cax64_machine_code::row::Row;
-use cax64_operand::{FromOperands, RegisterVisitor, RowAndOperands, Task};
+use cax64_operand::{FromOperands, Made, RegisterVisitor, RowAndOperands, Task};
 use cax64_register::Registers;
 use lock_x::lock_xaddb_mr;
 use nop::nop_1b;
@@ -33,12 +33,8 @@ impl<R: Registers> RowAndOperands for Twin<R> {
         }
     }
 
-    #[tactic(auto, unfolding(crate::specs::Twin::row_of, crate::specs::Twin::operands_of))]
     fn fold_operands<T: FromOperands<R>>(&self) -> T {
-        match self {
-            Twin::nop_1b(i) => i.fold_operands(),
-            Twin::lock_xaddb_mr(i) => i.fold_operands(),
-        }
+        self.hand_to::<Made<T>, ()>(&mut ())
     }
 
     #[tactic(auto, unfolding(crate::specs::Twin::row_of, crate::specs::Twin::operands_of))]
