@@ -4,6 +4,6 @@
 pub mod address;
 pub mod fields;
 mod names;
-pub mod values;
+mod values;
 
-pub use names::{Takes, take_named};
+pub use names::instruction_of;

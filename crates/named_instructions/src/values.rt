@@ -9,14 +9,13 @@ use cranelift_assembler_x64::{
 /// The fields of an instruction that are still to be read, each a name, `=` and a value. A field that can't be read is 0,
 /// and the fault is kept.
 #[derive(Clone, Copy)]
-pub struct Values<'a> {
+pub(crate) struct Values<'a> {
     rest: Fields<'a>,
     fault: Option<Fault>,
 }
 
 impl<'a> Values<'a> {
-    /// The fields with spaces between them; `-` where there are none.
-    pub fn new(fields: &'a str) -> Values<'a> {
+    pub(crate) fn new(fields: &'a str) -> Values<'a> {
         Values {
             rest: Fields::list(fields, ' '),
             fault: None,
@@ -24,7 +23,7 @@ impl<'a> Values<'a> {
     }
 
     /// Whether all was read, and nothing is left.
-    pub fn end(&self) -> Result<(), Fault> {
+    pub(crate) fn end(&self) -> Result<(), Fault> {
         match self.fault {
             Some(fault) => Err(fault),
             None if self.rest.is_at_end() => Ok(()),
@@ -54,67 +53,56 @@ impl<'a> Values<'a> {
         self.or_fault(read, 0)
     }
 
-    /// A general register, where the next field has this name.
-    pub fn gpr(&mut self, name: &str) -> Gpr {
+    pub(crate) fn gpr(&mut self, name: &str) -> Gpr {
         Gpr::new(self.register(name))
     }
 
-    /// An XMM register.
-    pub fn xmm(&mut self, name: &str) -> Xmm {
+    pub(crate) fn xmm(&mut self, name: &str) -> Xmm {
         Xmm::new(self.register(name))
     }
 
-    /// A register that the instruction fixes.
-    pub fn fixed<const E: u8>(&mut self, name: &str) -> Fixed<u8, E> {
+    pub(crate) fn fixed<const E: u8>(&mut self, name: &str) -> Fixed<u8, E> {
         Fixed(self.register(name))
     }
 
-    /// An address.
-    pub fn amode(&mut self, name: &str) -> Amode<u8> {
+    pub(crate) fn amode(&mut self, name: &str) -> Amode<u8> {
         let read = self.value(name).and_then(amode_of);
         self.or_fault(read, NOWHERE)
     }
 
-    /// A general register or an address.
-    pub fn gpr_mem(&mut self, name: &str) -> GprMem<u8, u8> {
+    pub(crate) fn gpr_mem(&mut self, name: &str) -> GprMem<u8, u8> {
         let read = self.value(name).and_then(gpr_mem_of);
         self.or_fault(read, GprMem::Gpr(0))
     }
 
-    /// An XMM register or an address.
-    pub fn xmm_mem(&mut self, name: &str) -> XmmMem<u8, u8> {
+    pub(crate) fn xmm_mem(&mut self, name: &str) -> XmmMem<u8, u8> {
         match self.gpr_mem(name) {
             GprMem::Gpr(number) => XmmMem::Xmm(number),
             GprMem::Mem(amode) => XmmMem::Mem(amode),
         }
     }
 
-    /// An immediate of 8 bits.
-    pub fn imm8(&mut self, name: &str) -> Imm8 {
+    pub(crate) fn imm8(&mut self, name: &str) -> Imm8 {
         let read = self.value(name).and_then(parsed);
         Imm8::new(self.or_fault(read, 0))
     }
 
-    /// An immediate of 16 bits.
-    pub fn imm16(&mut self, name: &str) -> Imm16 {
+    pub(crate) fn imm16(&mut self, name: &str) -> Imm16 {
         let read = self.value(name).and_then(parsed);
         Imm16::new(self.or_fault(read, 0))
     }
 
-    /// An immediate of 32 bits.
-    pub fn imm32(&mut self, name: &str) -> Imm32 {
+    pub(crate) fn imm32(&mut self, name: &str) -> Imm32 {
         let read = self.value(name).and_then(parsed);
         Imm32::new(self.or_fault(read, 0u32))
     }
 
-    /// A signed immediate of 8 bits.
-    pub fn simm8(&mut self, name: &str) -> Simm8 {
+    pub(crate) fn simm8(&mut self, name: &str) -> Simm8 {
         let read = self.value(name).and_then(parsed);
         Simm8::new(self.or_fault(read, 0))
     }
 
-    /// A signed immediate of 32 bits.
-    pub fn simm32(&mut self, name: &str) -> Simm32 {
+    pub(crate) fn simm32(&mut self, name: &str) -> Simm32 {
         let read = self.value(name).and_then(parsed);
         Simm32::new(self.or_fault(read, 0))
     }

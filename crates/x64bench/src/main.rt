@@ -4,13 +4,12 @@
 //! nanoseconds that it takes for one instruction, in the best of 15 rounds over the whole list.
 #![tactic(auto)]
 
-mod instructions;
 mod timing;
 
-use crate::instructions::instruction_of;
 use crate::timing::{CALLS, best_time, first_unfit};
 use cranelift_assembler_x64::{Inst, Numbers, RowAndOperands};
 use named_instructions::fields::Fault;
+use named_instructions::instruction_of;
 use std::alloc::{AllocError, Global};
 use std::io::ErrorKind;
 use std::process::ExitCode;
