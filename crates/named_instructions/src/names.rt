@@ -16,7 +16,7 @@ use crate::names::vector::{avx, sse};
 use crate::values::Values;
 use cranelift_assembler_x64::{Inst, Numbers};
 
-fn locked(name: &str, v: &mut Values<'_>) -> Option<Inst<Numbers>> {
+fn with_lock(name: &str, v: &mut Values<'_>) -> Option<Inst<Numbers>> {
     if let Some(inst) = add(name, v) {
         return Some(inst);
     }
@@ -41,7 +41,7 @@ fn locked(name: &str, v: &mut Values<'_>) -> Option<Inst<Numbers>> {
     exchange(name, v)
 }
 
-fn unlocked(name: &str, v: &mut Values<'_>) -> Option<Inst<Numbers>> {
+fn without_lock(name: &str, v: &mut Values<'_>) -> Option<Inst<Numbers>> {
     if let Some(inst) = parts(name, v) {
         return Some(inst);
     }
@@ -72,9 +72,9 @@ fn unlocked(name: &str, v: &mut Values<'_>) -> Option<Inst<Numbers>> {
 /// The instruction of a name and its fields; `PassedOver` where there is no such struct.
 pub fn instruction_of(name: &str, fields: &str) -> Result<Inst<Numbers>, Fault> {
     let mut values = Values::new(fields);
-    let named = match locked(name, &mut values) {
+    let named = match with_lock(name, &mut values) {
         Some(inst) => Some(inst),
-        None => unlocked(name, &mut values),
+        None => without_lock(name, &mut values),
     };
     let inst = named.ok_or(Fault::PassedOver)?;
     values.end()?;
