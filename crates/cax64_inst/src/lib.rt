@@ -546,9 +546,10 @@ impl<R: Registers> RowAndOperands for Inst<R> {
         self.hand_to::<Made<T>, ()>(&mut ())
     }
 
+    #[tactic(auto, unfolding(crate::specs::Shaped::Shaped))]
     #[inline(always)]
     fn hand_to<T: Task<R, X>, X>(&self, to: &mut X) -> T::Answer {
-        self.hand_to_lock_add_exchange::<T, X>(to)
+        self.hand_to_lock_add_or::<T, X>(to)
     }
 
     fn visit<V: RegisterVisitor<R>>(&mut self, visitor: &mut V) {
