@@ -3,6 +3,7 @@
 ghost use Rattle.std.specs.Prelude.{◌≡◌};
 ghost use Rattle.cax64_machine_code.specs.declared.row.Row.{Row};
 ghost use Rattle.cax64_operand.specs.Made.{made};
+ghost use Rattle.cax64_operand.specs.ItsRow.{its_row};
 
 use crate::fold::FromOperands;
 use crate::nop::Nop;
@@ -74,5 +75,53 @@ impl<R: Registers, T: FromOperands<R>> Task<R, ()> for Made<T> {
         ensures { result ≡ self.made }
     {
         self.made
+    }
+}
+
+/// What asks for the row alone.
+#[derive(Drop)]
+pub struct ItsRow;
+
+impl<R: Registers> FromOperands<R> for ItsRow {
+    ghost made_of_none = { its_row };
+
+    ghost made_with = { λ operand later. its_row };
+
+    ghost made_of_nop = { λ nop. its_row };
+
+    #[inline(always)]
+    fn none() -> ItsRow
+        ensures { result ≡ its_row }
+    {
+        ItsRow
+    }
+
+    #[inline(always)]
+    fn with(self, _operand: Operand<R>) -> ItsRow
+        ensures { result ≡ its_row }
+    {
+        ItsRow
+    }
+
+    #[inline(always)]
+    fn nop(_nop: Nop) -> ItsRow
+        ensures { result ≡ its_row }
+    {
+        ItsRow
+    }
+}
+
+impl<R: Registers> Task<R, ()> for ItsRow {
+    type Answer = Row;
+
+    ghost asks = { λ row task to. task ≡ task };
+
+    ghost answers = { λ row task old new result. result ≡ row };
+
+    #[inline(always)]
+    fn take(self, row: Row, _to: &mut ()) -> Row
+        ensures { result ≡ row }
+    {
+        row
     }
 }

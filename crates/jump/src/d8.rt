@@ -10,7 +10,7 @@ ghost use Rattle.jump.specs.Operands.{operands_jmp_d8, operands_jo_d8, operands_
 use cax64_immediate::Simm8;
 use cax64_machine_code::row::Row;
 use cax64_operand::{
-    FromOperands, Immediate, Numbers, Operand, RegisterVisitor, RowAndOperands, of_one,
+    FromOperands, Immediate, Numbers, Operand, RegisterVisitor, RowAndOperands, Task, of_one,
 };
 use cax64_register::Registers;
 
@@ -50,13 +50,9 @@ impl RowAndOperands for jmp_d8 {
 
     ghost operands_of = { operands_jmp_d8 };
 
-    fn row(&self) -> Row {
-        Row::jmp_d8
-    }
-
     #[inline(always)]
-    fn fold_operands<T: FromOperands<Numbers>>(&self) -> T {
-        jmp_d8::fold_operands(self)
+    fn hand_to<T: Task<Numbers, X>, X>(&self, to: &mut X) -> T::Answer {
+        T::take(jmp_d8::fold_operands(self), Row::jmp_d8, to)
     }
 
     fn visit<V: RegisterVisitor<Numbers>>(&mut self, visitor: &mut V) {
@@ -100,13 +96,9 @@ impl RowAndOperands for jo_d8 {
 
     ghost operands_of = { operands_jo_d8 };
 
-    fn row(&self) -> Row {
-        Row::jo_d8
-    }
-
     #[inline(always)]
-    fn fold_operands<T: FromOperands<Numbers>>(&self) -> T {
-        jo_d8::fold_operands(self)
+    fn hand_to<T: Task<Numbers, X>, X>(&self, to: &mut X) -> T::Answer {
+        T::take(jo_d8::fold_operands(self), Row::jo_d8, to)
     }
 
     fn visit<V: RegisterVisitor<Numbers>>(&mut self, visitor: &mut V) {
@@ -150,13 +142,9 @@ impl RowAndOperands for jno_d8 {
 
     ghost operands_of = { operands_jno_d8 };
 
-    fn row(&self) -> Row {
-        Row::jno_d8
-    }
-
     #[inline(always)]
-    fn fold_operands<T: FromOperands<Numbers>>(&self) -> T {
-        jno_d8::fold_operands(self)
+    fn hand_to<T: Task<Numbers, X>, X>(&self, to: &mut X) -> T::Answer {
+        T::take(jno_d8::fold_operands(self), Row::jno_d8, to)
     }
 
     fn visit<V: RegisterVisitor<Numbers>>(&mut self, visitor: &mut V) {
@@ -200,13 +188,9 @@ impl RowAndOperands for jb_d8 {
 
     ghost operands_of = { operands_jb_d8 };
 
-    fn row(&self) -> Row {
-        Row::jb_d8
-    }
-
     #[inline(always)]
-    fn fold_operands<T: FromOperands<Numbers>>(&self) -> T {
-        jb_d8::fold_operands(self)
+    fn hand_to<T: Task<Numbers, X>, X>(&self, to: &mut X) -> T::Answer {
+        T::take(jb_d8::fold_operands(self), Row::jb_d8, to)
     }
 
     fn visit<V: RegisterVisitor<Numbers>>(&mut self, visitor: &mut V) {
@@ -250,13 +234,9 @@ impl RowAndOperands for jae_d8 {
 
     ghost operands_of = { operands_jae_d8 };
 
-    fn row(&self) -> Row {
-        Row::jae_d8
-    }
-
     #[inline(always)]
-    fn fold_operands<T: FromOperands<Numbers>>(&self) -> T {
-        jae_d8::fold_operands(self)
+    fn hand_to<T: Task<Numbers, X>, X>(&self, to: &mut X) -> T::Answer {
+        T::take(jae_d8::fold_operands(self), Row::jae_d8, to)
     }
 
     fn visit<V: RegisterVisitor<Numbers>>(&mut self, visitor: &mut V) {
@@ -300,13 +280,9 @@ impl RowAndOperands for je_d8 {
 
     ghost operands_of = { operands_je_d8 };
 
-    fn row(&self) -> Row {
-        Row::je_d8
-    }
-
     #[inline(always)]
-    fn fold_operands<T: FromOperands<Numbers>>(&self) -> T {
-        je_d8::fold_operands(self)
+    fn hand_to<T: Task<Numbers, X>, X>(&self, to: &mut X) -> T::Answer {
+        T::take(je_d8::fold_operands(self), Row::je_d8, to)
     }
 
     fn visit<V: RegisterVisitor<Numbers>>(&mut self, visitor: &mut V) {
@@ -350,13 +326,9 @@ impl RowAndOperands for jne_d8 {
 
     ghost operands_of = { operands_jne_d8 };
 
-    fn row(&self) -> Row {
-        Row::jne_d8
-    }
-
     #[inline(always)]
-    fn fold_operands<T: FromOperands<Numbers>>(&self) -> T {
-        jne_d8::fold_operands(self)
+    fn hand_to<T: Task<Numbers, X>, X>(&self, to: &mut X) -> T::Answer {
+        T::take(jne_d8::fold_operands(self), Row::jne_d8, to)
     }
 
     fn visit<V: RegisterVisitor<Numbers>>(&mut self, visitor: &mut V) {
@@ -400,13 +372,9 @@ impl RowAndOperands for jbe_d8 {
 
     ghost operands_of = { operands_jbe_d8 };
 
-    fn row(&self) -> Row {
-        Row::jbe_d8
-    }
-
     #[inline(always)]
-    fn fold_operands<T: FromOperands<Numbers>>(&self) -> T {
-        jbe_d8::fold_operands(self)
+    fn hand_to<T: Task<Numbers, X>, X>(&self, to: &mut X) -> T::Answer {
+        T::take(jbe_d8::fold_operands(self), Row::jbe_d8, to)
     }
 
     fn visit<V: RegisterVisitor<Numbers>>(&mut self, visitor: &mut V) {
@@ -450,13 +418,9 @@ impl RowAndOperands for ja_d8 {
 
     ghost operands_of = { operands_ja_d8 };
 
-    fn row(&self) -> Row {
-        Row::ja_d8
-    }
-
     #[inline(always)]
-    fn fold_operands<T: FromOperands<Numbers>>(&self) -> T {
-        ja_d8::fold_operands(self)
+    fn hand_to<T: Task<Numbers, X>, X>(&self, to: &mut X) -> T::Answer {
+        T::take(ja_d8::fold_operands(self), Row::ja_d8, to)
     }
 
     fn visit<V: RegisterVisitor<Numbers>>(&mut self, visitor: &mut V) {
@@ -500,13 +464,9 @@ impl RowAndOperands for js_d8 {
 
     ghost operands_of = { operands_js_d8 };
 
-    fn row(&self) -> Row {
-        Row::js_d8
-    }
-
     #[inline(always)]
-    fn fold_operands<T: FromOperands<Numbers>>(&self) -> T {
-        js_d8::fold_operands(self)
+    fn hand_to<T: Task<Numbers, X>, X>(&self, to: &mut X) -> T::Answer {
+        T::take(js_d8::fold_operands(self), Row::js_d8, to)
     }
 
     fn visit<V: RegisterVisitor<Numbers>>(&mut self, visitor: &mut V) {
@@ -550,13 +510,9 @@ impl RowAndOperands for jns_d8 {
 
     ghost operands_of = { operands_jns_d8 };
 
-    fn row(&self) -> Row {
-        Row::jns_d8
-    }
-
     #[inline(always)]
-    fn fold_operands<T: FromOperands<Numbers>>(&self) -> T {
-        jns_d8::fold_operands(self)
+    fn hand_to<T: Task<Numbers, X>, X>(&self, to: &mut X) -> T::Answer {
+        T::take(jns_d8::fold_operands(self), Row::jns_d8, to)
     }
 
     fn visit<V: RegisterVisitor<Numbers>>(&mut self, visitor: &mut V) {
@@ -600,13 +556,9 @@ impl RowAndOperands for jp_d8 {
 
     ghost operands_of = { operands_jp_d8 };
 
-    fn row(&self) -> Row {
-        Row::jp_d8
-    }
-
     #[inline(always)]
-    fn fold_operands<T: FromOperands<Numbers>>(&self) -> T {
-        jp_d8::fold_operands(self)
+    fn hand_to<T: Task<Numbers, X>, X>(&self, to: &mut X) -> T::Answer {
+        T::take(jp_d8::fold_operands(self), Row::jp_d8, to)
     }
 
     fn visit<V: RegisterVisitor<Numbers>>(&mut self, visitor: &mut V) {
@@ -650,13 +602,9 @@ impl RowAndOperands for jnp_d8 {
 
     ghost operands_of = { operands_jnp_d8 };
 
-    fn row(&self) -> Row {
-        Row::jnp_d8
-    }
-
     #[inline(always)]
-    fn fold_operands<T: FromOperands<Numbers>>(&self) -> T {
-        jnp_d8::fold_operands(self)
+    fn hand_to<T: Task<Numbers, X>, X>(&self, to: &mut X) -> T::Answer {
+        T::take(jnp_d8::fold_operands(self), Row::jnp_d8, to)
     }
 
     fn visit<V: RegisterVisitor<Numbers>>(&mut self, visitor: &mut V) {
@@ -700,13 +648,9 @@ impl RowAndOperands for jl_d8 {
 
     ghost operands_of = { operands_jl_d8 };
 
-    fn row(&self) -> Row {
-        Row::jl_d8
-    }
-
     #[inline(always)]
-    fn fold_operands<T: FromOperands<Numbers>>(&self) -> T {
-        jl_d8::fold_operands(self)
+    fn hand_to<T: Task<Numbers, X>, X>(&self, to: &mut X) -> T::Answer {
+        T::take(jl_d8::fold_operands(self), Row::jl_d8, to)
     }
 
     fn visit<V: RegisterVisitor<Numbers>>(&mut self, visitor: &mut V) {
@@ -750,13 +694,9 @@ impl RowAndOperands for jge_d8 {
 
     ghost operands_of = { operands_jge_d8 };
 
-    fn row(&self) -> Row {
-        Row::jge_d8
-    }
-
     #[inline(always)]
-    fn fold_operands<T: FromOperands<Numbers>>(&self) -> T {
-        jge_d8::fold_operands(self)
+    fn hand_to<T: Task<Numbers, X>, X>(&self, to: &mut X) -> T::Answer {
+        T::take(jge_d8::fold_operands(self), Row::jge_d8, to)
     }
 
     fn visit<V: RegisterVisitor<Numbers>>(&mut self, visitor: &mut V) {
@@ -800,13 +740,9 @@ impl RowAndOperands for jle_d8 {
 
     ghost operands_of = { operands_jle_d8 };
 
-    fn row(&self) -> Row {
-        Row::jle_d8
-    }
-
     #[inline(always)]
-    fn fold_operands<T: FromOperands<Numbers>>(&self) -> T {
-        jle_d8::fold_operands(self)
+    fn hand_to<T: Task<Numbers, X>, X>(&self, to: &mut X) -> T::Answer {
+        T::take(jle_d8::fold_operands(self), Row::jle_d8, to)
     }
 
     fn visit<V: RegisterVisitor<Numbers>>(&mut self, visitor: &mut V) {
@@ -850,13 +786,9 @@ impl RowAndOperands for jg_d8 {
 
     ghost operands_of = { operands_jg_d8 };
 
-    fn row(&self) -> Row {
-        Row::jg_d8
-    }
-
     #[inline(always)]
-    fn fold_operands<T: FromOperands<Numbers>>(&self) -> T {
-        jg_d8::fold_operands(self)
+    fn hand_to<T: Task<Numbers, X>, X>(&self, to: &mut X) -> T::Answer {
+        T::take(jg_d8::fold_operands(self), Row::jg_d8, to)
     }
 
     fn visit<V: RegisterVisitor<Numbers>>(&mut self, visitor: &mut V) {

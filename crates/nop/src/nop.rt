@@ -8,7 +8,7 @@ ghost use Rattle.cax64_operand.specs.Visit.{OperandsRun};
 ghost use Rattle.nop.specs.Operands.{operands_nop_1b, operands_nop_2b, operands_nop_3b, operands_nop_4b, operands_nop_5b, operands_nop_6b, operands_nop_7b, operands_nop_8b, operands_nop_9b};
 
 use cax64_machine_code::row::Row;
-use cax64_operand::{FromOperands, Nop, Numbers, RegisterVisitor, RowAndOperands};
+use cax64_operand::{FromOperands, Nop, Numbers, RegisterVisitor, RowAndOperands, Task};
 use cax64_register::Registers;
 
 /// No operation, in one byte.
@@ -42,13 +42,9 @@ impl RowAndOperands for nop_1b {
 
     ghost operands_of = { operands_nop_1b };
 
-    fn row(&self) -> Row {
-        Row::nop_1b
-    }
-
     #[inline(always)]
-    fn fold_operands<T: FromOperands<Numbers>>(&self) -> T {
-        nop_1b::fold_operands(self)
+    fn hand_to<T: Task<Numbers, X>, X>(&self, to: &mut X) -> T::Answer {
+        T::take(nop_1b::fold_operands(self), Row::nop_1b, to)
     }
 
     fn visit<V: RegisterVisitor<Numbers>>(&mut self, visitor: &mut V) {
@@ -87,13 +83,9 @@ impl RowAndOperands for nop_2b {
 
     ghost operands_of = { operands_nop_2b };
 
-    fn row(&self) -> Row {
-        Row::nop_2b
-    }
-
     #[inline(always)]
-    fn fold_operands<T: FromOperands<Numbers>>(&self) -> T {
-        nop_2b::fold_operands(self)
+    fn hand_to<T: Task<Numbers, X>, X>(&self, to: &mut X) -> T::Answer {
+        T::take(nop_2b::fold_operands(self), Row::nop_2b, to)
     }
 
     fn visit<V: RegisterVisitor<Numbers>>(&mut self, visitor: &mut V) {
@@ -132,13 +124,9 @@ impl RowAndOperands for nop_3b {
 
     ghost operands_of = { operands_nop_3b };
 
-    fn row(&self) -> Row {
-        Row::nopl_rm
-    }
-
     #[inline(always)]
-    fn fold_operands<T: FromOperands<Numbers>>(&self) -> T {
-        nop_3b::fold_operands(self)
+    fn hand_to<T: Task<Numbers, X>, X>(&self, to: &mut X) -> T::Answer {
+        T::take(nop_3b::fold_operands(self), Row::nopl_rm, to)
     }
 
     fn visit<V: RegisterVisitor<Numbers>>(&mut self, visitor: &mut V) {
@@ -177,13 +165,9 @@ impl RowAndOperands for nop_4b {
 
     ghost operands_of = { operands_nop_4b };
 
-    fn row(&self) -> Row {
-        Row::nopl_rm
-    }
-
     #[inline(always)]
-    fn fold_operands<T: FromOperands<Numbers>>(&self) -> T {
-        nop_4b::fold_operands(self)
+    fn hand_to<T: Task<Numbers, X>, X>(&self, to: &mut X) -> T::Answer {
+        T::take(nop_4b::fold_operands(self), Row::nopl_rm, to)
     }
 
     fn visit<V: RegisterVisitor<Numbers>>(&mut self, visitor: &mut V) {
@@ -222,13 +206,9 @@ impl RowAndOperands for nop_5b {
 
     ghost operands_of = { operands_nop_5b };
 
-    fn row(&self) -> Row {
-        Row::nopl_rm
-    }
-
     #[inline(always)]
-    fn fold_operands<T: FromOperands<Numbers>>(&self) -> T {
-        nop_5b::fold_operands(self)
+    fn hand_to<T: Task<Numbers, X>, X>(&self, to: &mut X) -> T::Answer {
+        T::take(nop_5b::fold_operands(self), Row::nopl_rm, to)
     }
 
     fn visit<V: RegisterVisitor<Numbers>>(&mut self, visitor: &mut V) {
@@ -267,13 +247,9 @@ impl RowAndOperands for nop_6b {
 
     ghost operands_of = { operands_nop_6b };
 
-    fn row(&self) -> Row {
-        Row::nopw_rm
-    }
-
     #[inline(always)]
-    fn fold_operands<T: FromOperands<Numbers>>(&self) -> T {
-        nop_6b::fold_operands(self)
+    fn hand_to<T: Task<Numbers, X>, X>(&self, to: &mut X) -> T::Answer {
+        T::take(nop_6b::fold_operands(self), Row::nopw_rm, to)
     }
 
     fn visit<V: RegisterVisitor<Numbers>>(&mut self, visitor: &mut V) {
@@ -312,13 +288,9 @@ impl RowAndOperands for nop_7b {
 
     ghost operands_of = { operands_nop_7b };
 
-    fn row(&self) -> Row {
-        Row::nopl_rm
-    }
-
     #[inline(always)]
-    fn fold_operands<T: FromOperands<Numbers>>(&self) -> T {
-        nop_7b::fold_operands(self)
+    fn hand_to<T: Task<Numbers, X>, X>(&self, to: &mut X) -> T::Answer {
+        T::take(nop_7b::fold_operands(self), Row::nopl_rm, to)
     }
 
     fn visit<V: RegisterVisitor<Numbers>>(&mut self, visitor: &mut V) {
@@ -357,13 +329,9 @@ impl RowAndOperands for nop_8b {
 
     ghost operands_of = { operands_nop_8b };
 
-    fn row(&self) -> Row {
-        Row::nopl_rm
-    }
-
     #[inline(always)]
-    fn fold_operands<T: FromOperands<Numbers>>(&self) -> T {
-        nop_8b::fold_operands(self)
+    fn hand_to<T: Task<Numbers, X>, X>(&self, to: &mut X) -> T::Answer {
+        T::take(nop_8b::fold_operands(self), Row::nopl_rm, to)
     }
 
     fn visit<V: RegisterVisitor<Numbers>>(&mut self, visitor: &mut V) {
@@ -402,13 +370,9 @@ impl RowAndOperands for nop_9b {
 
     ghost operands_of = { operands_nop_9b };
 
-    fn row(&self) -> Row {
-        Row::nopw_rm
-    }
-
     #[inline(always)]
-    fn fold_operands<T: FromOperands<Numbers>>(&self) -> T {
-        nop_9b::fold_operands(self)
+    fn hand_to<T: Task<Numbers, X>, X>(&self, to: &mut X) -> T::Answer {
+        T::take(nop_9b::fold_operands(self), Row::nopw_rm, to)
     }
 
     fn visit<V: RegisterVisitor<Numbers>>(&mut self, visitor: &mut V) {
