@@ -34,7 +34,7 @@ use cax64_address::disp::encode_modrm;
 use cax64_address::memory::{MemoryTail, memory_tail};
 use cax64_address::tail::{TailCode, relative_tail};
 use cax64_machine_code::row::Row;
-use cax64_operand::{RegisterFamily, RowAndOperands};
+use cax64_operand::{RegisterFamily, RowAndOperands, fold_operands, row_of};
 use cax64_prefix::rex::{RexPrefix, is_special_if_8bit};
 use cax64_prefix::vex::VexPrefix;
 use cax64_register::Registers;
@@ -204,6 +204,6 @@ pub fn code_in<I: RowAndOperands, S: CodeSink>(inst: &I, sink: &S) -> Code
     ensures encodes { EncodesAs (meant_of ⟦<I::Family as RegisterFamily>⟧.family (I.row_of inst.now) (I.operands_of inst.now) (S.state sink.now).offsets) (code_actions result) }
     ensures is { IsCode result }
 {
-    let content: Content = inst.fold_operands();
-    code_for::<I::Family, S>(inst.row(), &content, sink)
+    let content: Content = fold_operands(inst);
+    code_for::<I::Family, S>(row_of(inst), &content, sink)
 }
