@@ -1,38 +1,31 @@
 //! Instructions over XMM registers.
 
 use crate::values::Values;
-use cranelift_assembler_x64::Numbers;
 use cranelift_assembler_x64::inst::{
     andps_a, cmppd_a, cmpps_a, cmpsd_a, cmpss_a, vcmppd_b, vcmpps_b, vcmpsd_b, vcmpss_b,
     vcvtpd2ps_a, vcvttpd2dq_a,
 };
+use cranelift_assembler_x64::{Inst, Numbers};
 
-pub(crate) fn sse<I>(name: &str, v: &mut Values<'_>) -> Option<I>
-where
-    I: From<andps_a<Numbers>>
-        + From<cmpps_a<Numbers>>
-        + From<cmppd_a<Numbers>>
-        + From<cmpss_a<Numbers>>
-        + From<cmpsd_a<Numbers>>,
-{
+pub(crate) fn sse(name: &str, v: &mut Values<'_>) -> Option<Inst<Numbers>> {
     match name {
-        "andps_a" => Some(I::from(andps_a::new(v.xmm("xmm1"), v.xmm_mem("xmm_m128")))),
-        "cmpps_a" => Some(I::from(cmpps_a::new(
+        "andps_a" => Some(Inst::andps_a(andps_a::new(v.xmm("xmm1"), v.xmm_mem("xmm_m128")))),
+        "cmpps_a" => Some(Inst::cmpps_a(cmpps_a::new(
             v.xmm("xmm1"),
             v.xmm_mem("xmm_m128"),
             v.imm8("imm8"),
         ))),
-        "cmppd_a" => Some(I::from(cmppd_a::new(
+        "cmppd_a" => Some(Inst::cmppd_a(cmppd_a::new(
             v.xmm("xmm1"),
             v.xmm_mem("xmm_m128"),
             v.imm8("imm8"),
         ))),
-        "cmpss_a" => Some(I::from(cmpss_a::new(
+        "cmpss_a" => Some(Inst::cmpss_a(cmpss_a::new(
             v.xmm("xmm1"),
             v.xmm_mem("xmm_m32"),
             v.imm8("imm8"),
         ))),
-        "cmpsd_a" => Some(I::from(cmpsd_a::new(
+        "cmpsd_a" => Some(Inst::cmpsd_a(cmpsd_a::new(
             v.xmm("xmm1"),
             v.xmm_mem("xmm_m64"),
             v.imm8("imm8"),
@@ -41,42 +34,40 @@ where
     }
 }
 
-pub(crate) fn avx<I>(name: &str, v: &mut Values<'_>) -> Option<I>
-where
-    I: From<vcmpps_b<Numbers>>
-        + From<vcmppd_b<Numbers>>
-        + From<vcmpss_b<Numbers>>
-        + From<vcmpsd_b<Numbers>>
-        + From<vcvtpd2ps_a<Numbers>>
-        + From<vcvttpd2dq_a<Numbers>>,
-{
+pub(crate) fn avx(name: &str, v: &mut Values<'_>) -> Option<Inst<Numbers>> {
     match name {
-        "vcmpps_b" => Some(I::from(vcmpps_b::new(
+        "vcmpps_b" => Some(Inst::vcmpps_b(vcmpps_b::new(
             v.xmm("xmm1"),
             v.xmm("xmm2"),
             v.xmm_mem("xmm_m128"),
             v.imm8("imm8"),
         ))),
-        "vcmppd_b" => Some(I::from(vcmppd_b::new(
+        "vcmppd_b" => Some(Inst::vcmppd_b(vcmppd_b::new(
             v.xmm("xmm1"),
             v.xmm("xmm2"),
             v.xmm_mem("xmm_m128"),
             v.imm8("imm8"),
         ))),
-        "vcmpss_b" => Some(I::from(vcmpss_b::new(
+        "vcmpss_b" => Some(Inst::vcmpss_b(vcmpss_b::new(
             v.xmm("xmm1"),
             v.xmm("xmm2"),
             v.xmm_mem("xmm_m32"),
             v.imm8("imm8"),
         ))),
-        "vcmpsd_b" => Some(I::from(vcmpsd_b::new(
+        "vcmpsd_b" => Some(Inst::vcmpsd_b(vcmpsd_b::new(
             v.xmm("xmm1"),
             v.xmm("xmm2"),
             v.xmm_mem("xmm_m64"),
             v.imm8("imm8"),
         ))),
-        "vcvtpd2ps_a" => Some(I::from(vcvtpd2ps_a::new(v.xmm("xmm1"), v.xmm_mem("xmm_m128")))),
-        "vcvttpd2dq_a" => Some(I::from(vcvttpd2dq_a::new(v.xmm("xmm1"), v.xmm_mem("xmm_m128")))),
+        "vcvtpd2ps_a" => Some(Inst::vcvtpd2ps_a(vcvtpd2ps_a::new(
+            v.xmm("xmm1"),
+            v.xmm_mem("xmm_m128"),
+        ))),
+        "vcvttpd2dq_a" => Some(Inst::vcvttpd2dq_a(vcvttpd2dq_a::new(
+            v.xmm("xmm1"),
+            v.xmm_mem("xmm_m128"),
+        ))),
         _ => None,
     }
 }
