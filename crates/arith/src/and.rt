@@ -10,7 +10,7 @@ ghost use Rattle.cax64_register.specs.declared.gpr.Size.TheVariants.{Byte};
 
 use cax64_immediate::Imm8;
 use cax64_machine_code::row::Row;
-use cax64_operand::{FromOperands, Immediate, Operand, RegisterVisitor, RowAndOperands, of_two};
+use cax64_operand::{Immediate, Operand, RegisterVisitor, RowAndOperands, Task, of_two};
 use cax64_register::{Fixed, Registers, Size};
 use std::marker::Model;
 
@@ -42,15 +42,16 @@ impl<R: Registers> RowAndOperands for andb_i<R> {
 
     ghost operands_of = { λ i. i };
 
-    fn row(&self) -> Row {
-        Row::andb_i
-    }
-
     #[tactic(auto, unfolding(cax64_machine_code::specs::Rows::line_of))]
-    fn fold_operands<T: FromOperands<R>>(&self) -> T {
-        of_two(
-            Operand::FixedReadWriteGpr(self.al.0, 0, Some(Size::Byte)),
-            Operand::Imm(Immediate::Imm8(self.imm8.value())),
+    #[inline(always)]
+    fn hand_to<T: Task<R, X>, X>(&self, to: &mut X) -> T::Answer {
+        T::take(
+            of_two(
+                Operand::FixedReadWriteGpr(self.al.0, 0, Some(Size::Byte)),
+                Operand::Imm(Immediate::Imm8(self.imm8.value())),
+            ),
+            Row::andb_i,
+            to,
         )
     }
 

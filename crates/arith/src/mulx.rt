@@ -9,9 +9,7 @@ ghost use Rattle.cax64_register.specs.declared.gpr.Size.TheVariants.{Doubleword,
 
 use cax64_address::operand::GprMem;
 use cax64_machine_code::row::Row;
-use cax64_operand::{
-    FromOperands, Operand, RegisterVisitor, RowAndOperands, of_three, visit_two_gprs,
-};
+use cax64_operand::{Operand, RegisterVisitor, RowAndOperands, Task, of_three, visit_two_gprs};
 use cax64_register::{Fixed, Gpr, Registers, Size};
 use std::marker::Model;
 
@@ -55,16 +53,17 @@ impl<R: Registers> RowAndOperands for mulxl_rvm<R> {
 
     ghost operands_of = { λ i. i };
 
-    fn row(&self) -> Row {
-        Row::mulxl_rvm
-    }
-
     #[tactic(auto, unfolding(cax64_machine_code::specs::Rows::line_of))]
-    fn fold_operands<T: FromOperands<R>>(&self) -> T {
-        of_three(
-            Operand::WriteTwoGprs(*self.r32a.as_ref(), *self.r32b.as_ref(), Size::Doubleword),
-            Operand::ReadGprMem(self.rm32, Size::Doubleword),
-            Operand::FixedReadGpr(self.edx.0, 2, None),
+    #[inline(always)]
+    fn hand_to<T: Task<R, X>, X>(&self, to: &mut X) -> T::Answer {
+        T::take(
+            of_three(
+                Operand::WriteTwoGprs(*self.r32a.as_ref(), *self.r32b.as_ref(), Size::Doubleword),
+                Operand::ReadGprMem(self.rm32, Size::Doubleword),
+                Operand::FixedReadGpr(self.edx.0, 2, None),
+            ),
+            Row::mulxl_rvm,
+            to,
         )
     }
 
@@ -115,16 +114,17 @@ impl<R: Registers> RowAndOperands for mulxq_rvm<R> {
 
     ghost operands_of = { λ i. i };
 
-    fn row(&self) -> Row {
-        Row::mulxq_rvm
-    }
-
     #[tactic(auto, unfolding(cax64_machine_code::specs::Rows::line_of))]
-    fn fold_operands<T: FromOperands<R>>(&self) -> T {
-        of_three(
-            Operand::WriteTwoGprs(*self.r64a.as_ref(), *self.r64b.as_ref(), Size::Quadword),
-            Operand::ReadGprMem(self.rm64, Size::Quadword),
-            Operand::FixedReadGpr(self.rdx.0, 2, None),
+    #[inline(always)]
+    fn hand_to<T: Task<R, X>, X>(&self, to: &mut X) -> T::Answer {
+        T::take(
+            of_three(
+                Operand::WriteTwoGprs(*self.r64a.as_ref(), *self.r64b.as_ref(), Size::Quadword),
+                Operand::ReadGprMem(self.rm64, Size::Quadword),
+                Operand::FixedReadGpr(self.rdx.0, 2, None),
+            ),
+            Row::mulxq_rvm,
+            to,
         )
     }
 

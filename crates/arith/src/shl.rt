@@ -9,7 +9,7 @@ ghost use Rattle.cax64_register.specs.declared.gpr.Size.TheVariants.{Byte, Doubl
 
 use cax64_address::operand::GprMem;
 use cax64_machine_code::row::Row;
-use cax64_operand::{FromOperands, Operand, RegisterVisitor, RowAndOperands, of_one};
+use cax64_operand::{Operand, RegisterVisitor, RowAndOperands, Task, of_one};
 use cax64_register::{Registers, Size};
 use std::marker::Model;
 
@@ -40,13 +40,14 @@ impl<R: Registers> RowAndOperands for shlb_m1<R> {
 
     ghost operands_of = { λ i. i };
 
-    fn row(&self) -> Row {
-        Row::shlb_m1
-    }
-
     #[tactic(auto, unfolding(cax64_machine_code::specs::Rows::line_of))]
-    fn fold_operands<T: FromOperands<R>>(&self) -> T {
-        of_one(Operand::ReadWriteGprMem(self.rm8, Size::Byte))
+    #[inline(always)]
+    fn hand_to<T: Task<R, X>, X>(&self, to: &mut X) -> T::Answer {
+        T::take(
+            of_one(Operand::ReadWriteGprMem(self.rm8, Size::Byte)),
+            Row::shlb_m1,
+            to,
+        )
     }
 
     fn visit<V: RegisterVisitor<R>>(&mut self, visitor: &mut V) {
@@ -81,13 +82,14 @@ impl<R: Registers> RowAndOperands for shlw_m1<R> {
 
     ghost operands_of = { λ i. i };
 
-    fn row(&self) -> Row {
-        Row::shlw_m1
-    }
-
     #[tactic(auto, unfolding(cax64_machine_code::specs::Rows::line_of))]
-    fn fold_operands<T: FromOperands<R>>(&self) -> T {
-        of_one(Operand::ReadWriteGprMem(self.rm16, Size::Word))
+    #[inline(always)]
+    fn hand_to<T: Task<R, X>, X>(&self, to: &mut X) -> T::Answer {
+        T::take(
+            of_one(Operand::ReadWriteGprMem(self.rm16, Size::Word)),
+            Row::shlw_m1,
+            to,
+        )
     }
 
     fn visit<V: RegisterVisitor<R>>(&mut self, visitor: &mut V) {
@@ -122,13 +124,14 @@ impl<R: Registers> RowAndOperands for shll_m1<R> {
 
     ghost operands_of = { λ i. i };
 
-    fn row(&self) -> Row {
-        Row::shll_m1
-    }
-
     #[tactic(auto, unfolding(cax64_machine_code::specs::Rows::line_of))]
-    fn fold_operands<T: FromOperands<R>>(&self) -> T {
-        of_one(Operand::ReadWriteGprMem(self.rm32, Size::Doubleword))
+    #[inline(always)]
+    fn hand_to<T: Task<R, X>, X>(&self, to: &mut X) -> T::Answer {
+        T::take(
+            of_one(Operand::ReadWriteGprMem(self.rm32, Size::Doubleword)),
+            Row::shll_m1,
+            to,
+        )
     }
 
     fn visit<V: RegisterVisitor<R>>(&mut self, visitor: &mut V) {
@@ -163,13 +166,14 @@ impl<R: Registers> RowAndOperands for shlq_m1<R> {
 
     ghost operands_of = { λ i. i };
 
-    fn row(&self) -> Row {
-        Row::shlq_m1
-    }
-
     #[tactic(auto, unfolding(cax64_machine_code::specs::Rows::line_of))]
-    fn fold_operands<T: FromOperands<R>>(&self) -> T {
-        of_one(Operand::ReadWriteGprMem(self.rm64, Size::Quadword))
+    #[inline(always)]
+    fn hand_to<T: Task<R, X>, X>(&self, to: &mut X) -> T::Answer {
+        T::take(
+            of_one(Operand::ReadWriteGprMem(self.rm64, Size::Quadword)),
+            Row::shlq_m1,
+            to,
+        )
     }
 
     fn visit<V: RegisterVisitor<R>>(&mut self, visitor: &mut V) {

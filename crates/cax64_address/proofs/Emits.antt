@@ -18,7 +18,8 @@ use Rattle.cax64_sink.specs.Ends.{EndsInBytes}
 use Rattle.cax64_sink.specs.declared.Notice.TheVariants.{Target}
 use Rattle.cax64_sink.specs.declared.DeferredTarget.{DeferredTarget}
 use Rattle.cax64_address.specs.Displacement.{GivesBack, IsClassOf, mode_of, disp_actions, disp_byte, disp_long, forced}
-use Rattle.cax64_address.specs.Emitted.{TailOf, byte_actions, long_actions}
+use Rattle.cax64_address.specs.Emitted.{TailOf, byte_actions}
+use Rattle.cax64_sink.specs.Rest.{long_actions}
 use Rattle.cax64_address.specs.declared.disp.Disp.{Disp}
 use Rattle.cax64_address.specs.declared.disp.Disp.TheVariants.{None, Imm8, Imm32}
 use Rattle.cax64_address.proofs.Classes.{byte_class}
@@ -164,14 +165,14 @@ emits_base n reg base m v d e h hf em h4 = record {
   most = omega (arith, four_at_most e);
 }
 
--- a base like the stack pointer, and a SIB byte with no index
-pub emits_stack : (n reg base m : ℕ) (v : ℤ) (d e : Disp) → Chosen n base v d e → reg < 8 → m ≡ mode_of e * 64 + reg * 8 + 4 → base % 8 ≡ 4 → TailOf 0 (base / 8) n reg (Mem (Some base) std.None v) (λ at. []) (put (m ∷ []) ∷ put (36 ∷ []) ∷ disp_actions e)
-emits_stack n reg base m v d e h hf em h4 = record {
+-- a base like the stack pointer, and a SIB byte with no index, whose scale says nothing
+pub emits_stack : (n reg base scale m sib : ℕ) (v : ℤ) (d e : Disp) → Chosen n base v d e → reg < 8 → m ≡ mode_of e * 64 + reg * 8 + 4 → sib ≡ scale * 64 + 4 * 8 + 4 → base % 8 ≡ 4 → TailOf 0 (base / 8) n reg (Mem (Some base) std.None v) (λ at. []) (put (m ∷ []) ∷ put (sib ∷ []) ∷ disp_actions e)
+emits_stack n reg base scale m sib v d e h hf em es h4 = record {
   tail = record {
     reads = λ rest.
         let hl : 4 < 8 = omega arith in
         let same : 4 + 8 * (base / 8) ≡ base = omega arith in
-        rw em (sib_back 0 (base / 8) n (mode_of e) reg 0 4 4 (all_bytes (disp_actions e)) rest v hf hl (mode_below e) hl (λ f. omega arith) (h.back.reads rest)
+        rw (em, es) (sib_back 0 (base / 8) n (mode_of e) reg scale 4 4 (all_bytes (disp_actions e)) rest v hf hl (mode_below e) hl (λ f. omega arith) (h.back.reads rest)
         ∙ ap (λ (k : ℕ). Some (record { reg = reg; place = Mem (Some k) std.None v; rest = rest })) same);
   };
   shortest = record {
@@ -180,7 +181,7 @@ emits_stack n reg base m v d e h hf em h4 = record {
         omega (arith, field_least 0 (base / 8) n base std.None v d e u h form, form.length_is, form.base_four h4);
   };
   notices = λ at. quiet e (at + 1 + 1);
-  ends = ends_behind e m 36;
+  ends = ends_behind e m sib;
   most = omega (arith, four_at_most e);
 }
 

@@ -1,12 +1,12 @@
 -- What is put for a tail.
 use Rattle.std.specs.Prelude.{◌≡◌, ◌≤◌, ℕ, List, [], ◌∷◌, ◌++◌, Option, Some, None, length}
-use Rattle.std.specs.Int.{to_le_bytes, w32}
 use Rattle.cax64_machine_code.specs.declared.reading.Place.{Place}
 use Rattle.cax64_machine_code.specs.Tail.{IsTail}
 use Rattle.cax64_machine_code.specs.Shortest.{Shortest}
 use Rattle.cax64_sink.specs.Ends.{EndsInBytes}
 use Rattle.cax64_sink.specs.Run.{all_bytes, all_notices}
 use Rattle.cax64_sink.specs.Call.{Action, put, target}
+use Rattle.cax64_sink.specs.Rest.{long_actions}
 use Rattle.cax64_sink.specs.declared.DeferredTarget.{DeferredTarget}
 use Rattle.cax64_sink.specs.declared.Notice.{Notice}
 use Rattle.cax64_address.specs.OperandTail.{TailMeant}
@@ -20,10 +20,6 @@ byte_actions (Some byte) = put (byte ∷ []) ∷ []
 abbrev pub target_actions : Option DeferredTarget → List Action
 target_actions None = []
 target_actions (Some place) = target place ∷ []
-
-abbrev pub long_actions : Option ℕ → List Action
-long_actions None = []
-long_actions (Some word) = put (to_le_bytes w32 word) ∷ []
 
 abbrev pub tail_actions : TailCode → List Action
 tail_actions code = put (code.modrm ∷ []) ∷ (byte_actions code.sib ++ (byte_actions code.byte ++ (target_actions code.target ++ long_actions code.long)))

@@ -32,6 +32,7 @@ impl Scale {
     }
 
     /// The two bits of a SIB byte, 0 to 3.
+    #[inline(always)]
     pub fn enc(&self) -> u8
         ensures number { result ≡ scale_number self.now }
         ensures below { result < 4 }

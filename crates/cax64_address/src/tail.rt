@@ -4,13 +4,14 @@ ghost use Rattle.std.specs.Prelude.{◌≡◌, ◌≢◌, ◌+◌, ◌/◌, ◌%
 ghost use Rattle.cax64_address.specs.Address.{is_addressable, registers_are_real, scale_number, displaced_place, target_count};
 ghost use Rattle.cax64_address.specs.Displacement.{factor_of};
 ghost use Rattle.cax64_address.specs.Effective.{effective_address};
-ghost use Rattle.cax64_address.specs.Emitted.{TailOf, PutsTail, tail_actions, byte_actions, target_actions, long_actions};
+ghost use Rattle.cax64_address.specs.Emitted.{TailOf, PutsTail, tail_actions, byte_actions, target_actions};
 ghost use Rattle.cax64_address.specs.Length.{least_tail_under};
 ghost use Rattle.cax64_address.specs.OperandTail.{displaced_tail, tail_meant, tail_length, IsTailMeant, AddsTail, LeavesTail, ReadsAddress};
 ghost use Rattle.cax64_machine_code.specs.Fields.{IsBytes};
 ghost use Rattle.cax64_machine_code.specs.Len.{least_tail};
 ghost use Rattle.cax64_machine_code.specs.Shortest.{Shortest};
 ghost use Rattle.cax64_sink.specs.Keeps.{Keeps};
+ghost use Rattle.cax64_sink.specs.Rest.{long_actions};
 ghost use Rattle.cax64_sink.specs.Room.{HasRoom, FallsBy};
 ghost use Rattle.cax64_sink.specs.Run.{Ran, all_bytes, byte_total, notice_total};
 

@@ -1,8 +1,8 @@
-use Rattle.std.proofs.Common.{◌≡◌, ℕ, ◌+◌, ◌≤◌, Bool, true, false, refl, ap, ◌∙◌, Option, Some, None, List, [], ◌∷◌, ◌++◌, length, append_assoc, arith}
+use Rattle.std.proofs.Common.{◌≡◌, ℕ, ◌+◌, ◌≤◌, Bool, true, false, refl, ap, ◌∙◌, Option, Some, None, List, [], ◌∷◌, ◌++◌, length, length-append, append_assoc, arith}
 use Rattle.std.specs.Prelude.{option_map, if◌then◌else◌}
 use Rattle.std.proofs.lemmas.Bool.Decides.{nat_tests}
 use Rattle.cax64_address.specs.Emitted as address
-use Rattle.cax64_address.specs.Emitted.{target_actions, long_actions}
+use Rattle.cax64_address.specs.Emitted.{target_actions}
 use Rattle.cax64_address.specs.declared.tail.TailCode.{TailCode}
 use Rattle.cax64_machine_code.specs.Len.{opcode_len}
 use Rattle.cax64_machine_code.specs.Line.{opcode_bytes}
@@ -13,9 +13,11 @@ use Rattle.cax64_address.specs.declared.amode.Amode.{Amode}
 use Rattle.cax64_machine_code.specs.Reading.{Parts}
 use Rattle.cax64_sink.specs.Call.{Action, put}
 use Rattle.cax64_sink.specs.declared.TrapCode.{TrapCode}
-use Rattle.cax64_encoder.specs.Code.{trap_actions}
+use Rattle.cax64_encoder.specs.Code.{trap_actions, code_actions}
+use Rattle.cax64_encoder.specs.declared.code.Code.{Code}
 use Rattle.cax64_encoder.specs.Encodes.{EncodesParts}
 use Rattle.cax64_sink.specs.Puts.{puts}
+use Rattle.cax64_sink.specs.Rest.{long_actions}
 use Rattle.cax64_sink.proofs.PutRuns.{puts-append}
 use Rattle.cax64_encoder.specs.ByteWhen.{byte_of}
 use Rattle.cax64_encoder.specs.Line.{is_line, prefix_size}
@@ -58,3 +60,12 @@ opcode_some line = rw (opcode_length line.opcode) (by_escape line.opcode.escape)
     by_escape : (escape : Bool) → 1 ≤ (if escape then 2 else 1)
     by_escape true = omega arith
     by_escape false = omega arith
+
+-- A code has something that is put.
+
+some_put : (bytes : List ℕ) (before after : List Action) → 1 ≤ length bytes → 1 ≤ length (before ++ (puts bytes ++ after))
+some_put [] before after h = let bad : ⊥ = omega (arith, h) in absurd bad
+some_put (byte ∷ bytes) before after h = omega (arith, length-append before (puts (byte ∷ bytes) ++ after))
+
+pub code_some : (code : Code) → 1 ≤ length code.front → 1 ≤ length (code_actions code)
+code_some code h = some_put code.front (trap_actions code.trap) _ h

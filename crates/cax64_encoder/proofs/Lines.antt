@@ -1,13 +1,14 @@
-use Rattle.std.proofs.Common.{◌≡◌, ◌≢◌, ℕ, ◌+◌, ◌/◌, arith, Bool, true, false, refl}
+use Rattle.std.proofs.Common.{◌≡◌, ◌≢◌, ℕ, ◌+◌, ◌/◌, arith, Bool, true, false, refl, Option, Some, None}
 use Rattle.std.specs.Prelude.{◌==◌, ◌&&◌, ◌||◌, not, nat_lt, nat_le}
+use Rattle.std.specs.Int.{from_bool}
 use Rattle.std.proofs.lemmas.Bool.{and_parts}
 use Rattle.std.proofs.lemmas.Bool.Decides.{nat_tests}
 use Rattle.cax64_prefix.proofs.Prefixes.{IsPlain}
-use Rattle.cax64_machine_code.specs.Len.{opcode_len}
-use Rattle.cax64_machine_code.specs.Line.{imm_bytes}
+use Rattle.cax64_machine_code.specs.Len.{opcode_len, is_w1}
+use Rattle.cax64_machine_code.specs.Line.{imm_bytes, w_matches}
 use Rattle.cax64_machine_code.specs.declared.line.Line.{Line}
-use Rattle.cax64_encoder.specs.Line.{is_plain, first_byte, is_prefix_field, is_w, is_w0, has_tail, is_digit, is_vex, prefix_size, tail_size, is_8bit_once, is_line}
-use Rattle.cax64_table.specs.Numbers.{has_8bit}
+use Rattle.cax64_encoder.specs.Line.{is_plain, first_byte, is_prefix_field, is_w, is_w0, has_tail, is_digit, prefix_size, tail_size, is_8bit_once, is_line}
+use Rattle.cax64_table.specs.Numbers.{has_8bit, is_vex}
 
 neither : (a b : Bool) → not (a || b) ≡ true → (a ≡ false) × (not b ≡ true)
 neither true b h = cc
@@ -61,3 +62,20 @@ line_facts line h =
     let p7 = and_parts (not (is_vex line.prefix && has_8bit line.tail)) _ p6.1 in
     let p8 = and_parts (nat_le (prefix_size line.prefix + opcode_len line.opcode) 5) _ p7.1 in
     record { plain = p0.0; byte = p1.0; prefix = p2.0; w = p3.0; bare_w = p4.0; digit = p5.0; once = p6.0; vex_8bit = p7.0; front = p8.0; size = p8.1 }
+
+-- the bit W of a row; 0 is written where either is read
+
+one_fits : (w : ℕ) (one : Bool) → (w == 1) ≡ one → nat_lt w 2 ≡ true → (w == from_bool one) ≡ true
+one_fits w true e h = e
+one_fits w false e h = grind (arith, nat_tests)
+
+pub w_fits : (w : Option ℕ) → is_w w ≡ true → w_matches w (from_bool (is_w1 w)) ≡ true
+w_fits None h = refl
+w_fits (Some w) h = one_fits w (w == 1) refl h
+
+zero_only : (w : ℕ) → (w == 0) ≡ true → (w == 1) ≡ false
+zero_only w h = grind (arith, nat_tests)
+
+pub w_zero : (w : Option ℕ) → is_w0 w ≡ true → is_w1 w ≡ false
+w_zero None h = refl
+w_zero (Some w) h = zero_only w h

@@ -1,9 +1,10 @@
-use Rattle.std.proofs.Common.{◌≡◌, ℕ, ◌/◌, ◌%◌, ◌^◌, ◌<◌, ◌≤ℤ◌, arith, true, refl, ◌∙◌, ap, sym, subst, Option, Some, None, List, [], ◌∷◌, ℤ, pos, negsuc, w8, w16, w32, FitsSigned}
+use Rattle.std.proofs.Common.{◌≡◌, ℕ, ◌/◌, ◌%◌, ◌^◌, ◌<◌, ◌≤ℤ◌, arith, Bool, true, false, ◌⊎◌, inl, inr, refl, ◌∙◌, ap, sym, subst, Option, Some, None, List, [], ◌∷◌, ℤ, pos, negsuc, w8, w16, w32, FitsSigned}
 use Rattle.std.specs.Int.{cast_unsigned, to_le_bytes}
 use Rattle.std.specs.Prelude.{◌-ℤ◌, ◌==◌, ◌||◌, not, nat_lt, nat_le, option_map}
 use Rattle.std.proofs.lemmas.Bool.{and_parts}
 use Rattle.std.proofs.lemmas.Bool.Decides.{nat_tests}
 use Rattle.std.proofs.lemmas.Int.{ints, to_z-of_z}
+use Rattle.cax64_address.specs.Memory.{index_named}
 use Rattle.cax64_address.specs.Offset.{sum_fits, sum_of}
 use Rattle.cax64_address.specs.declared.amode.Amode.TheVariants.{ImmReg, ImmRegRegShift, RipRelative}
 use Rattle.cax64_machine_code.specs.Len.{len_of}
@@ -20,6 +21,7 @@ use Rattle.cax64_machine_code.specs.declared.line.RegField.TheVariants.{Digit, R
 use Rattle.cax64_machine_code.specs.declared.line.TailField.{TailField}
 use Rattle.cax64_machine_code.specs.declared.line.TailField.TheVariants.{NoTail, Modrm}
 use Rattle.cax64_machine_code.specs.declared.line.VvvvField.TheVariants.{VvvvRegister, Stored1111}
+use Rattle.cax64_machine_code.specs.declared.reading.Place.TheVariants.{Mem}
 use Rattle.cax64_machine_code.specs.declared.reading.Reading.{Reading}
 use Rattle.cax64_machine_code.specs.declared.row.Row.{Row}
 use Rattle.cax64_operand.specs.Family.{Numbering}
@@ -30,15 +32,16 @@ use Rattle.cax64_operand.specs.declared.immediate.ImmOperand.TheVariants.{Imm8, 
 use Rattle.cax64_prefix.specs.Rex.{is_special_if_8bit}
 use Rattle.cax64_register.specs.Real.{is_real, is_real_non_rsp}
 use Rattle.cax64_sink.specs.Call.{Action, put}
+use Rattle.cax64_sink.specs.Rest.{word_actions, is_imm_len}
 use Rattle.cax64_encoder.specs.Encodes.{EncodesParts, form_parts}
 use Rattle.cax64_encoder.specs.Form.{Form, with_roles, is_absent, is_no_place, reg_fits, place_fits, tail_fits, vvvv_fits, fits}
 use Rattle.cax64_encoder.specs.Form as forms
-use Rattle.cax64_encoder.specs.ImmActions.{imm_actions, optional_imm_actions, word_actions, imm_word, optional_imm_word, imm_named}
+use Rattle.cax64_encoder.specs.ImmActions.{imm_actions, optional_imm_actions, imm_word, optional_imm_word, imm_named}
 use Rattle.cax64_encoder.specs.Instruction.{ShortestFor}
 use Rattle.cax64_encoder.specs.Meant.{low}
 use Rattle.cax64_encoder.specs.Notices.{memory_notices, notices_of}
 use Rattle.cax64_encoder.specs.Number.{number_value}
-use Rattle.cax64_encoder.specs.Numbered.{HasImmWord, IsNumbered, numbered_place, numbered_form, no_form, with_role, notice_count, plain, place_named, form_named}
+use Rattle.cax64_encoder.specs.Numbered.{HasImmWord, IsNumbered, numbered_place, numbered_form, no_form, with_role, notice_count, plain, kind_named, place_named, form_named}
 use Rattle.cax64_encoder.specs.Numbered as numbered
 use Rattle.cax64_encoder.specs.Place.{memory_in, displacement_in, place_read}
 use Rattle.cax64_encoder.specs.Prefix.{place_high, place_special}
@@ -48,6 +51,8 @@ use Rattle.cax64_encoder.specs.declared.number.Number.{Number}
 use Rattle.cax64_encoder.specs.declared.number.Number.TheVariants.{Settled, Unsettled}
 use Rattle.cax64_encoder.specs.declared.numbered.NumberedForm.{NumberedForm}
 use Rattle.cax64_encoder.specs.declared.numbered.NumberedPlace.{NumberedPlace}
+use Rattle.cax64_encoder.specs.declared.numbered.PlaceKind.{PlaceKind}
+use Rattle.cax64_encoder.specs.declared.numbered.PlaceKind.TheVariants as kind
 use Rattle.cax64_encoder.specs.declared.role.PlaceOperand as place
 use Rattle.cax64_encoder.specs.declared.role.PlaceOperand.{PlaceOperand}
 use Rattle.cax64_encoder.specs.declared.role.Role.{Role}
@@ -121,6 +126,48 @@ numbers_below numbers e h =
         (below base 16 p.0, below index 16 q.0)
     by_place (place.TheVariants.Memory (RipRelative target)) h = (omega arith, omega arith)
 
+-- a base alone has no index, and the number of an index is another
+base_of : (k : PlaceKind) (numbers : NumberedPlace) → k ≡ kind.Base → numbers ≡ numbered_place plain (kind_named k numbers) → numbers.index ≡ 4
+base_of kind.NoPlace numbers k e = cc
+base_of kind.Register numbers k e = cc
+base_of kind.Base numbers k e = ap (λ (p : NumberedPlace). p.index) e
+base_of kind.BaseAndIndex numbers k e = cc
+base_of (kind.Relative target) numbers k e = cc
+
+base_index : (numbers : NumberedPlace) → IsNumbered numbers → numbers.kind ≡ kind.Base → numbers.index ≡ 4
+base_index numbers e k = base_of numbers.kind numbers k e
+
+index_other : (numbers : NumberedPlace) → numbers.kind ≡ kind.BaseAndIndex → numbered.place_is_real numbers ≡ true → (numbers.index == 4) ≡ false
+index_other numbers k h =
+    let both : place_is_real plain.settled plain.enc (kind_named kind.BaseAndIndex numbers) ≡ true = rw k at h in
+    let p = and_parts (nat_lt numbers.base 16) _ both in
+    let q = and_parts (nat_lt numbers.index 16) (not (numbers.index == 4)) p.1 in
+    is_not (numbers.index == 4) q.1
+  where
+    is_not : (b : Bool) → not b ≡ true → b ≡ false
+    is_not true h = cc
+    is_not false h = refl
+
+-- what is read for an address of a base, in which the number 4 is no index
+
+base_read : (k : PlaceKind) (numbers : NumberedPlace) (disp : ℤ) (at_end : ℕ) → k ≡ kind.Base → numbers.index ≡ 4 → place_read plain.enc disp at_end (kind_named k numbers) ≡ Some (Mem (Some numbers.base) (index_named numbers.index numbers.scale) disp)
+base_read kind.NoPlace numbers disp at_end e i = cc
+base_read kind.Register numbers disp at_end e i = cc
+base_read kind.Base numbers disp at_end e i = rw i refl
+base_read kind.BaseAndIndex numbers disp at_end e i = cc
+base_read (kind.Relative target) numbers disp at_end e i = cc
+
+both_read : (k : PlaceKind) (numbers : NumberedPlace) (disp : ℤ) (at_end : ℕ) → k ≡ kind.BaseAndIndex → (numbers.index == 4) ≡ false → place_read plain.enc disp at_end (kind_named k numbers) ≡ Some (Mem (Some numbers.base) (index_named numbers.index numbers.scale) disp)
+both_read kind.NoPlace numbers disp at_end e i = cc
+both_read kind.Register numbers disp at_end e i = cc
+both_read kind.Base numbers disp at_end e i = cc
+both_read kind.BaseAndIndex numbers disp at_end e i = rw i refl
+both_read (kind.Relative target) numbers disp at_end e i = cc
+
+pub memory_read : (numbers : NumberedPlace) (disp : ℤ) (at_end : ℕ) → IsNumbered numbers → numbered.place_is_real numbers ≡ true → (numbers.kind ≡ kind.Base) ⊎ (numbers.kind ≡ kind.BaseAndIndex) → place_read plain.enc disp at_end (place_named numbers) ≡ Some (Mem (Some numbers.base) (index_named numbers.index numbers.scale) disp)
+memory_read numbers disp at_end n h (inl e) = base_read numbers.kind numbers disp at_end e (base_index numbers n e)
+memory_read numbers disp at_end n h (inr e) = both_read numbers.kind numbers disp at_end e (index_other numbers e h)
+
 -- What they stand for has the shape of the operands.
 
 is_number : (a b : ℕ) → (a == b) ≡ true → a ≡ b
@@ -178,6 +225,30 @@ none_put (Simm size) h = cc
 pub imm_put : (field : ImmField) (imm : Option ImmOperand) → imm_fits field imm ≡ true → word_actions (imm_bytes field) (optional_imm_word imm) ≡ optional_imm_actions imm
 imm_put field None h = none_put field h
 imm_put field (Some imm) h = let p = and_parts (imm_has_size field imm) (imm_in_range imm) h in word_put field imm p.0 p.1
+
+-- and its size is one that there is
+
+size_is : (field : ImmField) (imm : ImmOperand) → imm_has_size field imm ≡ true → is_imm_len (imm_bytes field) ≡ true
+size_is NoImm imm h = cc
+size_is (Imm size) (Imm8 v) h = rw (is_number size 1 h) refl
+size_is (Imm size) (Imm16 v) h = rw (is_number size 2 h) refl
+size_is (Imm size) (Imm32 v) h = rw (is_number size 4 h) refl
+size_is (Imm size) (Simm8 v) h = cc
+size_is (Imm size) (Simm32 v) h = cc
+size_is (Simm size) (Imm8 v) h = cc
+size_is (Simm size) (Imm16 v) h = cc
+size_is (Simm size) (Imm32 v) h = cc
+size_is (Simm size) (Simm8 v) h = rw (is_number size 1 h) refl
+size_is (Simm size) (Simm32 v) h = rw (is_number size 4 h) refl
+
+none_is : (field : ImmField) → is_no_imm field ≡ true → is_imm_len (imm_bytes field) ≡ true
+none_is NoImm h = refl
+none_is (Imm size) h = cc
+none_is (Simm size) h = cc
+
+pub imm_sized : (field : ImmField) (imm : Option ImmOperand) → imm_fits field imm ≡ true → is_imm_len (imm_bytes field) ≡ true
+imm_sized field None h = none_is field h
+imm_sized field (Some imm) h = let p = and_parts (imm_has_size field imm) (imm_in_range imm) h in size_is field imm p.0
 
 pub imm_fit : {M : Type 0} (line : Line) (form : Form M) → fits line form ≡ true → imm_fits line.imm form.imm ≡ true
 imm_fit line form h = (and_parts (vvvv_fits line.prefix form.vvvv) (imm_fits line.imm form.imm) (and_parts (tail_fits line.tail form.reg form.place) _ h).1).1

@@ -14,6 +14,7 @@ use Rattle.cax64_machine_code.specs.Prefix.{legacy_prefix, vex_prefix, Rex, rex_
 use Rattle.cax64_machine_code.specs.Line.{w_matches, vvvv_matches}
 use Rattle.cax64_machine_code.specs.Reading.{vvvv_register_of}
 use Rattle.cax64_machine_code.specs.declared.line.LegacySet.{LegacySet}
+use Rattle.cax64_machine_code.specs.declared.line.Opcode.{Opcode}
 use Rattle.cax64_machine_code.specs.declared.line.Line.{Line}
 use Rattle.cax64_machine_code.specs.declared.line.PrefixField.{PrefixField}
 use Rattle.cax64_machine_code.specs.declared.line.PrefixField.TheVariants.{LegacyField, VexField}
@@ -27,11 +28,9 @@ use Rattle.cax64_prefix.specs.declared.vex.VexPrefix.{VexPrefix}
 use Rattle.cax64_prefix.specs.declared.vex.VexPrefix.TheVariants.{TwoByte, ThreeByte}
 use Rattle.cax64_prefix.proofs.RexBits.{AreBits}
 use Rattle.cax64_prefix.proofs.Prefixes.{legacy_bytes, prefix_back, prefix_vex}
-use Rattle.cax64_encoder.specs.ByteWhen.{byte_when}
-use Rattle.cax64_encoder.specs.Front.{set_bytes}
 use Rattle.cax64_encoder.specs.Form.{is_no_place, is_absent, vvvv_fits}
-use Rattle.cax64_encoder.specs.Line.{first_byte, is_line, is_w0, has_tail}
-use Rattle.cax64_table.specs.Numbers.{has_8bit, uses_8bit_reg, uses_8bit_place, set_number, has_set_number}
+use Rattle.cax64_encoder.specs.Line.{first_byte, is_line, is_prefix_field, is_w0, has_tail}
+use Rattle.cax64_table.specs.Numbers.{byte_when, set_bytes, legacy_bytes_of, is_vex, has_pp, has_map, has_l, has_8bit, uses_8bit_reg, uses_8bit_place}
 use Rattle.cax64_encoder.specs.Number.{number_value, is_real_number}
 use Rattle.cax64_encoder.specs.Prefix.{PrefixFor, rex_stands, place_special, place_high, amode_high}
 use Rattle.cax64_encoder.specs.Real.{place_is_real, place_x, place_b}
@@ -42,7 +41,7 @@ use Rattle.cax64_encoder.specs.declared.role.PlaceOperand.{PlaceOperand}
 use Rattle.cax64_encoder.proofs.Bytes.{no_bytes, one_byte, both_bytes, rex_are_bytes}
 use Rattle.cax64_encoder.proofs.Lines.{line_facts, plain_byte}
 
-pub set_same : (set : LegacySet) → set_bytes set ≡ legacy_bytes set
+set_same : (set : LegacySet) → set_bytes set ≡ legacy_bytes set
 set_same set = rw (when_same set.lock 0xF0, when_same set.operand_size 0x66, when_same set.repne 0xF2, when_same set.rep 0xF3) refl
   where
     when_same : (b : Bool) (c : ℕ) → byte_when b c ≡ (if b then c ∷ [] else [])
@@ -152,9 +151,16 @@ bare_stands enc reg (place.TheVariants.Memory amode) h e u = cc
 number_is : (a b : ℕ) → (a == b) ≡ true → a ≡ b
 number_is a b h = grind (arith, nat_tests)
 
--- the number of a set is the one that goes with the row
-pub set_numbered : (prefix : PrefixField) (set : LegacySet) (rexed : Bool) (number : ℕ) → prefix ≡ LegacyField set rexed → has_set_number prefix number ≡ true → number ≡ set_number set
-set_numbered prefix set rexed number e h = number_is number (set_number set) (rw e at h)
+-- the legacy prefixes of a row without VEX
+pub record LegacyIs (prefix : PrefixField) : Type 0 where
+  pub set : LegacySet
+  pub rexed : Bool
+  pub is : prefix ≡ LegacyField set rexed
+  pub bytes : legacy_bytes_of prefix ≡ legacy_bytes set
+
+pub legacy_is : (prefix : PrefixField) → is_vex prefix ≡ false → LegacyIs prefix
+legacy_is (LegacyField set rexed) h = record { set = set; rexed = rexed; is = refl; bytes = set_same set }
+legacy_is (VexField pp map l field) h = cc
 
 no_rex_matches : (rexed tailed : Bool) (stands : Bool) → (rexed || not tailed) ≡ true → (tailed ≡ false → stands ≡ false) → (rexed || not stands) ≡ true
 no_rex_matches true tailed stands h k = refl
@@ -212,6 +218,34 @@ vex_field_facts pp map l escape tailed h =
   where
     at_most : (a b : ℕ) → nat_le a b ≡ true → a ≤ b
     at_most a b h = grind (arith, nat_tests)
+
+-- the fields of a row with VEX are these numbers
+pub record VexIs (prefix : PrefixField) (pp map l : ℕ) : Type 0 where
+  pub field : VvvvField
+  pub is : prefix ≡ VexField pp map l field
+  pub pp_below : pp < 4
+  pub map_least : 1 ≤ map
+  pub map_most : map ≤ 3
+  pub l_below : l < 2
+
+vex_by_prefix : (prefix : PrefixField) (opcode : Opcode) (tail : TailField) (pp map l : ℕ) → is_prefix_field prefix opcode tail ≡ true → is_vex prefix ≡ true → has_pp prefix pp ≡ true → has_map prefix map ≡ true → has_l prefix l ≡ true → VexIs prefix pp map l
+vex_by_prefix (LegacyField set rexed) opcode tail pp map l h v hp hm hl = cc
+vex_by_prefix (VexField p m k field) opcode tail pp map l h v hp hm hl =
+    let facts = vex_field_facts p m k opcode.escape (has_tail tail) h in
+    let ep : pp ≡ p = number_is pp p hp in
+    let em : map ≡ m = number_is map m hm in
+    let el : l ≡ k = number_is l k hl in
+    record {
+      field = field;
+      is = rw (ep, em, el) refl;
+      pp_below = omega (arith, ep, facts.0);
+      map_least = omega (arith, em, facts.1);
+      map_most = omega (arith, em, facts.2);
+      l_below = omega (arith, el, facts.3);
+    }
+
+pub vex_is : (line : Line) (pp map l : ℕ) → is_line line ≡ true → is_vex line.prefix ≡ true → has_pp line.prefix pp ≡ true → has_map line.prefix map ≡ true → has_l line.prefix l ≡ true → VexIs line.prefix pp map l
+vex_is line pp map l h = vex_by_prefix line.prefix line.opcode line.tail pp map l (line_facts line h).prefix
 
 itself : (a : ℕ) → (a == a) ≡ true
 itself a = grind (arith, nat_tests)

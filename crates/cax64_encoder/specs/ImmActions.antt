@@ -1,4 +1,4 @@
-use Rattle.std.specs.Prelude.{ℕ, ◌==◌, ◌%◌, ◌^◌, if◌then◌else◌, Option, Some, None, List, [], ◌∷◌}
+use Rattle.std.specs.Prelude.{ℕ, ◌==◌, if◌then◌else◌, Option, Some, None, List, [], ◌∷◌}
 use Rattle.std.specs.Int.{cast_signed, cast_unsigned, to_le_bytes, w8, w16, w32}
 use Rattle.cax64_machine_code.specs.declared.line.ImmField.{ImmField}
 use Rattle.cax64_machine_code.specs.declared.line.ImmField.TheVariants.{NoImm, Imm, Simm}
@@ -18,10 +18,7 @@ abbrev pub optional_imm_actions : Option ImmOperand → List Action
 optional_imm_actions None = []
 optional_imm_actions (Some imm) = imm_actions imm
 
--- the same of the bytes as one word, of which so many are put
-abbrev pub word_actions : ℕ → ℕ → List Action
-word_actions len word = if len == 1 then put (word % 2 ^ 8 ∷ []) ∷ [] else (if len == 2 then put (to_le_bytes w16 (word % 2 ^ 16)) ∷ [] else (if len == 4 then put (to_le_bytes w32 word) ∷ [] else []))
-
+-- the same of the bytes as one word
 abbrev pub imm_word : ImmOperand → ℕ
 imm_word (Imm8 v) = v
 imm_word (Imm16 v) = v

@@ -9,7 +9,7 @@ use Rattle.cax64_machine_code.specs.declared.line.RegField.TheVariants.{Digit, R
 use Rattle.cax64_machine_code.specs.declared.line.PlaceField.TheVariants.{Memory, RegisterOrMemory, Register8OrMemory}
 use Rattle.cax64_machine_code.specs.declared.line.TailField.{TailField}
 use Rattle.cax64_machine_code.specs.declared.line.TailField.TheVariants.{NoTail, Modrm}
-use Rattle.cax64_table.specs.Numbers.{has_8bit}
+use Rattle.cax64_table.specs.Numbers.{has_8bit, is_vex}
 
 -- Whether a line can be encoded: a test that is computed over the whole table.
 
@@ -61,10 +61,6 @@ is_8bit_once (Modrm Register8 Register8OrMemory) = false
 is_8bit_once (Modrm Register Memory) = true
 is_8bit_once (Modrm Register RegisterOrMemory) = true
 is_8bit_once (Modrm Register Register8OrMemory) = false
-
-abbrev pub is_vex : PrefixField → Bool
-is_vex (LegacyField set rex) = false
-is_vex (VexField pp map l vvvv) = true
 
 abbrev pub is_line : Line → Bool
 is_line line =

@@ -3,7 +3,7 @@ use Rattle.cax64_operand.specs.declared.nop.Nop.{Nop}
 use Rattle.cax64_operand.specs.declared.nop.Nop.TheVariants.{One, Two, Three, Four, Five, Six, Seven, Eight, Nine}
 use Rattle.cax64_sink.specs.Puts.{puts}
 use Rattle.cax64_sink.specs.Call.{Action}
-use Rattle.cax64_encoder.specs.ImmActions.{word_actions}
+use Rattle.cax64_sink.specs.Rest.{word_actions}
 
 -- The sink calls of a no-operation: bytes that are put each by itself, and zeros behind them that are put at once.
 

@@ -33,7 +33,7 @@ abbrev pub register_place : ℕ → NumberedPlace
 register_place number = record { kind = kind.Register; base = number; index = 0; register = number; scale = One; displacement = no_displacement; trap = None }
 
 abbrev pub numbered_amode : {M : Type 0} → Numbering M → Amode M → NumberedPlace
-numbered_amode n (ImmReg base simm32 trap) = record { kind = kind.Base; base = number_value (number n base); index = 0; register = 0; scale = One; displacement = simm32; trap = trap }
+numbered_amode n (ImmReg base simm32 trap) = record { kind = kind.Base; base = number_value (number n base); index = 4; register = 0; scale = One; displacement = simm32; trap = trap }
 numbered_amode n (ImmRegRegShift base index scale simm32 trap) = record { kind = kind.BaseAndIndex; base = number_value (number n base); index = number_value (number n index); register = 0; scale = scale; displacement = record { simm32 = simm32; offset = None }; trap = trap }
 numbered_amode n (RipRelative target) = record { kind = kind.Relative target; base = 0; index = 0; register = 0; scale = One; displacement = no_displacement; trap = None }
 

@@ -1,12 +1,11 @@
 //! The code of an instruction: the sink calls that write it, as a value.
 
 ghost use Rattle.std.specs.Prelude.{◌≡◌, ◌≤◌, length};
-ghost use Rattle.cax64_encoder.specs.Code.{HasFront, code_actions, trap_actions};
+ghost use Rattle.cax64_encoder.specs.Code.{IsCode, code_actions, trap_actions};
 ghost use Rattle.cax64_sink.specs.Run.{Ran, all_bytes};
 
-use crate::imm::put_imm;
 use crate::short::Short;
-use cax64_address::tail::{put_long, use_optional};
+use cax64_address::tail::use_optional;
 use cax64_sink::{CodeSink, DeferredTarget, FixedSink, SinkError, TrapCode};
 
 /// What stands between the opcode and the immediate.
@@ -47,23 +46,23 @@ fn put_trap<S: CodeSink>(sink: &mut S, trap: Option<TrapCode>) -> Result<(), Sin
 }
 
 impl Code {
-    /// The trap is told first; then come the bytes in front as one word, a long displacement and the immediate.
+    /// The trap is told first; then come the bytes in front as one word, and a long displacement and the immediate as
+    /// another.
     #[inline(always)]
     pub fn put<S: CodeSink>(&self, sink: &mut S) -> Result<(), SinkError>
-        requires { HasFront self.now }
+        requires { IsCode self.now }
         ensures { Ran (code_actions self.now) (S.state sink.old) (S.state sink.new) result }
     {
         put_trap(sink, self.trap)?;
         self.front.put(sink)?;
         use_optional(sink, self.target)?;
-        put_long(sink, self.long)?;
-        put_imm(sink, self.imm, self.imm_len)
+        sink.put_rest(self.long, self.imm, self.imm_len)
     }
 
     /// The number of bytes, counted in a sink that takes them all.
     #[inline(always)]
     pub fn len(&self) -> u8
-        requires front { HasFront self.now }
+        requires is { IsCode self.now }
         requires most { length (all_bytes (code_actions self.now)) ≤ 13 }
         ensures { result ≡ length (all_bytes (code_actions self.now)) }
     {

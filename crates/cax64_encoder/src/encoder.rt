@@ -1,29 +1,28 @@
-//! From a line of the table and operands to the code of an instruction.
+//! From a row of the table and operands to the code of an instruction.
 
 ghost use Rattle.std.specs.Prelude.{◌≡◌, ◌==◌, ◌<◌, ◌≤◌, ◌/◌, ◌&&◌, ◌||◌, ◌↔◌, nat_le, false, IsTrue, IsSome, Option, option_map, length};
 ghost use Rattle.std.specs.Int.{from_bool};
 ghost use Rattle.cax64_address.specs.Emitted as address;
-ghost use Rattle.cax64_encoder.specs.Code.{HasFront, tail_actions, code_actions};
+ghost use Rattle.cax64_address.specs.Memory.{memory_actions};
+ghost use Rattle.cax64_encoder.specs.Code.{IsCode, tail_actions, code_actions};
 ghost use Rattle.cax64_encoder.specs.Encodes.{TailPartOf, EncodesParts, EncodesAs, form_parts};
 ghost use Rattle.cax64_encoder.specs.Fault.{is_encodable};
 ghost use Rattle.cax64_encoder.specs.Form.{is_no_place, vvvv_fits, fits};
-ghost use Rattle.cax64_encoder.specs.Line.{has_tail, is_w, is_w0, is_line};
+ghost use Rattle.cax64_encoder.specs.Line.{has_tail};
 ghost use Rattle.cax64_encoder.specs.Meant.{meant_of};
 ghost use Rattle.cax64_encoder.specs.Numbered.{HasImmWord, IsNumbered, plain, place_named, form_named, place_is_real, form_is_real};
 ghost use Rattle.cax64_encoder.specs.Place.{memory_in, place_read};
 ghost use Rattle.cax64_encoder.specs.Prefix.{register_number, PrefixFor};
 ghost use Rattle.cax64_encoder.specs.Real.{is_absent_or_real};
+ghost use Rattle.cax64_encoder.specs.Task.{Asked, Kept};
 ghost use Rattle.cax64_encoder.specs.declared.number.Number.TheVariants.{Settled};
 ghost use Rattle.cax64_machine_code.specs.Fields.{IsBytes};
-ghost use Rattle.cax64_machine_code.specs.Len.{is_w1, tail_len, len_of};
-ghost use Rattle.cax64_machine_code.specs.Line.{imm_bytes, w_matches};
+ghost use Rattle.cax64_machine_code.specs.Len.{tail_len, len_of};
 ghost use Rattle.cax64_machine_code.specs.Prefix.{rex_bits};
 ghost use Rattle.cax64_machine_code.specs.Rows.{line_of};
-ghost use Rattle.cax64_machine_code.specs.declared.row.Row.{Row};
 ghost use Rattle.cax64_prefix.specs.Rex.{is_special_if_8bit};
-ghost use Rattle.cax64_operand.specs.Shape.{HasShape};
+ghost use Rattle.cax64_operand.specs.declared.operand.Operands.{Operands};
 ghost use Rattle.cax64_sink.specs.Run.{all_bytes};
-ghost use Rattle.cax64_table.specs.Numbers.{digit_of, has_8bit, has_set_number};
 
 use crate::code::{Code, TailPart};
 use crate::content::Content;
@@ -32,13 +31,15 @@ use crate::nop::nop_code;
 use crate::numbered::{NumberedForm, NumberedPlace, PlaceKind};
 use crate::short::Short;
 use cax64_address::disp::encode_modrm;
-use cax64_address::tail::{TailCode, base_tail, index_tail, relative_tail};
-use cax64_machine_code::line::{Line, PrefixField};
-use cax64_operand::{RegisterFamily, RowAndOperands};
+use cax64_address::memory::{MemoryTail, memory_tail};
+use cax64_address::tail::{TailCode, relative_tail};
+use cax64_machine_code::row::Row;
+use cax64_operand::{RegisterFamily, RowAndOperands, fold_operands, row_of};
 use cax64_prefix::rex::{RexPrefix, is_special_if_8bit};
 use cax64_prefix::vex::VexPrefix;
+use cax64_register::Registers;
 use cax64_sink::CodeSink;
-use cax64_table::{LineNumbers, line, line_numbers};
+use cax64_table::numbers;
 
 /// The REX prefix of a number in reg and the numbers of a place.
 #[inline(always)]
@@ -63,62 +64,36 @@ fn register_number(register: Option<u8>) -> u8
     register.unwrap_or(0)
 }
 
-/// The bit W of a row; 0 is written where either is read.
-#[inline(always)]
-fn w_bit(w: Option<u8>) -> bool
-    requires { IsTrue (is_w w) }
-    ensures value { result ≡ is_w1 w }
-    ensures matches { IsTrue (w_matches w (from_bool result)) }
-    ensures zero { IsTrue (is_w0 w) → result ≡ false }
-{
-    match w {
-        Some(w) => w == 1,
-        None => false,
-    }
-}
-
 /// What stands before the opcode of a row, with this register in reg, 0 where a digit or nothing stands there.
 #[inline(always)]
-fn prefix_of(
-    line: Line,
-    numbers: LineNumbers,
-    reg: u8,
-    vvvv: Option<u8>,
-    place: &NumberedPlace,
-) -> Short
-    requires line { IsTrue (is_line line) }
-    requires uses_8bit { numbers.uses_8bit ≡ has_8bit line.tail }
-    requires legacy { IsTrue (has_set_number line.prefix numbers.legacy) }
-    requires below { numbers.legacy < 16 }
+fn prefix_of(row: Row, reg: u8, vvvv: Option<u8>, place: &NumberedPlace) -> Short
     requires reg { reg < 16 }
     requires vvvv { IsTrue (is_absent_or_real (option_map Settled vvvv)) }
     requires numbered { IsNumbered place.now }
     requires place { IsTrue (place_is_real place.now) }
-    requires vvvv_fits { IsTrue (vvvv_fits line.prefix (option_map Settled vvvv)) }
-    requires bare { IsTrue (has_tail line.tail || (is_no_place (place_named place.now) && (reg == 0))) }
-    ensures { PrefixFor plain.enc line reg (option_map Settled vvvv) (place_named place.now) result }
+    requires vvvv_fits { IsTrue (vvvv_fits (line_of row).prefix (option_map Settled vvvv)) }
+    requires bare { IsTrue (has_tail (line_of row).tail || (is_no_place (place_named place.now) && (reg == 0))) }
+    ensures { PrefixFor plain.enc (line_of row) reg (option_map Settled vvvv) (place_named place.now) result }
 {
-    let w = w_bit(line.w);
-    match line.prefix {
-        PrefixField::LegacyField(_, _) => {
-            let rex = rex_of(w, numbers.uses_8bit, reg, place);
-            front::legacy(numbers.legacy).append(Short::optional(rex.byte()))
-        }
-        PrefixField::VexField(pp, map, l, _) => front::vex(VexPrefix::three_op(
+    let w = numbers::w(row);
+    if numbers::is_vex(row) {
+        return front::vex(VexPrefix::three_op(
             reg,
             register_number(vvvv),
             (Some(place.base), Some(place.index)),
-            l,
-            pp,
-            map,
+            numbers::l(row),
+            numbers::pp(row),
+            numbers::map(row),
             w,
-        )),
+        ));
     }
+    let rex = rex_of(w, numbers::uses_8bit(row), reg, place);
+    front::legacy(row).append(Short::optional(rex.byte()))
 }
 
-/// The same tail as a few bytes and what follows them.
+/// A tail relative to the end as a few bytes and what follows them.
 #[inline(always)]
-fn part_of(code: TailCode) -> TailPart
+fn relative_part(code: TailCode) -> TailPart
     ensures actions { tail_actions result ≡ address.tail_actions code }
     ensures few { length result.front ≤ 3 }
 {
@@ -131,10 +106,26 @@ fn part_of(code: TailCode) -> TailPart
     }
 }
 
+/// A tail of a base as a few bytes and what follows them.
+#[inline(always)]
+fn memory_part(tail: MemoryTail) -> TailPart
+    ensures actions { tail_actions result ≡ memory_actions tail }
+    ensures few { length result.front ≤ 3 }
+{
+    TailPart {
+        front: Short::one(tail.modrm)
+            .append(Short::when(tail.has_sib, tail.sib))
+            .append(Short::when(tail.has_byte, tail.byte)),
+        target: None,
+        long: tail.long,
+    }
+}
+
 /// The tail of a place, with this number in reg, before this many bytes of immediate.
 #[inline(always)]
 fn tail_part(reg: u8, place: &NumberedPlace, displacement: i32, bytes_at_end: u8) -> TailPart
     requires reg { reg < 16 }
+    requires numbered { IsNumbered place.now }
     requires place { IsTrue (place_is_real place.now) }
     ensures tail { TailPartOf plain.enc displacement bytes_at_end reg (place_named place.now) (tail_actions result) }
     ensures bytes { IsBytes (all_bytes (tail_actions result)) }
@@ -153,69 +144,66 @@ fn tail_part(reg: u8, place: &NumberedPlace, displacement: i32, bytes_at_end: u8
             target: None,
             long: None,
         },
-        PlaceKind::Base => part_of(base_tail(reg, place.base, displacement, None)),
-        PlaceKind::BaseAndIndex => part_of(index_tail(
+        PlaceKind::Base | PlaceKind::BaseAndIndex => memory_part(memory_tail(
             reg,
             place.base,
             place.index,
             place.scale,
             displacement,
-            None,
         )),
-        PlaceKind::Relative(target) => part_of(relative_tail(reg, target, bytes_at_end)),
+        PlaceKind::Relative(target) => relative_part(relative_tail(reg, target, bytes_at_end)),
     }
 }
 
-/// The code of the instruction of a line with these operands, whose memory operand has this displacement.
+/// The code of the instruction of a row with these operands, whose memory operand has this displacement.
 #[inline(always)]
-fn code_of(line: Line, numbers: LineNumbers, form: &NumberedForm, displacement: i32) -> Code
-    requires line { IsTrue (is_line line) }
-    requires digit { numbers.digit ≡ digit_of line.tail }
-    requires uses_8bit { numbers.uses_8bit ≡ has_8bit line.tail }
-    requires imm_len { numbers.imm_len ≡ imm_bytes line.imm }
-    requires legacy { IsTrue (has_set_number line.prefix numbers.legacy) }
-    requires below { numbers.legacy < 16 }
-    requires fits { IsTrue (fits line (form_named line form.now)) }
+fn code_of(row: Row, form: &NumberedForm, displacement: i32) -> Code
+    requires fits { IsTrue (fits (line_of row) (form_named (line_of row) form.now)) }
     requires numbered { IsNumbered form.now.place }
-    requires imm { HasImmWord line form.now }
+    requires imm { HasImmWord (line_of row) form.now }
     requires real { IsTrue (form_is_real form.now) }
-    ensures encodes { (row : Row) → line_of row ≡ line
-        → EncodesParts (form_parts plain.enc row displacement (form_named line form.now)) (memory_in (place_named form.now.place)) (code_actions result) }
-    ensures length { (row : Row) → line_of row ≡ line
-        → length (all_bytes (code_actions result)) ≡ len_of (form_parts plain.enc row displacement (form_named line form.now)) }
-    ensures front { HasFront result }
+    ensures encodes { EncodesParts (form_parts plain.enc row displacement (form_named (line_of row) form.now)) (memory_in (place_named form.now.place)) (code_actions result) }
+    ensures length { length (all_bytes (code_actions result)) ≡ len_of (form_parts plain.enc row displacement (form_named (line_of row) form.now)) }
+    ensures is { IsCode result }
 {
     let register = register_number(form.reg);
     // Where there is a digit there is no register, which then counts as 0.
-    let reg = register + numbers.digit;
-    let prefix = prefix_of(line, numbers, register, form.vvvv, &form.place);
-    let tail = tail_part(reg, &form.place, displacement, numbers.imm_len);
-    let opcode = front::opcode(line.opcode);
+    let reg = register + numbers::digit(row);
+    let imm_len = numbers::imm_len(row);
+    let prefix = prefix_of(row, register, form.vvvv, &form.place);
+    let tail = tail_part(reg, &form.place, displacement, imm_len);
     Code {
         trap: form.place.trap,
-        front: prefix.append(opcode).append(tail.front),
+        front: prefix.append(front::opcode(row)).append(tail.front),
         target: tail.target,
         long: tail.long,
         imm: form.imm,
-        imm_len: numbers.imm_len,
+        imm_len,
     }
 }
 
-/// The sink calls that write an instruction.
+/// The sink calls that write an instruction of a row, of whose operands this was kept.
 #[inline(always)]
-pub fn code_in<I: RowAndOperands, S: CodeSink>(inst: &I, sink: &S) -> Code
-    requires { IsTrue (is_encodable (S.state sink.now).offsets (meant_of ⟦<I::Family as RegisterFamily>⟧.family (I.row_of inst.now) (I.operands_of inst.now) (S.state sink.now).offsets)) }
-    ensures encodes { EncodesAs (meant_of ⟦<I::Family as RegisterFamily>⟧.family (I.row_of inst.now) (I.operands_of inst.now) (S.state sink.now).offsets) (code_actions result) }
-    ensures shape { HasShape (I.row_of inst.now) (I.operands_of inst.now) }
-    ensures front { HasFront result }
+pub(crate) fn code_for<R: Registers, S: CodeSink>(row: Row, content: &Content, sink: &S) -> Code
+    requires { Asked R ⟦<R as RegisterFamily>⟧.family (S.state sink.now).offsets row content.now }
+    ensures encodes { (o : Operands R R.ReadGpr R.ReadWriteGpr R.WriteGpr R.ReadXmm R.ReadWriteXmm R.WriteXmm) → Kept ⟦<R as RegisterFamily>⟧.family (S.state sink.now).offsets row o content.now → EncodesAs (meant_of ⟦<R as RegisterFamily>⟧.family row o (S.state sink.now).offsets) (code_actions result) }
+    ensures is { IsCode result }
 {
-    let content: Content = inst.fold_operands();
     match content.nop {
         Some(nop) => nop_code(nop),
         None => {
             let displacement = content.form.place.displacement.value(sink);
-            let row = inst.row();
-            code_of(line(row), line_numbers(row), &content.form, displacement)
+            code_of(row, &content.form, displacement)
         }
     }
+}
+
+/// The sink calls that write an instruction.
+pub fn code_in<I: RowAndOperands, S: CodeSink>(inst: &I, sink: &S) -> Code
+    requires { IsTrue (is_encodable (S.state sink.now).offsets (meant_of ⟦<I::Family as RegisterFamily>⟧.family (I.row_of inst.now) (I.operands_of inst.now) (S.state sink.now).offsets)) }
+    ensures encodes { EncodesAs (meant_of ⟦<I::Family as RegisterFamily>⟧.family (I.row_of inst.now) (I.operands_of inst.now) (S.state sink.now).offsets) (code_actions result) }
+    ensures is { IsCode result }
+{
+    let content: Content = fold_operands(inst);
+    code_for::<I::Family, S>(row_of(inst), &content, sink)
 }

@@ -18,7 +18,9 @@ use crate::content::Content;
 use crate::encoder::code_in;
 use crate::fault::{Fault, first_fault};
 use cax64_machine_code::row::Row;
-use cax64_operand::{RegisterFamily, RegisterVisitor, RowAndOperands, operands_of};
+use cax64_operand::{
+    RegisterFamily, RegisterVisitor, RowAndOperands, fold_operands, operands_of, row_of,
+};
 use cax64_register::Registers;
 use cax64_sink::{CodeSink, SinkError};
 
@@ -93,7 +95,7 @@ impl<I: RowAndOperands> Instruction for I {
     ghost meant = { λ i offsets. meant_of ⟦<I::Family as RegisterFamily>⟧.family (I.row_of i) (I.operands_of i) offsets };
 
     fn row(&self) -> Row {
-        RowAndOperands::row(self)
+        row_of(self)
     }
 
     fn visit<V: RegisterVisitor<I::Family>>(&mut self, visitor: &mut V) {
@@ -108,8 +110,8 @@ impl<I: RowAndOperands> Instruction for I {
     }
 
     fn is_encodable<S: CodeSink>(&self, sink: &S) -> bool {
-        let checked: Checked = self.fold_operands();
-        checked.holds(sink)
+        let mut sink = sink;
+        self.hand_to::<Checked, &S>(&mut sink)
     }
 
     fn encoded_len<S: CodeSink>(&self, sink: &S) -> u8 {
@@ -117,11 +119,11 @@ impl<I: RowAndOperands> Instruction for I {
     }
 
     fn notice_count(&self) -> u8 {
-        let content: Content = self.fold_operands();
+        let content: Content = fold_operands(self);
         content.form.place.notice_count()
     }
 
     fn encode<S: CodeSink>(&self, sink: &mut S) -> Result<(), SinkError> {
-        code_in(self, sink).put(sink)
+        self.hand_to::<Content, S>(sink)
     }
 }

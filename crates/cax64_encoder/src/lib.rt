@@ -19,6 +19,7 @@ pub mod number;
 pub mod numbered;
 pub mod role;
 pub mod short;
+mod task;
 
 pub use fault::Fault;
 pub use instruction::Instruction;

@@ -1,7 +1,7 @@
 //! The code of instructions that do nothing.
 
 ghost use Rattle.std.specs.Prelude.{◌≡◌};
-ghost use Rattle.cax64_encoder.specs.Code.{HasFront, code_actions};
+ghost use Rattle.cax64_encoder.specs.Code.{IsCode, code_actions};
 ghost use Rattle.cax64_encoder.specs.NopActions.{nop_lead, nop_zeros, nop_actions};
 
 use crate::code::Code;
@@ -42,7 +42,7 @@ fn zeros(nop: Nop) -> u8
 #[inline(always)]
 pub fn nop_code(nop: Nop) -> Code
     ensures actions { code_actions result ≡ nop_actions nop }
-    ensures front { HasFront result }
+    ensures is { IsCode result }
 {
     Code {
         trap: None,

@@ -11,7 +11,7 @@ use cax64_address::amode::{Amode, Scale};
 use cax64_address::offset::AmodeOffsetPlusKnownOffset;
 use cax64_address::operand::{GprMem, XmmMem};
 use cax64_operand::{Operand, RegisterFamily};
-use cax64_register::{AsReg, Registers};
+use cax64_register::{AsReg, Registers, gpr};
 use cax64_sink::{DeferredTarget, TrapCode};
 
 /// What stands in the rest of the tail.
@@ -30,6 +30,7 @@ pub struct NumberedPlace {
     pub kind: PlaceKind,
     /// Of the register or of the base.
     pub base: u8,
+    /// 4, which is no index, beside a base alone.
     pub index: u8,
     /// Of the register once more.
     pub register: u8,
@@ -88,6 +89,7 @@ impl NumberedPlace {
             Amode::ImmReg { base, simm32, trap } => {
                 numbers.kind = PlaceKind::Base;
                 numbers.base = Number::value_of(*base);
+                numbers.index = gpr::enc::RSP;
                 numbers.displacement = *simm32;
                 numbers.trap = *trap;
             }

@@ -2,6 +2,7 @@
 
 ghost use Rattle.std.specs.Prelude.{◌≡◌, ◌≤◌, ◌<◌, ◌^◌, ◌∷◌, [], ◌++◌, ◌+◌, length, take};
 ghost use Rattle.std.specs.Int.{to_le_bytes, w64};
+ghost use Rattle.cax64_address.specs.Memory.{option_when};
 ghost use Rattle.cax64_encoder.specs.ByteWhen.{byte_of};
 ghost use Rattle.cax64_sink.specs.Puts.{puts};
 ghost use Rattle.cax64_sink.specs.Run.{Ran};
@@ -52,6 +53,18 @@ impl Short {
         Short {
             word: u64::from(byte.unwrap_or(0)),
             len: u8::from(byte.is_some()),
+        }
+    }
+
+    /// The byte, if it stands. Nothing is tested: a branch would cost more.
+    #[inline(always)]
+    pub fn when(stands: bool, byte: u8) -> Short
+        ensures bytes { result ≡ byte_of (option_when stands byte) }
+        ensures length { length result ≤ 1 }
+    {
+        Short {
+            word: u64::from(byte) * u64::from(stands),
+            len: u8::from(stands),
         }
     }
 

@@ -2,3 +2,4 @@
 pub mod Inst
 -- Steps of the proofs.
 pub mod Group
+pub mod Shaped

@@ -31,10 +31,9 @@ use arith::xchgb_rm;
 use arith::xchgl_rm;
 use arith::xchgq_rm;
 use arith::xchgw_rm;
-use cax64_machine_code::row::Row;
-use cax64_operand::FromOperands;
 use cax64_operand::RegisterVisitor;
 use cax64_operand::RowAndOperands;
+use cax64_operand::Task;
 use cax64_register::Registers;
 use jump::callq_d;
 use jump::callq_m;
@@ -180,7 +179,7 @@ mod from_lock_b;
 mod from_lock_x;
 mod from_nop;
 mod from_simd;
-mod operands;
+mod tasks;
 mod visit;
 
 /// An instruction of any kind, for lists that mix them.
@@ -371,177 +370,10 @@ impl<R: Registers> RowAndOperands for Inst<R> {
 
     ghost operands_of = { operands_of };
 
-    #[tactic(auto, unfolding(crate::specs::Inst::row_of))]
-    fn row(&self) -> Row {
-        match self {
-            Inst::nop_1b(_) => Row::nop_1b,
-            Inst::nop_2b(_) => Row::nop_2b,
-            Inst::nop_3b(_) => Row::nopl_rm,
-            Inst::nop_4b(_) => Row::nopl_rm,
-            Inst::nop_5b(_) => Row::nopl_rm,
-            Inst::nop_6b(_) => Row::nopw_rm,
-            Inst::nop_7b(_) => Row::nopl_rm,
-            Inst::nop_8b(_) => Row::nopl_rm,
-            Inst::nop_9b(_) => Row::nopw_rm,
-            Inst::lock_addb_mi(_) => Row::lock_addb_mi,
-            Inst::lock_addw_mi(_) => Row::lock_addw_mi,
-            Inst::lock_addl_mi(_) => Row::lock_addl_mi,
-            Inst::lock_addq_mi_sxl(_) => Row::lock_addq_mi_sxl,
-            Inst::lock_addl_mi_sxb(_) => Row::lock_addl_mi_sxb,
-            Inst::lock_addq_mi_sxb(_) => Row::lock_addq_mi_sxb,
-            Inst::lock_addb_mr(_) => Row::lock_addb_mr,
-            Inst::lock_addw_mr(_) => Row::lock_addw_mr,
-            Inst::lock_addl_mr(_) => Row::lock_addl_mr,
-            Inst::lock_addq_mr(_) => Row::lock_addq_mr,
-            Inst::lock_orb_mi(_) => Row::lock_orb_mi,
-            Inst::lock_orw_mi(_) => Row::lock_orw_mi,
-            Inst::lock_orl_mi(_) => Row::lock_orl_mi,
-            Inst::lock_orq_mi_sxl(_) => Row::lock_orq_mi_sxl,
-            Inst::lock_orl_mi_sxb(_) => Row::lock_orl_mi_sxb,
-            Inst::lock_orq_mi_sxb(_) => Row::lock_orq_mi_sxb,
-            Inst::lock_orb_mr(_) => Row::lock_orb_mr,
-            Inst::lock_orw_mr(_) => Row::lock_orw_mr,
-            Inst::lock_orl_mr(_) => Row::lock_orl_mr,
-            Inst::lock_orq_mr(_) => Row::lock_orq_mr,
-            Inst::lock_adcb_mi(_) => Row::lock_adcb_mi,
-            Inst::lock_adcw_mi(_) => Row::lock_adcw_mi,
-            Inst::lock_adcl_mi(_) => Row::lock_adcl_mi,
-            Inst::lock_adcq_mi_sxl(_) => Row::lock_adcq_mi_sxl,
-            Inst::lock_adcl_mi_sxb(_) => Row::lock_adcl_mi_sxb,
-            Inst::lock_adcq_mi_sxb(_) => Row::lock_adcq_mi_sxb,
-            Inst::lock_adcb_mr(_) => Row::lock_adcb_mr,
-            Inst::lock_adcw_mr(_) => Row::lock_adcw_mr,
-            Inst::lock_adcl_mr(_) => Row::lock_adcl_mr,
-            Inst::lock_adcq_mr(_) => Row::lock_adcq_mr,
-            Inst::lock_cmpxchgb_mr(_) => Row::lock_cmpxchgb_mr,
-            Inst::lock_cmpxchgw_mr(_) => Row::lock_cmpxchgw_mr,
-            Inst::lock_cmpxchgl_mr(_) => Row::lock_cmpxchgl_mr,
-            Inst::lock_cmpxchgq_mr(_) => Row::lock_cmpxchgq_mr,
-            Inst::lock_cmpxchg16b_m(_) => Row::lock_cmpxchg16b_m,
-            Inst::lock_xaddb_mr(_) => Row::lock_xaddb_mr,
-            Inst::lock_xaddw_mr(_) => Row::lock_xaddw_mr,
-            Inst::lock_xaddl_mr(_) => Row::lock_xaddl_mr,
-            Inst::lock_xaddq_mr(_) => Row::lock_xaddq_mr,
-            Inst::andb_i(_) => Row::andb_i,
-            Inst::mulxl_rvm(_) => Row::mulxl_rvm,
-            Inst::mulxq_rvm(_) => Row::mulxq_rvm,
-            Inst::rolb_m1(_) => Row::rolb_m1,
-            Inst::rolw_m1(_) => Row::rolw_m1,
-            Inst::roll_m1(_) => Row::roll_m1,
-            Inst::rolq_m1(_) => Row::rolq_m1,
-            Inst::rorb_m1(_) => Row::rorb_m1,
-            Inst::rorw_m1(_) => Row::rorw_m1,
-            Inst::rorl_m1(_) => Row::rorl_m1,
-            Inst::rorq_m1(_) => Row::rorq_m1,
-            Inst::sarb_m1(_) => Row::sarb_m1,
-            Inst::sarw_m1(_) => Row::sarw_m1,
-            Inst::sarl_m1(_) => Row::sarl_m1,
-            Inst::sarq_m1(_) => Row::sarq_m1,
-            Inst::shlb_m1(_) => Row::shlb_m1,
-            Inst::shlw_m1(_) => Row::shlw_m1,
-            Inst::shll_m1(_) => Row::shll_m1,
-            Inst::shlq_m1(_) => Row::shlq_m1,
-            Inst::shrb_m1(_) => Row::shrb_m1,
-            Inst::shrw_m1(_) => Row::shrw_m1,
-            Inst::shrl_m1(_) => Row::shrl_m1,
-            Inst::shrq_m1(_) => Row::shrq_m1,
-            Inst::xchgb_rm(_) => Row::xchgb_rm,
-            Inst::xchgw_rm(_) => Row::xchgw_rm,
-            Inst::xchgl_rm(_) => Row::xchgl_rm,
-            Inst::xchgq_rm(_) => Row::xchgq_rm,
-            Inst::andps_a(_) => Row::andps_a,
-            Inst::cmpps_a(_) => Row::cmpps_a,
-            Inst::cmppd_a(_) => Row::cmppd_a,
-            Inst::cmpss_a(_) => Row::cmpss_a,
-            Inst::cmpsd_a(_) => Row::cmpsd_a,
-            Inst::vcmpps_b(_) => Row::vcmpps_b,
-            Inst::vcmppd_b(_) => Row::vcmppd_b,
-            Inst::vcmpss_b(_) => Row::vcmpss_b,
-            Inst::vcmpsd_b(_) => Row::vcmpsd_b,
-            Inst::vcvtpd2ps_a(_) => Row::vcvtpd2ps_a,
-            Inst::vcvttpd2dq_a(_) => Row::vcvttpd2dq_a,
-            Inst::callq_m(_) => Row::callq_m,
-            Inst::jmpq_m(_) => Row::jmpq_m,
-            Inst::lock_sbbb_mi(_) => Row::lock_sbbb_mi,
-            Inst::lock_sbbw_mi(_) => Row::lock_sbbw_mi,
-            Inst::lock_sbbl_mi(_) => Row::lock_sbbl_mi,
-            Inst::lock_sbbq_mi_sxl(_) => Row::lock_sbbq_mi_sxl,
-            Inst::lock_sbbl_mi_sxb(_) => Row::lock_sbbl_mi_sxb,
-            Inst::lock_sbbq_mi_sxb(_) => Row::lock_sbbq_mi_sxb,
-            Inst::lock_sbbb_mr(_) => Row::lock_sbbb_mr,
-            Inst::lock_sbbw_mr(_) => Row::lock_sbbw_mr,
-            Inst::lock_sbbl_mr(_) => Row::lock_sbbl_mr,
-            Inst::lock_sbbq_mr(_) => Row::lock_sbbq_mr,
-            Inst::lock_andb_mi(_) => Row::lock_andb_mi,
-            Inst::lock_andw_mi(_) => Row::lock_andw_mi,
-            Inst::lock_andl_mi(_) => Row::lock_andl_mi,
-            Inst::lock_andq_mi_sxl(_) => Row::lock_andq_mi_sxl,
-            Inst::lock_andl_mi_sxb(_) => Row::lock_andl_mi_sxb,
-            Inst::lock_andq_mi_sxb(_) => Row::lock_andq_mi_sxb,
-            Inst::lock_andb_mr(_) => Row::lock_andb_mr,
-            Inst::lock_andw_mr(_) => Row::lock_andw_mr,
-            Inst::lock_andl_mr(_) => Row::lock_andl_mr,
-            Inst::lock_andq_mr(_) => Row::lock_andq_mr,
-            Inst::lock_subb_mi(_) => Row::lock_subb_mi,
-            Inst::lock_subw_mi(_) => Row::lock_subw_mi,
-            Inst::lock_subl_mi(_) => Row::lock_subl_mi,
-            Inst::lock_subq_mi_sxl(_) => Row::lock_subq_mi_sxl,
-            Inst::lock_subl_mi_sxb(_) => Row::lock_subl_mi_sxb,
-            Inst::lock_subq_mi_sxb(_) => Row::lock_subq_mi_sxb,
-            Inst::lock_subb_mr(_) => Row::lock_subb_mr,
-            Inst::lock_subw_mr(_) => Row::lock_subw_mr,
-            Inst::lock_subl_mr(_) => Row::lock_subl_mr,
-            Inst::lock_subq_mr(_) => Row::lock_subq_mr,
-            Inst::lock_xorb_mi(_) => Row::lock_xorb_mi,
-            Inst::lock_xorw_mi(_) => Row::lock_xorw_mi,
-            Inst::lock_xorl_mi(_) => Row::lock_xorl_mi,
-            Inst::lock_xorq_mi_sxl(_) => Row::lock_xorq_mi_sxl,
-            Inst::lock_xorl_mi_sxb(_) => Row::lock_xorl_mi_sxb,
-            Inst::lock_xorq_mi_sxb(_) => Row::lock_xorq_mi_sxb,
-            Inst::lock_xorb_mr(_) => Row::lock_xorb_mr,
-            Inst::lock_xorw_mr(_) => Row::lock_xorw_mr,
-            Inst::lock_xorl_mr(_) => Row::lock_xorl_mr,
-            Inst::lock_xorq_mr(_) => Row::lock_xorq_mr,
-            Inst::jmp_d8(_) => Row::jmp_d8,
-            Inst::jo_d8(_) => Row::jo_d8,
-            Inst::jno_d8(_) => Row::jno_d8,
-            Inst::jb_d8(_) => Row::jb_d8,
-            Inst::jae_d8(_) => Row::jae_d8,
-            Inst::je_d8(_) => Row::je_d8,
-            Inst::jne_d8(_) => Row::jne_d8,
-            Inst::jbe_d8(_) => Row::jbe_d8,
-            Inst::ja_d8(_) => Row::ja_d8,
-            Inst::js_d8(_) => Row::js_d8,
-            Inst::jns_d8(_) => Row::jns_d8,
-            Inst::jp_d8(_) => Row::jp_d8,
-            Inst::jnp_d8(_) => Row::jnp_d8,
-            Inst::jl_d8(_) => Row::jl_d8,
-            Inst::jge_d8(_) => Row::jge_d8,
-            Inst::jle_d8(_) => Row::jle_d8,
-            Inst::jg_d8(_) => Row::jg_d8,
-            Inst::callq_d(_) => Row::callq_d,
-            Inst::jmp_d32(_) => Row::jmp_d32,
-            Inst::jo_d32(_) => Row::jo_d32,
-            Inst::jno_d32(_) => Row::jno_d32,
-            Inst::jb_d32(_) => Row::jb_d32,
-            Inst::jae_d32(_) => Row::jae_d32,
-            Inst::je_d32(_) => Row::je_d32,
-            Inst::jne_d32(_) => Row::jne_d32,
-            Inst::jbe_d32(_) => Row::jbe_d32,
-            Inst::ja_d32(_) => Row::ja_d32,
-            Inst::js_d32(_) => Row::js_d32,
-            Inst::jns_d32(_) => Row::jns_d32,
-            Inst::jp_d32(_) => Row::jp_d32,
-            Inst::jnp_d32(_) => Row::jnp_d32,
-            Inst::jl_d32(_) => Row::jl_d32,
-            Inst::jge_d32(_) => Row::jge_d32,
-            Inst::jle_d32(_) => Row::jle_d32,
-            Inst::jg_d32(_) => Row::jg_d32,
-        }
-    }
-
-    fn fold_operands<T: FromOperands<R>>(&self) -> T {
-        self.fold_operands_locked()
+    #[tactic(auto, unfolding(crate::specs::Shaped::Shaped))]
+    #[inline(always)]
+    fn hand_to<T: Task<R, X>, X>(&self, to: &mut X) -> T::Answer {
+        self.hand_to_lock_add_or::<T, X>(to)
     }
 
     fn visit<V: RegisterVisitor<R>>(&mut self, visitor: &mut V) {

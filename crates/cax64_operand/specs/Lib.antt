@@ -3,6 +3,8 @@ pub mod Family
 pub mod Immediate
 pub mod OperandList
 pub mod Fold
+pub mod Made
+pub mod ItsRow
 pub mod NopRow
 pub mod Shape
 pub mod VisitSteps

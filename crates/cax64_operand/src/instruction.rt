@@ -9,6 +9,7 @@ ghost use Rattle.cax64_operand.specs.declared.operand.Operands.{Operands};
 
 use crate::fold::FromOperands;
 use crate::operand::Operands;
+use crate::task::{ItsRow, Made, Task};
 use crate::visitor::RegisterVisitor;
 use cax64_machine_code::row::Row;
 use cax64_register::Registers;
@@ -22,12 +23,11 @@ pub trait RowAndOperands {
 
     ghost operands_of: { Self → Operands Self.Family Self.Family.ReadGpr Self.Family.ReadWriteGpr Self.Family.WriteGpr Self.Family.ReadXmm Self.Family.ReadWriteXmm Self.Family.WriteXmm };
 
-    fn row(&self) -> Row
-        ensures { result ≡ row_of self.now };
-
-    /// What is wanted of the operands, made where they are listed.
-    fn fold_operands<T: FromOperands<Self::Family>>(&self) -> T
-        ensures value { result ≡ fold T.made_of_none T.made_with T.made_of_nop (operands_of self.now) }
+    /// Gives a task the row and what is made of the operands where they are listed. What holds instructions of several kinds
+    /// hands on the one within, so that each kind has code of its own, in which the row is known.
+    fn hand_to<T: Task<Self::Family, X>, X>(&self, to: &mut X) -> T::Answer
+        requires { HasShape (row_of self.now) (operands_of self.now) → T.asks (row_of self.now) (fold T.made_of_none T.made_with T.made_of_nop (operands_of self.now)) to.old }
+        ensures answers { T.answers (row_of self.now) (fold T.made_of_none T.made_with T.made_of_nop (operands_of self.now)) to.old to.new result }
         ensures shape { HasShape (row_of self.now) (operands_of self.now) };
 
     /// Goes over the registers, and puts what the visitor gives in their place. All else stays.
@@ -36,12 +36,29 @@ pub trait RowAndOperands {
         ensures row { row_of self.new ≡ row_of self.old };
 }
 
+/// The row of an instruction.
+#[inline(always)]
+pub fn row_of<I: RowAndOperands>(instruction: &I) -> Row
+    ensures { result ≡ I.row_of instruction.now }
+{
+    instruction.hand_to::<ItsRow, ()>(&mut ())
+}
+
+/// What is wanted of the operands, made where they are listed.
+#[inline(always)]
+pub fn fold_operands<I: RowAndOperands, T: FromOperands<I::Family>>(instruction: &I) -> T
+    ensures value { result ≡ fold T.made_of_none T.made_with T.made_of_nop (I.operands_of instruction.now) }
+    ensures shape { HasShape (I.row_of instruction.now) (I.operands_of instruction.now) }
+{
+    instruction.hand_to::<Made<T>, ()>(&mut ())
+}
+
 /// The operands of an instruction as a list.
 pub fn operands_of<I: RowAndOperands>(instruction: &I) -> Operands<I::Family>
     ensures value { result ≡ I.operands_of instruction.now }
     ensures shape { HasShape (I.row_of instruction.now) (I.operands_of instruction.now) }
 {
-    instruction.fold_operands()
+    fold_operands(instruction)
 }
 
 /// The family of plain numbers, for instructions without registers.

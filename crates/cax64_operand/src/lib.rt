@@ -8,12 +8,14 @@ pub mod instruction;
 pub mod laws;
 pub mod nop;
 pub mod operand;
+pub mod task;
 pub mod visitor;
 
 pub use family::RegisterFamily;
 pub use fold::{FromOperands, of_five, of_four, of_one, of_three, of_two};
 pub use immediate::{ImmOperand, Immediate};
-pub use instruction::{Numbers, RowAndOperands, operands_of};
+pub use instruction::{Numbers, RowAndOperands, fold_operands, operands_of, row_of};
 pub use nop::Nop;
 pub use operand::{Operand, Operands};
+pub use task::{ItsRow, Made, Task};
 pub use visitor::{RegisterVisitor, visit_two_gprs};

@@ -8,3 +8,6 @@ pub mod Runs
 pub mod PutRuns
 pub mod RecordedPuts
 pub mod Ends
+pub mod Roomier
+pub mod LowBytes
+pub mod Rests

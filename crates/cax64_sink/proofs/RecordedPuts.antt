@@ -2,8 +2,9 @@ use Rattle.std.proofs.Common.{◌≡◌, ℕ, ℤ, true, List, [], ◌∷◌, �
 use Rattle.cax64_sink.specs.Sink.{State}
 use Rattle.cax64_sink.specs.Room.{Room, HasRoom, endless, count}
 use Rattle.cax64_sink.specs.Run.{Went, Ran}
-use Rattle.cax64_sink.specs.Call.{put, Step}
+use Rattle.cax64_sink.specs.Call.{Action, put, trap, target, Step}
 use Rattle.cax64_sink.specs.Puts.{puts}
+use Rattle.cax64_sink.specs.Rest.{RanRoomier}
 use Rattle.cax64_sink.specs.declared.SinkError.{SinkError}
 use Rattle.cax64_sink.specs.declared.Notice.{Notice}
 use Rattle.cax64_sink.proofs.Rooms.{falls_by_none}
@@ -35,12 +36,51 @@ step_recorded bytes s t r told known room h = record {
   error = h.error;
 }
 
-went_recorded : (bytes : List ℕ) (s t : State) (r : Result (Unit {0}) SinkError) (told : List Notice) (known : ℕ → Option ℤ) (room : Room) → Went (puts bytes) s t r → Went (puts bytes) (recorded s told known room) (recorded t told known room) r
-unfolding Went
-went_recorded [] s t r told known room (ok, same) = (ok, ap (λ (x : State). recorded x told known room) same)
-went_recorded (byte ∷ bytes) s t r told known room (inl (u, h, rest)) = inl (recorded u told known room, step_recorded (byte ∷ []) s u (Ok tt) told known room h, went_recorded bytes u t r told known room rest)
-went_recorded (byte ∷ bytes) s t r told known room (inr (e, is, h)) = inr (e, is, step_recorded (byte ∷ []) s t (Err e) told known room h)
+-- actions that put bytes alone
+abbrev pub OnlyPuts : List Action → Type 0
+OnlyPuts [] = Unit {0}
+OnlyPuts (put bytes ∷ acts) = OnlyPuts acts
+OnlyPuts (trap code ∷ acts) = ⊥
+OnlyPuts (target place ∷ acts) = ⊥
 
--- bytes that are put one by one where another sink keeps them
+pub only_puts : (bytes : List ℕ) → OnlyPuts (puts bytes)
+only_puts [] = tt
+only_puts (byte ∷ bytes) = only_puts bytes
+
+pub only_puts_append : (acts more : List Action) → OnlyPuts acts → OnlyPuts more → OnlyPuts (acts ++ more)
+only_puts_append [] more h k = k
+only_puts_append (put bytes ∷ acts) more h k = only_puts_append acts more h k
+only_puts_append (trap code ∷ acts) more h k = absurd h
+only_puts_append (target place ∷ acts) more h k = absurd h
+
+went_recorded : (acts : List Action) (s t : State) (r : Result (Unit {0}) SinkError) (told : List Notice) (known : ℕ → Option ℤ) (room : Room) → OnlyPuts acts → Went acts s t r → Went acts (recorded s told known room) (recorded t told known room) r
+unfolding Went
+went_recorded [] s t r told known room only (ok, same) = (ok, ap (λ (x : State). recorded x told known room) same)
+went_recorded (put bytes ∷ acts) s t r told known room only (inl (u, h, rest)) = inl (recorded u told known room, step_recorded bytes s u (Ok tt) told known room h, went_recorded acts u t r told known room only rest)
+went_recorded (put bytes ∷ acts) s t r told known room only (inr (e, is, h)) = inr (e, is, step_recorded bytes s t (Err e) told known room h)
+went_recorded (trap code ∷ acts) s t r told known room only h = absurd only
+went_recorded (target place ∷ acts) s t r told known room only h = absurd only
+
+-- bytes that are put where another sink keeps them
+pub ran_recorded : {acts : List Action} {s t : State} {r : Result (Unit {0}) SinkError} (told : List Notice) (known : ℕ → Option ℤ) (room : Room) → OnlyPuts acts → Ran acts s t r → Ran acts (recorded s told known room) (recorded t told known room) r
+ran_recorded {acts} {s} {t} {r} told known room only h = record { went = went_recorded acts s t r told known room only h.went }
+
+-- the same of bytes that are put one by one
 pub puts_recorded : (bytes : List ℕ) {s t : State} {r : Result (Unit {0}) SinkError} (told : List Notice) (known : ℕ → Option ℤ) (room : Room) → Ran (puts bytes) s t r → Ran (puts bytes) (recorded s told known room) (recorded t told known room) r
-puts_recorded bytes {s} {t} {r} told known room h = record { went = went_recorded bytes s t r told known room h.went }
+puts_recorded bytes told known room h = ran_recorded told known room (only_puts bytes) h
+
+-- the same where the other one's room may be larger
+pub roomier_recorded : {acts : List Action} {s t : State} {r : Result (Unit {0}) SinkError} (told : List Notice) (known : ℕ → Option ℤ) (room : Room) → OnlyPuts acts → RanRoomier acts s t r → RanRoomier acts (recorded s told known room) (recorded t told known room) r
+roomier_recorded told known room only h = record {
+  between = recorded h.between told known room;
+  ran = ran_recorded told known room only h.ran;
+  roomier = record {
+    bytes = h.roomier.bytes;
+    notices = refl;
+    records = refl;
+    offsets = refl;
+    answers = h.roomier.answers;
+    byte_room = h.roomier.byte_room;
+    notice_room = falls_by_none room;
+  };
+}

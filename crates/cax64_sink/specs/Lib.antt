@@ -4,6 +4,7 @@ pub mod Sink
 pub mod Call
 pub mod Run
 pub mod Puts
+pub mod Rest
 pub mod Keeps
 pub mod Vec
 pub mod Recorder

@@ -1,11 +1,12 @@
 //! What an assembler writes to: the trait `CodeSink`, and three sinks.
 #![tactic(auto)]
 
-ghost use Rattle.std.specs.Prelude.{◌≡◌, ◌≤◌, ◌∷◌, [], take, IsSome, is_some, Some};
+ghost use Rattle.std.specs.Prelude.{◌≡◌, ◌≤◌, ◌∷◌, [], take, IsSome, IsTrue, is_some, Some};
 ghost use Rattle.std.specs.Int.{to_le_bytes, w16, w32, w64};
 ghost use Rattle.cax64_sink.specs.Sink.{State};
 ghost use Rattle.cax64_sink.specs.Call.{Step, put, trap, target};
 ghost use Rattle.cax64_sink.specs.Puts.{puts};
+ghost use Rattle.cax64_sink.specs.Rest.{RanRoomier, is_imm_len, rest_actions};
 ghost use Rattle.cax64_sink.specs.Run.{Ran};
 ghost use Rattle.cax64_sink.specs.TrapCode.{trap_text};
 ghost use Rattle.cax64_sink.specs.Message.{sink_error_text};
@@ -112,6 +113,30 @@ pub trait CodeSink {
     {
         for byte in &word.to_le_bytes()[..usize::from(count)] {
             self.put1(*byte)?;
+        }
+        Ok(())
+    }
+
+    /// Puts what stands at the end of an instruction: a displacement of four bytes, if there is
+    /// one, at once, and then so many lowest bytes of an immediate, 0, 1, 2 or 4, at once, the
+    /// lowest first.
+    ///
+    /// The room may be larger afterwards than these calls would leave it.
+    fn put_rest(&mut self, long: Option<u32>, imm: u32, imm_len: u8) -> Result<(), SinkError>
+        requires { IsTrue (is_imm_len imm_len) }
+        ensures { RanRoomier (rest_actions long imm_len imm) (state self.old) (state self.new) result }
+    {
+        if let Some(word) = long {
+            self.put4(word)?;
+        }
+        if imm_len == 1 {
+            return self.put1((imm % 0x100) as u8);
+        }
+        if imm_len == 2 {
+            return self.put2((imm % 0x1_0000) as u16);
+        }
+        if imm_len == 4 {
+            return self.put4(imm);
         }
         Ok(())
     }

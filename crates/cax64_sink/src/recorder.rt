@@ -131,6 +131,10 @@ impl<A: Allocator> CodeSink for Recorder<A> {
         self.code.put_low_bytes(word, count)
     }
 
+    fn put_rest(&mut self, long: Option<u32>, imm: u32, imm_len: u8) -> Result<(), SinkError> {
+        self.code.put_rest(long, imm, imm_len)
+    }
+
     fn add_trap(&mut self, code: TrapCode) -> Result<(), SinkError> {
         let at = self.code.len();
         self.told

@@ -1,4 +1,4 @@
-use Rattle.std.specs.Prelude.{◌≡◌, ℕ, ◌+◌, ◌*◌, ◌/◌, ◌^◌, if◌then◌else◌, Option, unwrap_or}
+use Rattle.std.specs.Prelude.{◌≡◌, ℕ, ◌+◌, ◌*◌, ◌/◌, ◌%◌, ◌^◌, if◌then◌else◌, Option, unwrap_or}
 use Rattle.cax64_machine_code.specs.Rows.{line_of}
 use Rattle.cax64_machine_code.specs.declared.line.Opcode.{Opcode}
 use Rattle.cax64_machine_code.specs.declared.row.Row.{Row}
@@ -18,4 +18,4 @@ key_of opcode digit = (if opcode.escape then 4096 else 0) + opcode.byte * 16 + u
 
 -- the key of a row's entry
 abbrev pub row_key : Row → ℕ
-row_key row = entry_of row / 2 ^ 17
+row_key row = entry_of row / 2 ^ 17 % 2 ^ 13

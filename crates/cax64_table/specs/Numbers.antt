@@ -1,6 +1,6 @@
--- What the bytes of a row's instructions take of its line as numbers, beside its opcode.
-use Rattle.std.specs.Prelude.{ℕ, ◌+◌, ◌*◌, ◌==◌, Bool, true, false, ◌||◌}
-use Rattle.std.specs.Int.{from_bool}
+-- What the bytes of a row's instructions take of its line.
+use Rattle.std.specs.Prelude.{ℕ, ◌==◌, Bool, true, false, ◌||◌, List, [], ◌∷◌, ◌++◌, take}
+use Rattle.std.specs.Int.{to_le_bytes, w64}
 use Rattle.cax64_machine_code.specs.declared.line.LegacySet.{LegacySet}
 use Rattle.cax64_machine_code.specs.declared.line.PrefixField.{PrefixField}
 use Rattle.cax64_machine_code.specs.declared.line.PrefixField.TheVariants.{LegacyField, VexField}
@@ -8,6 +8,7 @@ use Rattle.cax64_machine_code.specs.declared.line.RegField.TheVariants.{Digit, R
 use Rattle.cax64_machine_code.specs.declared.line.PlaceField.TheVariants.{Memory, RegisterOrMemory, Register8OrMemory}
 use Rattle.cax64_machine_code.specs.declared.line.TailField.{TailField}
 use Rattle.cax64_machine_code.specs.declared.line.TailField.TheVariants.{NoTail, Modrm}
+use Rattle.cax64_table.specs.declared.numbers.HeldBytes.{HeldBytes}
 
 -- the digit in the reg field, 0 where a register or nothing stands there
 abbrev pub digit_of : TailField → ℕ
@@ -33,11 +34,37 @@ uses_8bit_place (Modrm reg Register8OrMemory) = true
 abbrev pub has_8bit : TailField → Bool
 has_8bit tail = uses_8bit_reg tail || uses_8bit_place tail
 
--- the flags of F0, 66, F2 and F3 as a number, from the lowest bit
-abbrev pub set_number : LegacySet → ℕ
-set_number set = from_bool set.lock + 2 * from_bool set.operand_size + 4 * (from_bool set.repne + 2 * from_bool set.rep)
+abbrev pub is_vex : PrefixField → Bool
+is_vex (LegacyField set rex) = false
+is_vex (VexField pp map l vvvv) = true
 
--- the number is that of the legacy prefixes, where a row has any
-abbrev pub has_set_number : PrefixField → ℕ → Bool
-has_set_number (LegacyField set rex) number = number == set_number set
-has_set_number (VexField pp map l vvvv) number = true
+-- a byte, if it stands
+abbrev pub byte_when : Bool → ℕ → List ℕ
+byte_when true byte = byte ∷ []
+byte_when false byte = []
+
+-- legacy prefixes but REX
+abbrev pub set_bytes : LegacySet → List ℕ
+set_bytes set = byte_when set.lock 0xF0 ++ (byte_when set.operand_size 0x66 ++ (byte_when set.repne 0xF2 ++ byte_when set.rep 0xF3))
+
+-- the legacy prefixes but REX of a row, none beside VEX
+abbrev pub legacy_bytes_of : PrefixField → List ℕ
+legacy_bytes_of (LegacyField set rex) = set_bytes set
+legacy_bytes_of (VexField pp map l vvvv) = []
+
+-- the bytes that a word holds, the first one the lowest
+abbrev pub held : HeldBytes → List ℕ
+held bytes = take bytes.len (to_le_bytes w64 bytes.word)
+
+-- the number is the field pp, map or L, where a row has VEX
+abbrev pub has_pp : PrefixField → ℕ → Bool
+has_pp (LegacyField set rex) number = true
+has_pp (VexField pp map l vvvv) number = number == pp
+
+abbrev pub has_map : PrefixField → ℕ → Bool
+has_map (LegacyField set rex) number = true
+has_map (VexField pp map l vvvv) number = number == map
+
+abbrev pub has_l : PrefixField → ℕ → Bool
+has_l (LegacyField set rex) number = true
+has_l (VexField pp map l vvvv) number = number == l

@@ -4,7 +4,8 @@
 pub mod cursor;
 pub mod laws;
 pub mod lookup;
+pub mod numbers;
 mod packed;
 pub mod prefix;
 
-pub use packed::{LineNumbers, line, line_numbers};
+pub use packed::line;

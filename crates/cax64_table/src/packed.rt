@@ -1,12 +1,10 @@
-//! The table, one packed number for each row. Nothing outside this module knows how a row is packed.
+//! The table, one packed number for each row. Nothing but this module and `numbers` knows how a row is packed.
 
-ghost use Rattle.std.specs.Prelude.{◌≡◌, ◌≤◌, ◌/◌, ◌%◌, ◌^◌, ◌<◌, nat_lt, true, false, length, All, Contains, IsTrue};
+ghost use Rattle.std.specs.Prelude.{◌≡◌, ◌≤◌, ◌/◌, ◌%◌, ◌^◌, ◌<◌, nat_lt, true, false, length, All, Contains};
 ghost use Rattle.std.specs.Option.{ForSome};
 ghost use Rattle.std.specs.List.Sorted.{IsNonDecreasingBy, IsPartitionPoint};
-ghost use Rattle.cax64_machine_code.specs.Line.{imm_bytes};
 ghost use Rattle.cax64_machine_code.specs.Rows.{line_of};
-ghost use Rattle.cax64_table.specs.Numbers.{digit_of, has_8bit, has_set_number};
-ghost use Rattle.cax64_table.specs.Packed.{prefix_field, w_field, opcode_field, place_field, tail_field, imm_field, unpacked, flag_at, number_of, entry_of};
+ghost use Rattle.cax64_table.specs.Packed.{prefix_field, w_field, opcode_field, place_field, tail_field, imm_field, unpacked, bits_at, flag_at, number_of, entry_of};
 ghost use Rattle.cax64_table.specs.Key.{key_of, row_key, HasKey};
 ghost use Rattle.cax64_machine_code.specs.declared.row.Row.{Row};
 
@@ -16,168 +14,170 @@ use cax64_machine_code::line::{
 use cax64_machine_code::row::Row;
 
 /// From the lowest bit: the number of bytes of the immediate in three bits, its sign; two bits of W, 2 for either
-/// value; VEX; then lock, 66, F2, F3 and REX, or pp and map of two bits each, L and vvvv; the place in two bits, what
-/// stands in the reg field in two, the digit in four, 8 for none; the opcode byte and the escape. The rows, named beside
-/// their numbers, are in the order of [`Row`].
+/// value; VEX; then lock, 66, F2, F3, REX and whether a field is an 8-bit register, or pp and map of two bits each, L
+/// and vvvv; the place in two bits, what stands in the reg field in two, the digit in four, 8 for none; the opcode byte
+/// and the escape. Above them stand ready bytes, the first one the lowest: those of the opcode in sixteen bits, those
+/// of the legacy prefixes in sixteen, and in two bits how many prefixes there are. The rows, named beside their
+/// numbers, are in the order of [`Row`].
 const TABLE: [u64; 158] = [
-    0x1000_88a1, // lock_addb_mi
-    0x1020_8982, // lock_addw_mi
-    0x1020_8884, // lock_addl_mi
-    0x1020_889c, // lock_addq_mi_sxl
-    0x1060_8889, // lock_addl_mi_sxb
-    0x1060_8899, // lock_addq_mi_sxb
-    0x0011_08a0, // lock_addb_mr
-    0x0031_8980, // lock_addw_mr
-    0x0031_8880, // lock_addl_mr
-    0x0031_8890, // lock_addq_mr
-    0x1002_88a1, // lock_orb_mi
-    0x1022_8982, // lock_orw_mi
-    0x1022_8884, // lock_orl_mi
-    0x1022_889c, // lock_orq_mi_sxl
-    0x1062_8889, // lock_orl_mi_sxb
-    0x1062_8899, // lock_orq_mi_sxb
-    0x0111_08a0, // lock_orb_mr
-    0x0131_8980, // lock_orw_mr
-    0x0131_8880, // lock_orl_mr
-    0x0131_8890, // lock_orq_mr
-    0x1004_88a1, // lock_adcb_mi
-    0x1024_8982, // lock_adcw_mi
-    0x1024_8884, // lock_adcl_mi
-    0x1024_889c, // lock_adcq_mi_sxl
-    0x1064_8889, // lock_adcl_mi_sxb
-    0x1064_8899, // lock_adcq_mi_sxb
-    0x0211_08a0, // lock_adcb_mr
-    0x0231_8980, // lock_adcw_mr
-    0x0231_8880, // lock_adcl_mr
-    0x0231_8890, // lock_adcq_mr
-    0x1006_88a1, // lock_sbbb_mi
-    0x1026_8982, // lock_sbbw_mi
-    0x1026_8884, // lock_sbbl_mi
-    0x1026_889c, // lock_sbbq_mi_sxl
-    0x1066_8889, // lock_sbbl_mi_sxb
-    0x1066_8899, // lock_sbbq_mi_sxb
-    0x0311_08a0, // lock_sbbb_mr
-    0x0331_8980, // lock_sbbw_mr
-    0x0331_8880, // lock_sbbl_mr
-    0x0331_8890, // lock_sbbq_mr
-    0x1008_88a1, // lock_andb_mi
-    0x1028_8982, // lock_andw_mi
-    0x1028_8884, // lock_andl_mi
-    0x1028_889c, // lock_andq_mi_sxl
-    0x1068_8889, // lock_andl_mi_sxb
-    0x1068_8899, // lock_andq_mi_sxb
-    0x0411_08a0, // lock_andb_mr
-    0x0431_8980, // lock_andw_mr
-    0x0431_8880, // lock_andl_mr
-    0x0431_8890, // lock_andq_mr
-    0x100a_88a1, // lock_subb_mi
-    0x102a_8982, // lock_subw_mi
-    0x102a_8884, // lock_subl_mi
-    0x102a_889c, // lock_subq_mi_sxl
-    0x106a_8889, // lock_subl_mi_sxb
-    0x106a_8899, // lock_subq_mi_sxb
-    0x0511_08a0, // lock_subb_mr
-    0x0531_8980, // lock_subw_mr
-    0x0531_8880, // lock_subl_mr
-    0x0531_8890, // lock_subq_mr
-    0x100c_88a1, // lock_xorb_mi
-    0x102c_8982, // lock_xorw_mi
-    0x102c_8884, // lock_xorl_mi
-    0x102c_889c, // lock_xorq_mi_sxl
-    0x106c_8889, // lock_xorl_mi_sxb
-    0x106c_8899, // lock_xorq_mi_sxb
-    0x0611_08a0, // lock_xorb_mr
-    0x0631_8980, // lock_xorw_mr
-    0x0631_8880, // lock_xorl_mr
-    0x0631_8890, // lock_xorq_mr
-    0x3811_08a0, // lock_xaddb_mr
-    0x3831_8980, // lock_xaddw_mr
-    0x3831_8880, // lock_xaddl_mr
-    0x3831_8890, // lock_xaddq_mr
-    0x3611_08a0, // lock_cmpxchgb_mr
-    0x3631_8980, // lock_cmpxchgw_mr
-    0x3631_8880, // lock_cmpxchgl_mr
-    0x3631_8890, // lock_cmpxchgq_mr
-    0x38e2_8890, // lock_cmpxchg16b_m
-    0x10d1_0820, // xchgb_rm
-    0x10f1_8900, // xchgw_rm
-    0x10f1_8800, // xchgl_rm
-    0x10f1_8810, // xchgq_rm
-    0x1a00_c820, // rolb_m1
-    0x1a20_a900, // rolw_m1
-    0x1a20_a800, // roll_m1
-    0x1a20_a810, // rolq_m1
-    0x1a02_c820, // rorb_m1
-    0x1a22_a900, // rorw_m1
-    0x1a22_a800, // rorl_m1
-    0x1a22_a810, // rorq_m1
-    0x1a08_c820, // shlb_m1
-    0x1a28_a900, // shlw_m1
-    0x1a28_a800, // shll_m1
-    0x1a28_a810, // shlq_m1
-    0x1a0a_c820, // shrb_m1
-    0x1a2a_a900, // shrw_m1
-    0x1a2a_a800, // shrl_m1
-    0x1a2a_a810, // shrq_m1
-    0x1a0e_c820, // sarb_m1
-    0x1a2e_a900, // sarw_m1
-    0x1a2e_a800, // sarl_m1
-    0x1a2e_a810, // sarq_m1
-    0x1fe4_a820, // callq_m
-    0x1fe8_a820, // jmpq_m
-    0x2a91_a820, // andps_a
-    0x3851_a821, // cmpps_a
-    0x3851_a921, // cmppd_a
-    0x3851_ac21, // cmpss_a
-    0x3851_aa21, // cmpsd_a
-    0x0490_0821, // andb_i
-    0x1d10_082c, // callq_d
-    0x1d70_0829, // jmp_d8
-    0x1d30_082c, // jmp_d32
-    0x0e10_0829, // jo_d8
-    0x0e30_0829, // jno_d8
-    0x0e50_0829, // jb_d8
-    0x0e70_0829, // jae_d8
-    0x0e90_0829, // je_d8
-    0x0eb0_0829, // jne_d8
-    0x0ed0_0829, // jbe_d8
-    0x0ef0_0829, // ja_d8
-    0x0f10_0829, // js_d8
-    0x0f30_0829, // jns_d8
-    0x0f50_0829, // jp_d8
-    0x0f70_0829, // jnp_d8
-    0x0f90_0829, // jl_d8
-    0x0fb0_0829, // jge_d8
-    0x0fd0_0829, // jle_d8
-    0x0ff0_0829, // jg_d8
-    0x3010_082c, // jo_d32
-    0x3030_082c, // jno_d32
-    0x3050_082c, // jb_d32
-    0x3070_082c, // jae_d32
-    0x3090_082c, // je_d32
-    0x30b0_082c, // jne_d32
-    0x30d0_082c, // jbe_d32
-    0x30f0_082c, // ja_d32
-    0x3110_082c, // js_d32
-    0x3130_082c, // jns_d32
-    0x3150_082c, // jp_d32
-    0x3170_082c, // jnp_d32
-    0x3190_082c, // jl_d32
-    0x31b0_082c, // jge_d32
-    0x31d0_082c, // jle_d32
-    0x31f0_082c, // jg_d32
-    0x1851_b241, // vcmpps_b
-    0x1851_b2c1, // vcmppd_b
-    0x1851_b341, // vcmpss_b
-    0x1851_b3c1, // vcmpsd_b
-    0x0b51_a2c0, // vcvtpd2ps_a
-    0x1cd1_a2c0, // vcvttpd2dq_a
-    0x1ed1_b5c0, // mulxl_rvm
-    0x1ed1_b5d0, // mulxq_rvm
-    0x1210_0020, // nop_1b
-    0x1210_0120, // nop_2b
-    0x23e0_a800, // nopl_rm
-    0x23e0_a900, // nopw_rm
+    0x403c_0020_1000_88a1, // lock_addb_mi
+    0x99bc_0020_5020_8982, // lock_addw_mi
+    0x403c_0020_5020_8884, // lock_addl_mi
+    0x403c_0020_5020_889c, // lock_addq_mi_sxl
+    0x403c_0020_d060_8889, // lock_addl_mi_sxb
+    0x403c_0020_d060_8899, // lock_addq_mi_sxb
+    0x403c_0000_0011_18a0, // lock_addb_mr
+    0x99bc_0000_4031_8980, // lock_addw_mr
+    0x403c_0000_4031_8880, // lock_addl_mr
+    0x403c_0000_4031_8890, // lock_addq_mr
+    0x403c_0020_1002_88a1, // lock_orb_mi
+    0x99bc_0020_5022_8982, // lock_orw_mi
+    0x403c_0020_5022_8884, // lock_orl_mi
+    0x403c_0020_5022_889c, // lock_orq_mi_sxl
+    0x403c_0020_d062_8889, // lock_orl_mi_sxb
+    0x403c_0020_d062_8899, // lock_orq_mi_sxb
+    0x403c_0002_0111_18a0, // lock_orb_mr
+    0x99bc_0002_4131_8980, // lock_orw_mr
+    0x403c_0002_4131_8880, // lock_orl_mr
+    0x403c_0002_4131_8890, // lock_orq_mr
+    0x403c_0020_1004_88a1, // lock_adcb_mi
+    0x99bc_0020_5024_8982, // lock_adcw_mi
+    0x403c_0020_5024_8884, // lock_adcl_mi
+    0x403c_0020_5024_889c, // lock_adcq_mi_sxl
+    0x403c_0020_d064_8889, // lock_adcl_mi_sxb
+    0x403c_0020_d064_8899, // lock_adcq_mi_sxb
+    0x403c_0004_0211_18a0, // lock_adcb_mr
+    0x99bc_0004_4231_8980, // lock_adcw_mr
+    0x403c_0004_4231_8880, // lock_adcl_mr
+    0x403c_0004_4231_8890, // lock_adcq_mr
+    0x403c_0020_1006_88a1, // lock_sbbb_mi
+    0x99bc_0020_5026_8982, // lock_sbbw_mi
+    0x403c_0020_5026_8884, // lock_sbbl_mi
+    0x403c_0020_5026_889c, // lock_sbbq_mi_sxl
+    0x403c_0020_d066_8889, // lock_sbbl_mi_sxb
+    0x403c_0020_d066_8899, // lock_sbbq_mi_sxb
+    0x403c_0006_0311_18a0, // lock_sbbb_mr
+    0x99bc_0006_4331_8980, // lock_sbbw_mr
+    0x403c_0006_4331_8880, // lock_sbbl_mr
+    0x403c_0006_4331_8890, // lock_sbbq_mr
+    0x403c_0020_1008_88a1, // lock_andb_mi
+    0x99bc_0020_5028_8982, // lock_andw_mi
+    0x403c_0020_5028_8884, // lock_andl_mi
+    0x403c_0020_5028_889c, // lock_andq_mi_sxl
+    0x403c_0020_d068_8889, // lock_andl_mi_sxb
+    0x403c_0020_d068_8899, // lock_andq_mi_sxb
+    0x403c_0008_0411_18a0, // lock_andb_mr
+    0x99bc_0008_4431_8980, // lock_andw_mr
+    0x403c_0008_4431_8880, // lock_andl_mr
+    0x403c_0008_4431_8890, // lock_andq_mr
+    0x403c_0020_100a_88a1, // lock_subb_mi
+    0x99bc_0020_502a_8982, // lock_subw_mi
+    0x403c_0020_502a_8884, // lock_subl_mi
+    0x403c_0020_502a_889c, // lock_subq_mi_sxl
+    0x403c_0020_d06a_8889, // lock_subl_mi_sxb
+    0x403c_0020_d06a_8899, // lock_subq_mi_sxb
+    0x403c_000a_0511_18a0, // lock_subb_mr
+    0x99bc_000a_4531_8980, // lock_subw_mr
+    0x403c_000a_4531_8880, // lock_subl_mr
+    0x403c_000a_4531_8890, // lock_subq_mr
+    0x403c_0020_100c_88a1, // lock_xorb_mi
+    0x99bc_0020_502c_8982, // lock_xorw_mi
+    0x403c_0020_502c_8884, // lock_xorl_mi
+    0x403c_0020_502c_889c, // lock_xorq_mi_sxl
+    0x403c_0020_d06c_8889, // lock_xorl_mi_sxb
+    0x403c_0020_d06c_8899, // lock_xorq_mi_sxb
+    0x403c_000c_0611_18a0, // lock_xorb_mr
+    0x99bc_000c_4631_8980, // lock_xorw_mr
+    0x403c_000c_4631_8880, // lock_xorl_mr
+    0x403c_000c_4631_8890, // lock_xorq_mr
+    0x403c_3003_f811_18a0, // lock_xaddb_mr
+    0x99bc_3043_f831_8980, // lock_xaddw_mr
+    0x403c_3043_f831_8880, // lock_xaddl_mr
+    0x403c_3043_f831_8890, // lock_xaddq_mr
+    0x403c_2c03_f611_18a0, // lock_cmpxchgb_mr
+    0x99bc_2c43_f631_8980, // lock_cmpxchgw_mr
+    0x403c_2c43_f631_8880, // lock_cmpxchgl_mr
+    0x403c_2c43_f631_8890, // lock_cmpxchgq_mr
+    0x403c_31c3_f8e2_8890, // lock_cmpxchg16b_m
+    0x0000_0021_90d1_1820, // xchgb_rm
+    0x4019_8021_d0f1_8900, // xchgw_rm
+    0x0000_0021_d0f1_8800, // xchgl_rm
+    0x0000_0021_d0f1_8810, // xchgq_rm
+    0x0000_0034_1a00_d820, // rolb_m1
+    0x4019_8034_5a20_a900, // rolw_m1
+    0x0000_0034_5a20_a800, // roll_m1
+    0x0000_0034_5a20_a810, // rolq_m1
+    0x0000_0034_1a02_d820, // rorb_m1
+    0x4019_8034_5a22_a900, // rorw_m1
+    0x0000_0034_5a22_a800, // rorl_m1
+    0x0000_0034_5a22_a810, // rorq_m1
+    0x0000_0034_1a08_d820, // shlb_m1
+    0x4019_8034_5a28_a900, // shlw_m1
+    0x0000_0034_5a28_a800, // shll_m1
+    0x0000_0034_5a28_a810, // shlq_m1
+    0x0000_0034_1a0a_d820, // shrb_m1
+    0x4019_8034_5a2a_a900, // shrw_m1
+    0x0000_0034_5a2a_a800, // shrl_m1
+    0x0000_0034_5a2a_a810, // shrq_m1
+    0x0000_0034_1a0e_d820, // sarb_m1
+    0x4019_8034_5a2e_a900, // sarw_m1
+    0x0000_0034_5a2e_a800, // sarl_m1
+    0x0000_0034_5a2e_a810, // sarq_m1
+    0x0000_003f_dfe4_a820, // callq_m
+    0x0000_003f_dfe8_a820, // jmpq_m
+    0x0000_1503_ea91_a820, // andps_a
+    0x0000_3083_f851_a821, // cmpps_a
+    0x4019_b083_f851_a921, // cmppd_a
+    0x403c_f083_f851_ac21, // cmpss_a
+    0x403c_b083_f851_aa21, // cmpsd_a
+    0x0000_0009_0490_0821, // andb_i
+    0x0000_003a_1d10_082c, // callq_d
+    0x0000_003a_dd70_0829, // jmp_d8
+    0x0000_003a_5d30_082c, // jmp_d32
+    0x0000_001c_0e10_0829, // jo_d8
+    0x0000_001c_4e30_0829, // jno_d8
+    0x0000_001c_8e50_0829, // jb_d8
+    0x0000_001c_ce70_0829, // jae_d8
+    0x0000_001d_0e90_0829, // je_d8
+    0x0000_001d_4eb0_0829, // jne_d8
+    0x0000_001d_8ed0_0829, // jbe_d8
+    0x0000_001d_cef0_0829, // ja_d8
+    0x0000_001e_0f10_0829, // js_d8
+    0x0000_001e_4f30_0829, // jns_d8
+    0x0000_001e_8f50_0829, // jp_d8
+    0x0000_001e_cf70_0829, // jnp_d8
+    0x0000_001f_0f90_0829, // jl_d8
+    0x0000_001f_4fb0_0829, // jge_d8
+    0x0000_001f_8fd0_0829, // jle_d8
+    0x0000_001f_cff0_0829, // jg_d8
+    0x0000_2003_f010_082c, // jo_d32
+    0x0000_2043_f030_082c, // jno_d32
+    0x0000_2083_f050_082c, // jb_d32
+    0x0000_20c3_f070_082c, // jae_d32
+    0x0000_2103_f090_082c, // je_d32
+    0x0000_2143_f0b0_082c, // jne_d32
+    0x0000_2183_f0d0_082c, // jbe_d32
+    0x0000_21c3_f0f0_082c, // ja_d32
+    0x0000_2203_f110_082c, // js_d32
+    0x0000_2243_f130_082c, // jns_d32
+    0x0000_2283_f150_082c, // jp_d32
+    0x0000_22c3_f170_082c, // jnp_d32
+    0x0000_2303_f190_082c, // jl_d32
+    0x0000_2343_f1b0_082c, // jge_d32
+    0x0000_2383_f1d0_082c, // jle_d32
+    0x0000_23c3_f1f0_082c, // jg_d32
+    0x0000_0030_9851_b241, // vcmpps_b
+    0x0000_0030_9851_b2c1, // vcmppd_b
+    0x0000_0030_9851_b341, // vcmpss_b
+    0x0000_0030_9851_b3c1, // vcmpsd_b
+    0x0000_0016_8b51_a2c0, // vcvtpd2ps_a
+    0x0000_0039_9cd1_a2c0, // vcvttpd2dq_a
+    0x0000_003d_9ed1_b5c0, // mulxl_rvm
+    0x0000_003d_9ed1_b5d0, // mulxq_rvm
+    0x0000_0024_1210_0020, // nop_1b
+    0x4019_8024_1210_0120, // nop_2b
+    0x0000_07c3_e3e0_a800, // nopl_rm
+    0x4019_87c3_e3e0_a900, // nopw_rm
 ];
 
 /// The rows by their keys, which rise.
@@ -344,7 +344,7 @@ const BY_KEY: [Row; 158] = [
 
 /// So many bits, from this one up.
 #[inline(always)]
-fn bits(packed: u64, low: u32, width: u32) -> u8
+pub(crate) fn bits(packed: u64, low: u32, width: u32) -> u8
     requires low { low < 64 }
     requires width { width ≤ 8 }
     ensures { result ≡ packed / 2 ^ low % 2 ^ width }
@@ -353,11 +353,20 @@ fn bits(packed: u64, low: u32, width: u32) -> u8
 }
 
 #[inline(always)]
-fn flag(packed: u64, low: u32) -> bool
+pub(crate) fn flag(packed: u64, low: u32) -> bool
     requires { low < 64 }
     ensures { result ≡ flag_at packed low }
 {
     bits(packed, low, 1) == 1
+}
+
+/// Sixteen bits, from this one up.
+#[inline(always)]
+pub(crate) fn half_word(packed: u64, low: u32) -> u64
+    requires { low < 64 }
+    ensures { result ≡ bits_at packed low 16 }
+{
+    (packed >> low) % 0x1_0000
 }
 
 #[inline(always)]
@@ -466,7 +475,7 @@ fn number(row: Row) -> usize
 }
 
 #[inline(always)]
-fn entry(row: Row) -> u64
+pub(crate) fn entry(row: Row) -> u64
     ensures { result ≡ entry_of row }
 {
     TABLE[number(row)]
@@ -476,7 +485,7 @@ fn entry(row: Row) -> u64
 fn key(row: Row) -> u64
     ensures { result ≡ row_key row }
 {
-    entry(row) >> 17
+    (entry(row) >> 17) % 0x2000
 }
 
 /// How many rows have a key below this one.
@@ -525,36 +534,4 @@ pub fn line(row: Row) -> Line
     ensures { result ≡ line_of row }
 {
     unpack(entry(row))
-}
-
-/// What the bytes of a row's instructions take of its line as numbers, read without a look at its cases.
-#[derive(Clone, Copy)]
-pub struct LineNumbers {
-    /// The digit in the reg field, 0 where a register or nothing stands there.
-    pub digit: u8,
-    /// Whether the row has an 8-bit register field.
-    pub uses_8bit: bool,
-    /// How many bytes of immediate there are.
-    pub imm_len: u8,
-    /// The flags of F0, 66, F2 and F3, from the lowest bit, where the row has legacy prefixes. Below 16.
-    pub legacy: u8,
-}
-
-/// What the bytes of a row's instructions take of its line as numbers.
-#[inline(always)]
-pub fn line_numbers(row: Row) -> LineNumbers
-    ensures digit { result.digit ≡ digit_of (line_of row).tail }
-    ensures uses_8bit { result.uses_8bit ≡ has_8bit (line_of row).tail }
-    ensures imm_len { result.imm_len ≡ imm_bytes (line_of row).imm }
-    ensures legacy { IsTrue (has_set_number (line_of row).prefix result.legacy) }
-    ensures below { result.legacy < 16 }
-{
-    let packed = entry(row);
-    LineNumbers {
-        // Of 8, which stands for no digit, the lowest bits are 0.
-        digit: bits(packed, 17, 3),
-        uses_8bit: (bits(packed, 15, 2) == 2) | (bits(packed, 13, 2) == 2),
-        imm_len: bits(packed, 0, 3),
-        legacy: bits(packed, 7, 4),
-    }
 }

@@ -19,7 +19,7 @@ use cax64_address::text::Dialect;
 use cax64_feature::rows::{features, is_available};
 use cax64_feature::{AvailableFeatures, Features};
 use cax64_machine_code::row::Row;
-use cax64_operand::{Operands, RowAndOperands, operands_of};
+use cax64_operand::{Operands, RowAndOperands, operands_of, row_of};
 use cax64_register::Registers;
 use std::alloc::{AllocError, Allocator};
 
@@ -133,7 +133,7 @@ impl<I: RowAndOperands> InstructionText for I {
 
     fn mnemonic(&self) -> &'static str {
         let operands = operands_of(self);
-        mnemonic(self.row(), has_register(&operands))
+        mnemonic(row_of(self), has_register(&operands))
     }
 
     fn nameable(&self) -> bool {
@@ -143,14 +143,14 @@ impl<I: RowAndOperands> InstructionText for I {
 
     fn to_string<A: Allocator + Copy>(&self, alloc: A) -> Result<String<A>, AllocError> {
         let operands = operands_of(self);
-        text(alloc, Dialect::Att, self.row(), &operands)
+        text(alloc, Dialect::Att, row_of(self), &operands)
     }
 
     fn to_string_xed<A: Allocator + Copy>(
         &self,
         alloc: A,
     ) -> Result<Option<String<A>>, AllocError> {
-        let row = self.row();
+        let row = row_of(self);
         let operands = operands_of(self);
         if has_xed(row, &operands) {
             Ok(Some(text(alloc, Dialect::Xed, row, &operands)?))
@@ -160,10 +160,10 @@ impl<I: RowAndOperands> InstructionText for I {
     }
 
     fn features<A: Allocator + Copy>(&self, alloc: A) -> Result<Features<A>, AllocError> {
-        features(self.row(), alloc)
+        features(row_of(self), alloc)
     }
 
     fn is_available<F: AvailableFeatures>(&self, available: &F) -> bool {
-        is_available(self.row(), available)
+        is_available(row_of(self), available)
     }
 }

@@ -5,6 +5,7 @@ pub use Rattle.cax64_sink.specs.Sink
 pub use Rattle.cax64_sink.specs.Call
 pub use Rattle.cax64_sink.specs.Run
 pub use Rattle.cax64_sink.specs.Puts
+pub use Rattle.cax64_sink.specs.Rest
 pub use Rattle.cax64_sink.specs.Keeps
 pub use Rattle.cax64_sink.specs.Vec
 pub use Rattle.cax64_sink.specs.Recorder
@@ -48,6 +49,7 @@ pub use Rattle.cax64_operand.specs.Family
 pub use Rattle.cax64_operand.specs.Immediate
 pub use Rattle.cax64_operand.specs.OperandList
 pub use Rattle.cax64_operand.specs.Fold
+pub use Rattle.cax64_operand.specs.Made
 pub use Rattle.cax64_operand.specs.NopRow
 pub use Rattle.cax64_operand.specs.Shape
 pub use Rattle.cax64_operand.specs.VisitSteps

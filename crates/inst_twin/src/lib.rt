@@ -6,7 +6,7 @@ ghost use Rattle.std.specs.Prelude.{◌≡◌};
 ghost use Rattle.inst_twin.specs.Twin.{row_of, operands_of};
 
 use cax64_machine_code::row::Row;
-use cax64_operand::{FromOperands, RegisterVisitor, RowAndOperands};
+use cax64_operand::{RegisterVisitor, RowAndOperands, Task};
 use cax64_register::Registers;
 use lock_x::lock_xaddb_mr;
 use nop::nop_1b;
@@ -25,19 +25,11 @@ impl<R: Registers> RowAndOperands for Twin<R> {
 
     ghost operands_of = { operands_of };
 
-    #[tactic(auto, unfolding(crate::specs::Twin::row_of))]
-    fn row(&self) -> Row {
-        match self {
-            Twin::nop_1b(_) => Row::nop_1b,
-            Twin::lock_xaddb_mr(_) => Row::lock_xaddb_mr,
-        }
-    }
-
     #[tactic(auto, unfolding(crate::specs::Twin::row_of, crate::specs::Twin::operands_of))]
-    fn fold_operands<T: FromOperands<R>>(&self) -> T {
+    fn hand_to<T: Task<R, X>, X>(&self, to: &mut X) -> T::Answer {
         match self {
-            Twin::nop_1b(i) => i.fold_operands(),
-            Twin::lock_xaddb_mr(i) => i.fold_operands(),
+            Twin::nop_1b(i) => T::take(i.fold_operands(), Row::nop_1b, to),
+            Twin::lock_xaddb_mr(i) => i.hand_to::<T, X>(to),
         }
     }
 

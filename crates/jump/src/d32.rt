@@ -10,7 +10,7 @@ ghost use Rattle.jump.specs.Operands.{operands_callq_d, operands_jmp_d32, operan
 use cax64_immediate::Simm32;
 use cax64_machine_code::row::Row;
 use cax64_operand::{
-    FromOperands, Immediate, Numbers, Operand, RegisterVisitor, RowAndOperands, of_one,
+    FromOperands, Immediate, Numbers, Operand, RegisterVisitor, RowAndOperands, Task, of_one,
 };
 use cax64_register::Registers;
 
@@ -29,6 +29,7 @@ impl callq_d {
 
     /// What is made of the operands, for any family.
     #[tactic(auto, unfolding(cax64_machine_code::specs::Rows::line_of))]
+    #[inline(always)]
     pub fn fold_operands<R: Registers, T: FromOperands<R>>(&self) -> T
         ensures value { result ≡ fold T.made_of_none T.made_with T.made_of_nop (operands_callq_d {R = R} self.now) }
         ensures shape { HasShape {F = R.WriteXmm} row.callq_d (operands_callq_d {R = R} {A = R.ReadGpr} {B = R.ReadWriteGpr} {C = R.WriteGpr} {D = R.ReadXmm} {E = R.ReadWriteXmm} self.now) }
@@ -49,12 +50,9 @@ impl RowAndOperands for callq_d {
 
     ghost operands_of = { operands_callq_d };
 
-    fn row(&self) -> Row {
-        Row::callq_d
-    }
-
-    fn fold_operands<T: FromOperands<Numbers>>(&self) -> T {
-        callq_d::fold_operands(self)
+    #[inline(always)]
+    fn hand_to<T: Task<Numbers, X>, X>(&self, to: &mut X) -> T::Answer {
+        T::take(callq_d::fold_operands(self), Row::callq_d, to)
     }
 
     fn visit<V: RegisterVisitor<Numbers>>(&mut self, visitor: &mut V) {
@@ -77,6 +75,7 @@ impl jmp_d32 {
 
     /// What is made of the operands, for any family.
     #[tactic(auto, unfolding(cax64_machine_code::specs::Rows::line_of))]
+    #[inline(always)]
     pub fn fold_operands<R: Registers, T: FromOperands<R>>(&self) -> T
         ensures value { result ≡ fold T.made_of_none T.made_with T.made_of_nop (operands_jmp_d32 {R = R} self.now) }
         ensures shape { HasShape {F = R.WriteXmm} row.jmp_d32 (operands_jmp_d32 {R = R} {A = R.ReadGpr} {B = R.ReadWriteGpr} {C = R.WriteGpr} {D = R.ReadXmm} {E = R.ReadWriteXmm} self.now) }
@@ -97,12 +96,9 @@ impl RowAndOperands for jmp_d32 {
 
     ghost operands_of = { operands_jmp_d32 };
 
-    fn row(&self) -> Row {
-        Row::jmp_d32
-    }
-
-    fn fold_operands<T: FromOperands<Numbers>>(&self) -> T {
-        jmp_d32::fold_operands(self)
+    #[inline(always)]
+    fn hand_to<T: Task<Numbers, X>, X>(&self, to: &mut X) -> T::Answer {
+        T::take(jmp_d32::fold_operands(self), Row::jmp_d32, to)
     }
 
     fn visit<V: RegisterVisitor<Numbers>>(&mut self, visitor: &mut V) {
@@ -125,6 +121,7 @@ impl jo_d32 {
 
     /// What is made of the operands, for any family.
     #[tactic(auto, unfolding(cax64_machine_code::specs::Rows::line_of))]
+    #[inline(always)]
     pub fn fold_operands<R: Registers, T: FromOperands<R>>(&self) -> T
         ensures value { result ≡ fold T.made_of_none T.made_with T.made_of_nop (operands_jo_d32 {R = R} self.now) }
         ensures shape { HasShape {F = R.WriteXmm} row.jo_d32 (operands_jo_d32 {R = R} {A = R.ReadGpr} {B = R.ReadWriteGpr} {C = R.WriteGpr} {D = R.ReadXmm} {E = R.ReadWriteXmm} self.now) }
@@ -145,12 +142,9 @@ impl RowAndOperands for jo_d32 {
 
     ghost operands_of = { operands_jo_d32 };
 
-    fn row(&self) -> Row {
-        Row::jo_d32
-    }
-
-    fn fold_operands<T: FromOperands<Numbers>>(&self) -> T {
-        jo_d32::fold_operands(self)
+    #[inline(always)]
+    fn hand_to<T: Task<Numbers, X>, X>(&self, to: &mut X) -> T::Answer {
+        T::take(jo_d32::fold_operands(self), Row::jo_d32, to)
     }
 
     fn visit<V: RegisterVisitor<Numbers>>(&mut self, visitor: &mut V) {
@@ -173,6 +167,7 @@ impl jno_d32 {
 
     /// What is made of the operands, for any family.
     #[tactic(auto, unfolding(cax64_machine_code::specs::Rows::line_of))]
+    #[inline(always)]
     pub fn fold_operands<R: Registers, T: FromOperands<R>>(&self) -> T
         ensures value { result ≡ fold T.made_of_none T.made_with T.made_of_nop (operands_jno_d32 {R = R} self.now) }
         ensures shape { HasShape {F = R.WriteXmm} row.jno_d32 (operands_jno_d32 {R = R} {A = R.ReadGpr} {B = R.ReadWriteGpr} {C = R.WriteGpr} {D = R.ReadXmm} {E = R.ReadWriteXmm} self.now) }
@@ -193,12 +188,9 @@ impl RowAndOperands for jno_d32 {
 
     ghost operands_of = { operands_jno_d32 };
 
-    fn row(&self) -> Row {
-        Row::jno_d32
-    }
-
-    fn fold_operands<T: FromOperands<Numbers>>(&self) -> T {
-        jno_d32::fold_operands(self)
+    #[inline(always)]
+    fn hand_to<T: Task<Numbers, X>, X>(&self, to: &mut X) -> T::Answer {
+        T::take(jno_d32::fold_operands(self), Row::jno_d32, to)
     }
 
     fn visit<V: RegisterVisitor<Numbers>>(&mut self, visitor: &mut V) {
@@ -221,6 +213,7 @@ impl jb_d32 {
 
     /// What is made of the operands, for any family.
     #[tactic(auto, unfolding(cax64_machine_code::specs::Rows::line_of))]
+    #[inline(always)]
     pub fn fold_operands<R: Registers, T: FromOperands<R>>(&self) -> T
         ensures value { result ≡ fold T.made_of_none T.made_with T.made_of_nop (operands_jb_d32 {R = R} self.now) }
         ensures shape { HasShape {F = R.WriteXmm} row.jb_d32 (operands_jb_d32 {R = R} {A = R.ReadGpr} {B = R.ReadWriteGpr} {C = R.WriteGpr} {D = R.ReadXmm} {E = R.ReadWriteXmm} self.now) }
@@ -241,12 +234,9 @@ impl RowAndOperands for jb_d32 {
 
     ghost operands_of = { operands_jb_d32 };
 
-    fn row(&self) -> Row {
-        Row::jb_d32
-    }
-
-    fn fold_operands<T: FromOperands<Numbers>>(&self) -> T {
-        jb_d32::fold_operands(self)
+    #[inline(always)]
+    fn hand_to<T: Task<Numbers, X>, X>(&self, to: &mut X) -> T::Answer {
+        T::take(jb_d32::fold_operands(self), Row::jb_d32, to)
     }
 
     fn visit<V: RegisterVisitor<Numbers>>(&mut self, visitor: &mut V) {
@@ -269,6 +259,7 @@ impl jae_d32 {
 
     /// What is made of the operands, for any family.
     #[tactic(auto, unfolding(cax64_machine_code::specs::Rows::line_of))]
+    #[inline(always)]
     pub fn fold_operands<R: Registers, T: FromOperands<R>>(&self) -> T
         ensures value { result ≡ fold T.made_of_none T.made_with T.made_of_nop (operands_jae_d32 {R = R} self.now) }
         ensures shape { HasShape {F = R.WriteXmm} row.jae_d32 (operands_jae_d32 {R = R} {A = R.ReadGpr} {B = R.ReadWriteGpr} {C = R.WriteGpr} {D = R.ReadXmm} {E = R.ReadWriteXmm} self.now) }
@@ -289,12 +280,9 @@ impl RowAndOperands for jae_d32 {
 
     ghost operands_of = { operands_jae_d32 };
 
-    fn row(&self) -> Row {
-        Row::jae_d32
-    }
-
-    fn fold_operands<T: FromOperands<Numbers>>(&self) -> T {
-        jae_d32::fold_operands(self)
+    #[inline(always)]
+    fn hand_to<T: Task<Numbers, X>, X>(&self, to: &mut X) -> T::Answer {
+        T::take(jae_d32::fold_operands(self), Row::jae_d32, to)
     }
 
     fn visit<V: RegisterVisitor<Numbers>>(&mut self, visitor: &mut V) {
@@ -317,6 +305,7 @@ impl je_d32 {
 
     /// What is made of the operands, for any family.
     #[tactic(auto, unfolding(cax64_machine_code::specs::Rows::line_of))]
+    #[inline(always)]
     pub fn fold_operands<R: Registers, T: FromOperands<R>>(&self) -> T
         ensures value { result ≡ fold T.made_of_none T.made_with T.made_of_nop (operands_je_d32 {R = R} self.now) }
         ensures shape { HasShape {F = R.WriteXmm} row.je_d32 (operands_je_d32 {R = R} {A = R.ReadGpr} {B = R.ReadWriteGpr} {C = R.WriteGpr} {D = R.ReadXmm} {E = R.ReadWriteXmm} self.now) }
@@ -337,12 +326,9 @@ impl RowAndOperands for je_d32 {
 
     ghost operands_of = { operands_je_d32 };
 
-    fn row(&self) -> Row {
-        Row::je_d32
-    }
-
-    fn fold_operands<T: FromOperands<Numbers>>(&self) -> T {
-        je_d32::fold_operands(self)
+    #[inline(always)]
+    fn hand_to<T: Task<Numbers, X>, X>(&self, to: &mut X) -> T::Answer {
+        T::take(je_d32::fold_operands(self), Row::je_d32, to)
     }
 
     fn visit<V: RegisterVisitor<Numbers>>(&mut self, visitor: &mut V) {
@@ -365,6 +351,7 @@ impl jne_d32 {
 
     /// What is made of the operands, for any family.
     #[tactic(auto, unfolding(cax64_machine_code::specs::Rows::line_of))]
+    #[inline(always)]
     pub fn fold_operands<R: Registers, T: FromOperands<R>>(&self) -> T
         ensures value { result ≡ fold T.made_of_none T.made_with T.made_of_nop (operands_jne_d32 {R = R} self.now) }
         ensures shape { HasShape {F = R.WriteXmm} row.jne_d32 (operands_jne_d32 {R = R} {A = R.ReadGpr} {B = R.ReadWriteGpr} {C = R.WriteGpr} {D = R.ReadXmm} {E = R.ReadWriteXmm} self.now) }
@@ -385,12 +372,9 @@ impl RowAndOperands for jne_d32 {
 
     ghost operands_of = { operands_jne_d32 };
 
-    fn row(&self) -> Row {
-        Row::jne_d32
-    }
-
-    fn fold_operands<T: FromOperands<Numbers>>(&self) -> T {
-        jne_d32::fold_operands(self)
+    #[inline(always)]
+    fn hand_to<T: Task<Numbers, X>, X>(&self, to: &mut X) -> T::Answer {
+        T::take(jne_d32::fold_operands(self), Row::jne_d32, to)
     }
 
     fn visit<V: RegisterVisitor<Numbers>>(&mut self, visitor: &mut V) {
@@ -413,6 +397,7 @@ impl jbe_d32 {
 
     /// What is made of the operands, for any family.
     #[tactic(auto, unfolding(cax64_machine_code::specs::Rows::line_of))]
+    #[inline(always)]
     pub fn fold_operands<R: Registers, T: FromOperands<R>>(&self) -> T
         ensures value { result ≡ fold T.made_of_none T.made_with T.made_of_nop (operands_jbe_d32 {R = R} self.now) }
         ensures shape { HasShape {F = R.WriteXmm} row.jbe_d32 (operands_jbe_d32 {R = R} {A = R.ReadGpr} {B = R.ReadWriteGpr} {C = R.WriteGpr} {D = R.ReadXmm} {E = R.ReadWriteXmm} self.now) }
@@ -433,12 +418,9 @@ impl RowAndOperands for jbe_d32 {
 
     ghost operands_of = { operands_jbe_d32 };
 
-    fn row(&self) -> Row {
-        Row::jbe_d32
-    }
-
-    fn fold_operands<T: FromOperands<Numbers>>(&self) -> T {
-        jbe_d32::fold_operands(self)
+    #[inline(always)]
+    fn hand_to<T: Task<Numbers, X>, X>(&self, to: &mut X) -> T::Answer {
+        T::take(jbe_d32::fold_operands(self), Row::jbe_d32, to)
     }
 
     fn visit<V: RegisterVisitor<Numbers>>(&mut self, visitor: &mut V) {
@@ -461,6 +443,7 @@ impl ja_d32 {
 
     /// What is made of the operands, for any family.
     #[tactic(auto, unfolding(cax64_machine_code::specs::Rows::line_of))]
+    #[inline(always)]
     pub fn fold_operands<R: Registers, T: FromOperands<R>>(&self) -> T
         ensures value { result ≡ fold T.made_of_none T.made_with T.made_of_nop (operands_ja_d32 {R = R} self.now) }
         ensures shape { HasShape {F = R.WriteXmm} row.ja_d32 (operands_ja_d32 {R = R} {A = R.ReadGpr} {B = R.ReadWriteGpr} {C = R.WriteGpr} {D = R.ReadXmm} {E = R.ReadWriteXmm} self.now) }
@@ -481,12 +464,9 @@ impl RowAndOperands for ja_d32 {
 
     ghost operands_of = { operands_ja_d32 };
 
-    fn row(&self) -> Row {
-        Row::ja_d32
-    }
-
-    fn fold_operands<T: FromOperands<Numbers>>(&self) -> T {
-        ja_d32::fold_operands(self)
+    #[inline(always)]
+    fn hand_to<T: Task<Numbers, X>, X>(&self, to: &mut X) -> T::Answer {
+        T::take(ja_d32::fold_operands(self), Row::ja_d32, to)
     }
 
     fn visit<V: RegisterVisitor<Numbers>>(&mut self, visitor: &mut V) {
@@ -509,6 +489,7 @@ impl js_d32 {
 
     /// What is made of the operands, for any family.
     #[tactic(auto, unfolding(cax64_machine_code::specs::Rows::line_of))]
+    #[inline(always)]
     pub fn fold_operands<R: Registers, T: FromOperands<R>>(&self) -> T
         ensures value { result ≡ fold T.made_of_none T.made_with T.made_of_nop (operands_js_d32 {R = R} self.now) }
         ensures shape { HasShape {F = R.WriteXmm} row.js_d32 (operands_js_d32 {R = R} {A = R.ReadGpr} {B = R.ReadWriteGpr} {C = R.WriteGpr} {D = R.ReadXmm} {E = R.ReadWriteXmm} self.now) }
@@ -529,12 +510,9 @@ impl RowAndOperands for js_d32 {
 
     ghost operands_of = { operands_js_d32 };
 
-    fn row(&self) -> Row {
-        Row::js_d32
-    }
-
-    fn fold_operands<T: FromOperands<Numbers>>(&self) -> T {
-        js_d32::fold_operands(self)
+    #[inline(always)]
+    fn hand_to<T: Task<Numbers, X>, X>(&self, to: &mut X) -> T::Answer {
+        T::take(js_d32::fold_operands(self), Row::js_d32, to)
     }
 
     fn visit<V: RegisterVisitor<Numbers>>(&mut self, visitor: &mut V) {
@@ -557,6 +535,7 @@ impl jns_d32 {
 
     /// What is made of the operands, for any family.
     #[tactic(auto, unfolding(cax64_machine_code::specs::Rows::line_of))]
+    #[inline(always)]
     pub fn fold_operands<R: Registers, T: FromOperands<R>>(&self) -> T
         ensures value { result ≡ fold T.made_of_none T.made_with T.made_of_nop (operands_jns_d32 {R = R} self.now) }
         ensures shape { HasShape {F = R.WriteXmm} row.jns_d32 (operands_jns_d32 {R = R} {A = R.ReadGpr} {B = R.ReadWriteGpr} {C = R.WriteGpr} {D = R.ReadXmm} {E = R.ReadWriteXmm} self.now) }
@@ -577,12 +556,9 @@ impl RowAndOperands for jns_d32 {
 
     ghost operands_of = { operands_jns_d32 };
 
-    fn row(&self) -> Row {
-        Row::jns_d32
-    }
-
-    fn fold_operands<T: FromOperands<Numbers>>(&self) -> T {
-        jns_d32::fold_operands(self)
+    #[inline(always)]
+    fn hand_to<T: Task<Numbers, X>, X>(&self, to: &mut X) -> T::Answer {
+        T::take(jns_d32::fold_operands(self), Row::jns_d32, to)
     }
 
     fn visit<V: RegisterVisitor<Numbers>>(&mut self, visitor: &mut V) {
@@ -605,6 +581,7 @@ impl jp_d32 {
 
     /// What is made of the operands, for any family.
     #[tactic(auto, unfolding(cax64_machine_code::specs::Rows::line_of))]
+    #[inline(always)]
     pub fn fold_operands<R: Registers, T: FromOperands<R>>(&self) -> T
         ensures value { result ≡ fold T.made_of_none T.made_with T.made_of_nop (operands_jp_d32 {R = R} self.now) }
         ensures shape { HasShape {F = R.WriteXmm} row.jp_d32 (operands_jp_d32 {R = R} {A = R.ReadGpr} {B = R.ReadWriteGpr} {C = R.WriteGpr} {D = R.ReadXmm} {E = R.ReadWriteXmm} self.now) }
@@ -625,12 +602,9 @@ impl RowAndOperands for jp_d32 {
 
     ghost operands_of = { operands_jp_d32 };
 
-    fn row(&self) -> Row {
-        Row::jp_d32
-    }
-
-    fn fold_operands<T: FromOperands<Numbers>>(&self) -> T {
-        jp_d32::fold_operands(self)
+    #[inline(always)]
+    fn hand_to<T: Task<Numbers, X>, X>(&self, to: &mut X) -> T::Answer {
+        T::take(jp_d32::fold_operands(self), Row::jp_d32, to)
     }
 
     fn visit<V: RegisterVisitor<Numbers>>(&mut self, visitor: &mut V) {
@@ -653,6 +627,7 @@ impl jnp_d32 {
 
     /// What is made of the operands, for any family.
     #[tactic(auto, unfolding(cax64_machine_code::specs::Rows::line_of))]
+    #[inline(always)]
     pub fn fold_operands<R: Registers, T: FromOperands<R>>(&self) -> T
         ensures value { result ≡ fold T.made_of_none T.made_with T.made_of_nop (operands_jnp_d32 {R = R} self.now) }
         ensures shape { HasShape {F = R.WriteXmm} row.jnp_d32 (operands_jnp_d32 {R = R} {A = R.ReadGpr} {B = R.ReadWriteGpr} {C = R.WriteGpr} {D = R.ReadXmm} {E = R.ReadWriteXmm} self.now) }
@@ -673,12 +648,9 @@ impl RowAndOperands for jnp_d32 {
 
     ghost operands_of = { operands_jnp_d32 };
 
-    fn row(&self) -> Row {
-        Row::jnp_d32
-    }
-
-    fn fold_operands<T: FromOperands<Numbers>>(&self) -> T {
-        jnp_d32::fold_operands(self)
+    #[inline(always)]
+    fn hand_to<T: Task<Numbers, X>, X>(&self, to: &mut X) -> T::Answer {
+        T::take(jnp_d32::fold_operands(self), Row::jnp_d32, to)
     }
 
     fn visit<V: RegisterVisitor<Numbers>>(&mut self, visitor: &mut V) {
@@ -701,6 +673,7 @@ impl jl_d32 {
 
     /// What is made of the operands, for any family.
     #[tactic(auto, unfolding(cax64_machine_code::specs::Rows::line_of))]
+    #[inline(always)]
     pub fn fold_operands<R: Registers, T: FromOperands<R>>(&self) -> T
         ensures value { result ≡ fold T.made_of_none T.made_with T.made_of_nop (operands_jl_d32 {R = R} self.now) }
         ensures shape { HasShape {F = R.WriteXmm} row.jl_d32 (operands_jl_d32 {R = R} {A = R.ReadGpr} {B = R.ReadWriteGpr} {C = R.WriteGpr} {D = R.ReadXmm} {E = R.ReadWriteXmm} self.now) }
@@ -721,12 +694,9 @@ impl RowAndOperands for jl_d32 {
 
     ghost operands_of = { operands_jl_d32 };
 
-    fn row(&self) -> Row {
-        Row::jl_d32
-    }
-
-    fn fold_operands<T: FromOperands<Numbers>>(&self) -> T {
-        jl_d32::fold_operands(self)
+    #[inline(always)]
+    fn hand_to<T: Task<Numbers, X>, X>(&self, to: &mut X) -> T::Answer {
+        T::take(jl_d32::fold_operands(self), Row::jl_d32, to)
     }
 
     fn visit<V: RegisterVisitor<Numbers>>(&mut self, visitor: &mut V) {
@@ -749,6 +719,7 @@ impl jge_d32 {
 
     /// What is made of the operands, for any family.
     #[tactic(auto, unfolding(cax64_machine_code::specs::Rows::line_of))]
+    #[inline(always)]
     pub fn fold_operands<R: Registers, T: FromOperands<R>>(&self) -> T
         ensures value { result ≡ fold T.made_of_none T.made_with T.made_of_nop (operands_jge_d32 {R = R} self.now) }
         ensures shape { HasShape {F = R.WriteXmm} row.jge_d32 (operands_jge_d32 {R = R} {A = R.ReadGpr} {B = R.ReadWriteGpr} {C = R.WriteGpr} {D = R.ReadXmm} {E = R.ReadWriteXmm} self.now) }
@@ -769,12 +740,9 @@ impl RowAndOperands for jge_d32 {
 
     ghost operands_of = { operands_jge_d32 };
 
-    fn row(&self) -> Row {
-        Row::jge_d32
-    }
-
-    fn fold_operands<T: FromOperands<Numbers>>(&self) -> T {
-        jge_d32::fold_operands(self)
+    #[inline(always)]
+    fn hand_to<T: Task<Numbers, X>, X>(&self, to: &mut X) -> T::Answer {
+        T::take(jge_d32::fold_operands(self), Row::jge_d32, to)
     }
 
     fn visit<V: RegisterVisitor<Numbers>>(&mut self, visitor: &mut V) {
@@ -797,6 +765,7 @@ impl jle_d32 {
 
     /// What is made of the operands, for any family.
     #[tactic(auto, unfolding(cax64_machine_code::specs::Rows::line_of))]
+    #[inline(always)]
     pub fn fold_operands<R: Registers, T: FromOperands<R>>(&self) -> T
         ensures value { result ≡ fold T.made_of_none T.made_with T.made_of_nop (operands_jle_d32 {R = R} self.now) }
         ensures shape { HasShape {F = R.WriteXmm} row.jle_d32 (operands_jle_d32 {R = R} {A = R.ReadGpr} {B = R.ReadWriteGpr} {C = R.WriteGpr} {D = R.ReadXmm} {E = R.ReadWriteXmm} self.now) }
@@ -817,12 +786,9 @@ impl RowAndOperands for jle_d32 {
 
     ghost operands_of = { operands_jle_d32 };
 
-    fn row(&self) -> Row {
-        Row::jle_d32
-    }
-
-    fn fold_operands<T: FromOperands<Numbers>>(&self) -> T {
-        jle_d32::fold_operands(self)
+    #[inline(always)]
+    fn hand_to<T: Task<Numbers, X>, X>(&self, to: &mut X) -> T::Answer {
+        T::take(jle_d32::fold_operands(self), Row::jle_d32, to)
     }
 
     fn visit<V: RegisterVisitor<Numbers>>(&mut self, visitor: &mut V) {
@@ -845,6 +811,7 @@ impl jg_d32 {
 
     /// What is made of the operands, for any family.
     #[tactic(auto, unfolding(cax64_machine_code::specs::Rows::line_of))]
+    #[inline(always)]
     pub fn fold_operands<R: Registers, T: FromOperands<R>>(&self) -> T
         ensures value { result ≡ fold T.made_of_none T.made_with T.made_of_nop (operands_jg_d32 {R = R} self.now) }
         ensures shape { HasShape {F = R.WriteXmm} row.jg_d32 (operands_jg_d32 {R = R} {A = R.ReadGpr} {B = R.ReadWriteGpr} {C = R.WriteGpr} {D = R.ReadXmm} {E = R.ReadWriteXmm} self.now) }
@@ -865,12 +832,9 @@ impl RowAndOperands for jg_d32 {
 
     ghost operands_of = { operands_jg_d32 };
 
-    fn row(&self) -> Row {
-        Row::jg_d32
-    }
-
-    fn fold_operands<T: FromOperands<Numbers>>(&self) -> T {
-        jg_d32::fold_operands(self)
+    #[inline(always)]
+    fn hand_to<T: Task<Numbers, X>, X>(&self, to: &mut X) -> T::Answer {
+        T::take(jg_d32::fold_operands(self), Row::jg_d32, to)
     }
 
     fn visit<V: RegisterVisitor<Numbers>>(&mut self, visitor: &mut V) {

@@ -9,7 +9,7 @@ ghost use Rattle.cax64_register.specs.declared.gpr.Size.TheVariants.{Quadword};
 
 use cax64_address::operand::GprMem;
 use cax64_machine_code::row::Row;
-use cax64_operand::{FromOperands, Operand, RegisterVisitor, RowAndOperands, of_one};
+use cax64_operand::{Operand, RegisterVisitor, RowAndOperands, Task, of_one};
 use cax64_register::{Registers, Size};
 use std::marker::Model;
 
@@ -40,13 +40,14 @@ impl<R: Registers> RowAndOperands for callq_m<R> {
 
     ghost operands_of = { λ i. i };
 
-    fn row(&self) -> Row {
-        Row::callq_m
-    }
-
     #[tactic(auto, unfolding(cax64_machine_code::specs::Rows::line_of))]
-    fn fold_operands<T: FromOperands<R>>(&self) -> T {
-        of_one(Operand::ReadGprMem(self.rm64, Size::Quadword))
+    #[inline(always)]
+    fn hand_to<T: Task<R, X>, X>(&self, to: &mut X) -> T::Answer {
+        T::take(
+            of_one(Operand::ReadGprMem(self.rm64, Size::Quadword)),
+            Row::callq_m,
+            to,
+        )
     }
 
     fn visit<V: RegisterVisitor<R>>(&mut self, visitor: &mut V) {
@@ -81,13 +82,14 @@ impl<R: Registers> RowAndOperands for jmpq_m<R> {
 
     ghost operands_of = { λ i. i };
 
-    fn row(&self) -> Row {
-        Row::jmpq_m
-    }
-
     #[tactic(auto, unfolding(cax64_machine_code::specs::Rows::line_of))]
-    fn fold_operands<T: FromOperands<R>>(&self) -> T {
-        of_one(Operand::ReadGprMem(self.rm64, Size::Quadword))
+    #[inline(always)]
+    fn hand_to<T: Task<R, X>, X>(&self, to: &mut X) -> T::Answer {
+        T::take(
+            of_one(Operand::ReadGprMem(self.rm64, Size::Quadword)),
+            Row::jmpq_m,
+            to,
+        )
     }
 
     fn visit<V: RegisterVisitor<R>>(&mut self, visitor: &mut V) {

@@ -12,7 +12,7 @@ ghost use Rattle.cax64_register.specs.declared.gpr.Size.TheVariants.{Byte, Doubl
 use cax64_address::amode::Amode;
 use cax64_immediate::{Extension, Imm8, Imm16, Imm32, Simm8, Simm32};
 use cax64_machine_code::row::Row;
-use cax64_operand::{FromOperands, Immediate, Operand, RegisterVisitor, RowAndOperands, of_two};
+use cax64_operand::{Immediate, Operand, RegisterVisitor, RowAndOperands, Task, of_two};
 use cax64_register::{Gpr, Registers, Size};
 use std::marker::Model;
 
@@ -44,15 +44,16 @@ impl<R: Registers> RowAndOperands for lock_orb_mi<R> {
 
     ghost operands_of = { λ i. i };
 
-    fn row(&self) -> Row {
-        Row::lock_orb_mi
-    }
-
     #[tactic(auto, unfolding(cax64_machine_code::specs::Rows::line_of))]
-    fn fold_operands<T: FromOperands<R>>(&self) -> T {
-        of_two(
-            Operand::ReadAmode(self.m8),
-            Operand::Imm(Immediate::Imm8(self.imm8.value())),
+    #[inline(always)]
+    fn hand_to<T: Task<R, X>, X>(&self, to: &mut X) -> T::Answer {
+        T::take(
+            of_two(
+                Operand::ReadAmode(self.m8),
+                Operand::Imm(Immediate::Imm8(self.imm8.value())),
+            ),
+            Row::lock_orb_mi,
+            to,
         )
     }
 
@@ -89,15 +90,16 @@ impl<R: Registers> RowAndOperands for lock_orw_mi<R> {
 
     ghost operands_of = { λ i. i };
 
-    fn row(&self) -> Row {
-        Row::lock_orw_mi
-    }
-
     #[tactic(auto, unfolding(cax64_machine_code::specs::Rows::line_of))]
-    fn fold_operands<T: FromOperands<R>>(&self) -> T {
-        of_two(
-            Operand::ReadAmode(self.m16),
-            Operand::Imm(Immediate::Imm16(self.imm16.value())),
+    #[inline(always)]
+    fn hand_to<T: Task<R, X>, X>(&self, to: &mut X) -> T::Answer {
+        T::take(
+            of_two(
+                Operand::ReadAmode(self.m16),
+                Operand::Imm(Immediate::Imm16(self.imm16.value())),
+            ),
+            Row::lock_orw_mi,
+            to,
         )
     }
 
@@ -134,15 +136,16 @@ impl<R: Registers> RowAndOperands for lock_orl_mi<R> {
 
     ghost operands_of = { λ i. i };
 
-    fn row(&self) -> Row {
-        Row::lock_orl_mi
-    }
-
     #[tactic(auto, unfolding(cax64_machine_code::specs::Rows::line_of))]
-    fn fold_operands<T: FromOperands<R>>(&self) -> T {
-        of_two(
-            Operand::ReadAmode(self.m32),
-            Operand::Imm(Immediate::Imm32(self.imm32.value())),
+    #[inline(always)]
+    fn hand_to<T: Task<R, X>, X>(&self, to: &mut X) -> T::Answer {
+        T::take(
+            of_two(
+                Operand::ReadAmode(self.m32),
+                Operand::Imm(Immediate::Imm32(self.imm32.value())),
+            ),
+            Row::lock_orl_mi,
+            to,
         )
     }
 
@@ -179,15 +182,16 @@ impl<R: Registers> RowAndOperands for lock_orq_mi_sxl<R> {
 
     ghost operands_of = { λ i. i };
 
-    fn row(&self) -> Row {
-        Row::lock_orq_mi_sxl
-    }
-
     #[tactic(auto, unfolding(cax64_machine_code::specs::Rows::line_of))]
-    fn fold_operands<T: FromOperands<R>>(&self) -> T {
-        of_two(
-            Operand::ReadAmode(self.m64),
-            Operand::Imm(Immediate::Simm32(self.imm32.value(), Extension::SignExtendQuad)),
+    #[inline(always)]
+    fn hand_to<T: Task<R, X>, X>(&self, to: &mut X) -> T::Answer {
+        T::take(
+            of_two(
+                Operand::ReadAmode(self.m64),
+                Operand::Imm(Immediate::Simm32(self.imm32.value(), Extension::SignExtendQuad)),
+            ),
+            Row::lock_orq_mi_sxl,
+            to,
         )
     }
 
@@ -224,15 +228,16 @@ impl<R: Registers> RowAndOperands for lock_orl_mi_sxb<R> {
 
     ghost operands_of = { λ i. i };
 
-    fn row(&self) -> Row {
-        Row::lock_orl_mi_sxb
-    }
-
     #[tactic(auto, unfolding(cax64_machine_code::specs::Rows::line_of))]
-    fn fold_operands<T: FromOperands<R>>(&self) -> T {
-        of_two(
-            Operand::ReadAmode(self.m32),
-            Operand::Imm(Immediate::Simm8(self.imm8.value(), Extension::SignExtendLong)),
+    #[inline(always)]
+    fn hand_to<T: Task<R, X>, X>(&self, to: &mut X) -> T::Answer {
+        T::take(
+            of_two(
+                Operand::ReadAmode(self.m32),
+                Operand::Imm(Immediate::Simm8(self.imm8.value(), Extension::SignExtendLong)),
+            ),
+            Row::lock_orl_mi_sxb,
+            to,
         )
     }
 
@@ -269,15 +274,16 @@ impl<R: Registers> RowAndOperands for lock_orq_mi_sxb<R> {
 
     ghost operands_of = { λ i. i };
 
-    fn row(&self) -> Row {
-        Row::lock_orq_mi_sxb
-    }
-
     #[tactic(auto, unfolding(cax64_machine_code::specs::Rows::line_of))]
-    fn fold_operands<T: FromOperands<R>>(&self) -> T {
-        of_two(
-            Operand::ReadAmode(self.m64),
-            Operand::Imm(Immediate::Simm8(self.imm8.value(), Extension::SignExtendQuad)),
+    #[inline(always)]
+    fn hand_to<T: Task<R, X>, X>(&self, to: &mut X) -> T::Answer {
+        T::take(
+            of_two(
+                Operand::ReadAmode(self.m64),
+                Operand::Imm(Immediate::Simm8(self.imm8.value(), Extension::SignExtendQuad)),
+            ),
+            Row::lock_orq_mi_sxb,
+            to,
         )
     }
 
@@ -314,15 +320,16 @@ impl<R: Registers> RowAndOperands for lock_orb_mr<R> {
 
     ghost operands_of = { λ i. i };
 
-    fn row(&self) -> Row {
-        Row::lock_orb_mr
-    }
-
     #[tactic(auto, unfolding(cax64_machine_code::specs::Rows::line_of))]
-    fn fold_operands<T: FromOperands<R>>(&self) -> T {
-        of_two(
-            Operand::ReadAmode(self.m8),
-            Operand::ReadGpr(*self.r8.as_ref(), Size::Byte),
+    #[inline(always)]
+    fn hand_to<T: Task<R, X>, X>(&self, to: &mut X) -> T::Answer {
+        T::take(
+            of_two(
+                Operand::ReadAmode(self.m8),
+                Operand::ReadGpr(*self.r8.as_ref(), Size::Byte),
+            ),
+            Row::lock_orb_mr,
+            to,
         )
     }
 
@@ -360,15 +367,16 @@ impl<R: Registers> RowAndOperands for lock_orw_mr<R> {
 
     ghost operands_of = { λ i. i };
 
-    fn row(&self) -> Row {
-        Row::lock_orw_mr
-    }
-
     #[tactic(auto, unfolding(cax64_machine_code::specs::Rows::line_of))]
-    fn fold_operands<T: FromOperands<R>>(&self) -> T {
-        of_two(
-            Operand::ReadAmode(self.m16),
-            Operand::ReadGpr(*self.r16.as_ref(), Size::Word),
+    #[inline(always)]
+    fn hand_to<T: Task<R, X>, X>(&self, to: &mut X) -> T::Answer {
+        T::take(
+            of_two(
+                Operand::ReadAmode(self.m16),
+                Operand::ReadGpr(*self.r16.as_ref(), Size::Word),
+            ),
+            Row::lock_orw_mr,
+            to,
         )
     }
 
@@ -406,15 +414,16 @@ impl<R: Registers> RowAndOperands for lock_orl_mr<R> {
 
     ghost operands_of = { λ i. i };
 
-    fn row(&self) -> Row {
-        Row::lock_orl_mr
-    }
-
     #[tactic(auto, unfolding(cax64_machine_code::specs::Rows::line_of))]
-    fn fold_operands<T: FromOperands<R>>(&self) -> T {
-        of_two(
-            Operand::ReadAmode(self.m32),
-            Operand::ReadGpr(*self.r32.as_ref(), Size::Doubleword),
+    #[inline(always)]
+    fn hand_to<T: Task<R, X>, X>(&self, to: &mut X) -> T::Answer {
+        T::take(
+            of_two(
+                Operand::ReadAmode(self.m32),
+                Operand::ReadGpr(*self.r32.as_ref(), Size::Doubleword),
+            ),
+            Row::lock_orl_mr,
+            to,
         )
     }
 
@@ -452,15 +461,16 @@ impl<R: Registers> RowAndOperands for lock_orq_mr<R> {
 
     ghost operands_of = { λ i. i };
 
-    fn row(&self) -> Row {
-        Row::lock_orq_mr
-    }
-
     #[tactic(auto, unfolding(cax64_machine_code::specs::Rows::line_of))]
-    fn fold_operands<T: FromOperands<R>>(&self) -> T {
-        of_two(
-            Operand::ReadAmode(self.m64),
-            Operand::ReadGpr(*self.r64.as_ref(), Size::Quadword),
+    #[inline(always)]
+    fn hand_to<T: Task<R, X>, X>(&self, to: &mut X) -> T::Answer {
+        T::take(
+            of_two(
+                Operand::ReadAmode(self.m64),
+                Operand::ReadGpr(*self.r64.as_ref(), Size::Quadword),
+            ),
+            Row::lock_orq_mr,
+            to,
         )
     }
 

@@ -9,7 +9,7 @@ ghost use Rattle.cax64_register.specs.declared.gpr.Size.TheVariants.{Byte, Doubl
 
 use cax64_address::amode::Amode;
 use cax64_machine_code::row::Row;
-use cax64_operand::{FromOperands, Operand, RegisterVisitor, RowAndOperands, of_five, of_three};
+use cax64_operand::{Operand, RegisterVisitor, RowAndOperands, Task, of_five, of_three};
 use cax64_register::{Fixed, Gpr, Registers, Size};
 use std::marker::Model;
 
@@ -43,16 +43,17 @@ impl<R: Registers> RowAndOperands for lock_cmpxchgb_mr<R> {
 
     ghost operands_of = { λ i. i };
 
-    fn row(&self) -> Row {
-        Row::lock_cmpxchgb_mr
-    }
-
     #[tactic(auto, unfolding(cax64_machine_code::specs::Rows::line_of))]
-    fn fold_operands<T: FromOperands<R>>(&self) -> T {
-        of_three(
-            Operand::ReadAmode(self.m8),
-            Operand::ReadGpr(*self.r8.as_ref(), Size::Byte),
-            Operand::FixedReadWriteGpr(self.al.0, 0, None),
+    #[inline(always)]
+    fn hand_to<T: Task<R, X>, X>(&self, to: &mut X) -> T::Answer {
+        T::take(
+            of_three(
+                Operand::ReadAmode(self.m8),
+                Operand::ReadGpr(*self.r8.as_ref(), Size::Byte),
+                Operand::FixedReadWriteGpr(self.al.0, 0, None),
+            ),
+            Row::lock_cmpxchgb_mr,
+            to,
         )
     }
 
@@ -93,16 +94,17 @@ impl<R: Registers> RowAndOperands for lock_cmpxchgw_mr<R> {
 
     ghost operands_of = { λ i. i };
 
-    fn row(&self) -> Row {
-        Row::lock_cmpxchgw_mr
-    }
-
     #[tactic(auto, unfolding(cax64_machine_code::specs::Rows::line_of))]
-    fn fold_operands<T: FromOperands<R>>(&self) -> T {
-        of_three(
-            Operand::ReadAmode(self.m16),
-            Operand::ReadGpr(*self.r16.as_ref(), Size::Word),
-            Operand::FixedReadWriteGpr(self.ax.0, 0, None),
+    #[inline(always)]
+    fn hand_to<T: Task<R, X>, X>(&self, to: &mut X) -> T::Answer {
+        T::take(
+            of_three(
+                Operand::ReadAmode(self.m16),
+                Operand::ReadGpr(*self.r16.as_ref(), Size::Word),
+                Operand::FixedReadWriteGpr(self.ax.0, 0, None),
+            ),
+            Row::lock_cmpxchgw_mr,
+            to,
         )
     }
 
@@ -143,16 +145,17 @@ impl<R: Registers> RowAndOperands for lock_cmpxchgl_mr<R> {
 
     ghost operands_of = { λ i. i };
 
-    fn row(&self) -> Row {
-        Row::lock_cmpxchgl_mr
-    }
-
     #[tactic(auto, unfolding(cax64_machine_code::specs::Rows::line_of))]
-    fn fold_operands<T: FromOperands<R>>(&self) -> T {
-        of_three(
-            Operand::ReadAmode(self.m32),
-            Operand::ReadGpr(*self.r32.as_ref(), Size::Doubleword),
-            Operand::FixedReadWriteGpr(self.eax.0, 0, None),
+    #[inline(always)]
+    fn hand_to<T: Task<R, X>, X>(&self, to: &mut X) -> T::Answer {
+        T::take(
+            of_three(
+                Operand::ReadAmode(self.m32),
+                Operand::ReadGpr(*self.r32.as_ref(), Size::Doubleword),
+                Operand::FixedReadWriteGpr(self.eax.0, 0, None),
+            ),
+            Row::lock_cmpxchgl_mr,
+            to,
         )
     }
 
@@ -193,16 +196,17 @@ impl<R: Registers> RowAndOperands for lock_cmpxchgq_mr<R> {
 
     ghost operands_of = { λ i. i };
 
-    fn row(&self) -> Row {
-        Row::lock_cmpxchgq_mr
-    }
-
     #[tactic(auto, unfolding(cax64_machine_code::specs::Rows::line_of))]
-    fn fold_operands<T: FromOperands<R>>(&self) -> T {
-        of_three(
-            Operand::ReadAmode(self.m64),
-            Operand::ReadGpr(*self.r64.as_ref(), Size::Quadword),
-            Operand::FixedReadWriteGpr(self.rax.0, 0, None),
+    #[inline(always)]
+    fn hand_to<T: Task<R, X>, X>(&self, to: &mut X) -> T::Answer {
+        T::take(
+            of_three(
+                Operand::ReadAmode(self.m64),
+                Operand::ReadGpr(*self.r64.as_ref(), Size::Quadword),
+                Operand::FixedReadWriteGpr(self.rax.0, 0, None),
+            ),
+            Row::lock_cmpxchgq_mr,
+            to,
         )
     }
 
@@ -257,18 +261,19 @@ impl<R: Registers> RowAndOperands for lock_cmpxchg16b_m<R> {
 
     ghost operands_of = { λ i. i };
 
-    fn row(&self) -> Row {
-        Row::lock_cmpxchg16b_m
-    }
-
     #[tactic(auto, unfolding(cax64_machine_code::specs::Rows::line_of))]
-    fn fold_operands<T: FromOperands<R>>(&self) -> T {
-        of_five(
-            Operand::ReadAmode(self.m128),
-            Operand::FixedReadWriteGpr(self.rax.0, 0, None),
-            Operand::FixedReadWriteGpr(self.rdx.0, 2, None),
-            Operand::FixedReadGpr(self.rcx.0, 1, None),
-            Operand::FixedReadGpr(self.rbx.0, 3, None),
+    #[inline(always)]
+    fn hand_to<T: Task<R, X>, X>(&self, to: &mut X) -> T::Answer {
+        T::take(
+            of_five(
+                Operand::ReadAmode(self.m128),
+                Operand::FixedReadWriteGpr(self.rax.0, 0, None),
+                Operand::FixedReadWriteGpr(self.rdx.0, 2, None),
+                Operand::FixedReadGpr(self.rcx.0, 1, None),
+                Operand::FixedReadGpr(self.rbx.0, 3, None),
+            ),
+            Row::lock_cmpxchg16b_m,
+            to,
         )
     }
 

@@ -9,7 +9,7 @@ ghost use Rattle.cax64_register.specs.declared.gpr.Size.TheVariants.{Byte, Doubl
 
 use cax64_address::amode::Amode;
 use cax64_machine_code::row::Row;
-use cax64_operand::{FromOperands, Operand, RegisterVisitor, RowAndOperands, of_two};
+use cax64_operand::{Operand, RegisterVisitor, RowAndOperands, Task, of_two};
 use cax64_register::{Gpr, Registers, Size};
 use std::marker::Model;
 
@@ -41,15 +41,16 @@ impl<R: Registers> RowAndOperands for lock_xaddb_mr<R> {
 
     ghost operands_of = { λ i. i };
 
-    fn row(&self) -> Row {
-        Row::lock_xaddb_mr
-    }
-
     #[tactic(auto, unfolding(cax64_machine_code::specs::Rows::line_of))]
-    fn fold_operands<T: FromOperands<R>>(&self) -> T {
-        of_two(
-            Operand::ReadWriteGpr(*self.r8.as_ref(), Size::Byte),
-            Operand::ReadAmode(self.m8),
+    #[inline(always)]
+    fn hand_to<T: Task<R, X>, X>(&self, to: &mut X) -> T::Answer {
+        T::take(
+            of_two(
+                Operand::ReadWriteGpr(*self.r8.as_ref(), Size::Byte),
+                Operand::ReadAmode(self.m8),
+            ),
+            Row::lock_xaddb_mr,
+            to,
         )
     }
 
@@ -87,15 +88,16 @@ impl<R: Registers> RowAndOperands for lock_xaddw_mr<R> {
 
     ghost operands_of = { λ i. i };
 
-    fn row(&self) -> Row {
-        Row::lock_xaddw_mr
-    }
-
     #[tactic(auto, unfolding(cax64_machine_code::specs::Rows::line_of))]
-    fn fold_operands<T: FromOperands<R>>(&self) -> T {
-        of_two(
-            Operand::ReadWriteGpr(*self.r16.as_ref(), Size::Word),
-            Operand::ReadAmode(self.m16),
+    #[inline(always)]
+    fn hand_to<T: Task<R, X>, X>(&self, to: &mut X) -> T::Answer {
+        T::take(
+            of_two(
+                Operand::ReadWriteGpr(*self.r16.as_ref(), Size::Word),
+                Operand::ReadAmode(self.m16),
+            ),
+            Row::lock_xaddw_mr,
+            to,
         )
     }
 
@@ -133,15 +135,16 @@ impl<R: Registers> RowAndOperands for lock_xaddl_mr<R> {
 
     ghost operands_of = { λ i. i };
 
-    fn row(&self) -> Row {
-        Row::lock_xaddl_mr
-    }
-
     #[tactic(auto, unfolding(cax64_machine_code::specs::Rows::line_of))]
-    fn fold_operands<T: FromOperands<R>>(&self) -> T {
-        of_two(
-            Operand::ReadWriteGpr(*self.r32.as_ref(), Size::Doubleword),
-            Operand::ReadAmode(self.m32),
+    #[inline(always)]
+    fn hand_to<T: Task<R, X>, X>(&self, to: &mut X) -> T::Answer {
+        T::take(
+            of_two(
+                Operand::ReadWriteGpr(*self.r32.as_ref(), Size::Doubleword),
+                Operand::ReadAmode(self.m32),
+            ),
+            Row::lock_xaddl_mr,
+            to,
         )
     }
 
@@ -179,15 +182,16 @@ impl<R: Registers> RowAndOperands for lock_xaddq_mr<R> {
 
     ghost operands_of = { λ i. i };
 
-    fn row(&self) -> Row {
-        Row::lock_xaddq_mr
-    }
-
     #[tactic(auto, unfolding(cax64_machine_code::specs::Rows::line_of))]
-    fn fold_operands<T: FromOperands<R>>(&self) -> T {
-        of_two(
-            Operand::ReadWriteGpr(*self.r64.as_ref(), Size::Quadword),
-            Operand::ReadAmode(self.m64),
+    #[inline(always)]
+    fn hand_to<T: Task<R, X>, X>(&self, to: &mut X) -> T::Answer {
+        T::take(
+            of_two(
+                Operand::ReadWriteGpr(*self.r64.as_ref(), Size::Quadword),
+                Operand::ReadAmode(self.m64),
+            ),
+            Row::lock_xaddq_mr,
+            to,
         )
     }
 

@@ -6,4 +6,4 @@ pub mod fields;
 mod names;
 mod values;
 
-pub use names::{Takes, take_named};
+pub use names::instruction_of;

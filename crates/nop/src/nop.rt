@@ -8,7 +8,7 @@ ghost use Rattle.cax64_operand.specs.Visit.{OperandsRun};
 ghost use Rattle.nop.specs.Operands.{operands_nop_1b, operands_nop_2b, operands_nop_3b, operands_nop_4b, operands_nop_5b, operands_nop_6b, operands_nop_7b, operands_nop_8b, operands_nop_9b};
 
 use cax64_machine_code::row::Row;
-use cax64_operand::{FromOperands, Nop, Numbers, RegisterVisitor, RowAndOperands};
+use cax64_operand::{FromOperands, Nop, Numbers, RegisterVisitor, RowAndOperands, Task};
 use cax64_register::Registers;
 
 /// No operation, in one byte.
@@ -21,6 +21,7 @@ impl nop_1b {
     }
 
     /// What is made of the operands, for any family.
+    #[inline(always)]
     pub fn fold_operands<R: Registers, T: FromOperands<R>>(&self) -> T
         ensures value { result ≡ fold T.made_of_none T.made_with T.made_of_nop (operands_nop_1b {R = R} self.now) }
         ensures shape { HasShape {F = R.WriteXmm} row.nop_1b (operands_nop_1b {R = R} {A = R.ReadGpr} {B = R.ReadWriteGpr} {C = R.WriteGpr} {D = R.ReadXmm} {E = R.ReadWriteXmm} self.now) }
@@ -41,12 +42,9 @@ impl RowAndOperands for nop_1b {
 
     ghost operands_of = { operands_nop_1b };
 
-    fn row(&self) -> Row {
-        Row::nop_1b
-    }
-
-    fn fold_operands<T: FromOperands<Numbers>>(&self) -> T {
-        nop_1b::fold_operands(self)
+    #[inline(always)]
+    fn hand_to<T: Task<Numbers, X>, X>(&self, to: &mut X) -> T::Answer {
+        T::take(nop_1b::fold_operands(self), Row::nop_1b, to)
     }
 
     fn visit<V: RegisterVisitor<Numbers>>(&mut self, visitor: &mut V) {
@@ -64,6 +62,7 @@ impl nop_2b {
     }
 
     /// What is made of the operands, for any family.
+    #[inline(always)]
     pub fn fold_operands<R: Registers, T: FromOperands<R>>(&self) -> T
         ensures value { result ≡ fold T.made_of_none T.made_with T.made_of_nop (operands_nop_2b {R = R} self.now) }
         ensures shape { HasShape {F = R.WriteXmm} row.nop_2b (operands_nop_2b {R = R} {A = R.ReadGpr} {B = R.ReadWriteGpr} {C = R.WriteGpr} {D = R.ReadXmm} {E = R.ReadWriteXmm} self.now) }
@@ -84,12 +83,9 @@ impl RowAndOperands for nop_2b {
 
     ghost operands_of = { operands_nop_2b };
 
-    fn row(&self) -> Row {
-        Row::nop_2b
-    }
-
-    fn fold_operands<T: FromOperands<Numbers>>(&self) -> T {
-        nop_2b::fold_operands(self)
+    #[inline(always)]
+    fn hand_to<T: Task<Numbers, X>, X>(&self, to: &mut X) -> T::Answer {
+        T::take(nop_2b::fold_operands(self), Row::nop_2b, to)
     }
 
     fn visit<V: RegisterVisitor<Numbers>>(&mut self, visitor: &mut V) {
@@ -107,6 +103,7 @@ impl nop_3b {
     }
 
     /// What is made of the operands, for any family.
+    #[inline(always)]
     pub fn fold_operands<R: Registers, T: FromOperands<R>>(&self) -> T
         ensures value { result ≡ fold T.made_of_none T.made_with T.made_of_nop (operands_nop_3b {R = R} self.now) }
         ensures shape { HasShape {F = R.WriteXmm} row.nopl_rm (operands_nop_3b {R = R} {A = R.ReadGpr} {B = R.ReadWriteGpr} {C = R.WriteGpr} {D = R.ReadXmm} {E = R.ReadWriteXmm} self.now) }
@@ -127,12 +124,9 @@ impl RowAndOperands for nop_3b {
 
     ghost operands_of = { operands_nop_3b };
 
-    fn row(&self) -> Row {
-        Row::nopl_rm
-    }
-
-    fn fold_operands<T: FromOperands<Numbers>>(&self) -> T {
-        nop_3b::fold_operands(self)
+    #[inline(always)]
+    fn hand_to<T: Task<Numbers, X>, X>(&self, to: &mut X) -> T::Answer {
+        T::take(nop_3b::fold_operands(self), Row::nopl_rm, to)
     }
 
     fn visit<V: RegisterVisitor<Numbers>>(&mut self, visitor: &mut V) {
@@ -150,6 +144,7 @@ impl nop_4b {
     }
 
     /// What is made of the operands, for any family.
+    #[inline(always)]
     pub fn fold_operands<R: Registers, T: FromOperands<R>>(&self) -> T
         ensures value { result ≡ fold T.made_of_none T.made_with T.made_of_nop (operands_nop_4b {R = R} self.now) }
         ensures shape { HasShape {F = R.WriteXmm} row.nopl_rm (operands_nop_4b {R = R} {A = R.ReadGpr} {B = R.ReadWriteGpr} {C = R.WriteGpr} {D = R.ReadXmm} {E = R.ReadWriteXmm} self.now) }
@@ -170,12 +165,9 @@ impl RowAndOperands for nop_4b {
 
     ghost operands_of = { operands_nop_4b };
 
-    fn row(&self) -> Row {
-        Row::nopl_rm
-    }
-
-    fn fold_operands<T: FromOperands<Numbers>>(&self) -> T {
-        nop_4b::fold_operands(self)
+    #[inline(always)]
+    fn hand_to<T: Task<Numbers, X>, X>(&self, to: &mut X) -> T::Answer {
+        T::take(nop_4b::fold_operands(self), Row::nopl_rm, to)
     }
 
     fn visit<V: RegisterVisitor<Numbers>>(&mut self, visitor: &mut V) {
@@ -193,6 +185,7 @@ impl nop_5b {
     }
 
     /// What is made of the operands, for any family.
+    #[inline(always)]
     pub fn fold_operands<R: Registers, T: FromOperands<R>>(&self) -> T
         ensures value { result ≡ fold T.made_of_none T.made_with T.made_of_nop (operands_nop_5b {R = R} self.now) }
         ensures shape { HasShape {F = R.WriteXmm} row.nopl_rm (operands_nop_5b {R = R} {A = R.ReadGpr} {B = R.ReadWriteGpr} {C = R.WriteGpr} {D = R.ReadXmm} {E = R.ReadWriteXmm} self.now) }
@@ -213,12 +206,9 @@ impl RowAndOperands for nop_5b {
 
     ghost operands_of = { operands_nop_5b };
 
-    fn row(&self) -> Row {
-        Row::nopl_rm
-    }
-
-    fn fold_operands<T: FromOperands<Numbers>>(&self) -> T {
-        nop_5b::fold_operands(self)
+    #[inline(always)]
+    fn hand_to<T: Task<Numbers, X>, X>(&self, to: &mut X) -> T::Answer {
+        T::take(nop_5b::fold_operands(self), Row::nopl_rm, to)
     }
 
     fn visit<V: RegisterVisitor<Numbers>>(&mut self, visitor: &mut V) {
@@ -236,6 +226,7 @@ impl nop_6b {
     }
 
     /// What is made of the operands, for any family.
+    #[inline(always)]
     pub fn fold_operands<R: Registers, T: FromOperands<R>>(&self) -> T
         ensures value { result ≡ fold T.made_of_none T.made_with T.made_of_nop (operands_nop_6b {R = R} self.now) }
         ensures shape { HasShape {F = R.WriteXmm} row.nopw_rm (operands_nop_6b {R = R} {A = R.ReadGpr} {B = R.ReadWriteGpr} {C = R.WriteGpr} {D = R.ReadXmm} {E = R.ReadWriteXmm} self.now) }
@@ -256,12 +247,9 @@ impl RowAndOperands for nop_6b {
 
     ghost operands_of = { operands_nop_6b };
 
-    fn row(&self) -> Row {
-        Row::nopw_rm
-    }
-
-    fn fold_operands<T: FromOperands<Numbers>>(&self) -> T {
-        nop_6b::fold_operands(self)
+    #[inline(always)]
+    fn hand_to<T: Task<Numbers, X>, X>(&self, to: &mut X) -> T::Answer {
+        T::take(nop_6b::fold_operands(self), Row::nopw_rm, to)
     }
 
     fn visit<V: RegisterVisitor<Numbers>>(&mut self, visitor: &mut V) {
@@ -279,6 +267,7 @@ impl nop_7b {
     }
 
     /// What is made of the operands, for any family.
+    #[inline(always)]
     pub fn fold_operands<R: Registers, T: FromOperands<R>>(&self) -> T
         ensures value { result ≡ fold T.made_of_none T.made_with T.made_of_nop (operands_nop_7b {R = R} self.now) }
         ensures shape { HasShape {F = R.WriteXmm} row.nopl_rm (operands_nop_7b {R = R} {A = R.ReadGpr} {B = R.ReadWriteGpr} {C = R.WriteGpr} {D = R.ReadXmm} {E = R.ReadWriteXmm} self.now) }
@@ -299,12 +288,9 @@ impl RowAndOperands for nop_7b {
 
     ghost operands_of = { operands_nop_7b };
 
-    fn row(&self) -> Row {
-        Row::nopl_rm
-    }
-
-    fn fold_operands<T: FromOperands<Numbers>>(&self) -> T {
-        nop_7b::fold_operands(self)
+    #[inline(always)]
+    fn hand_to<T: Task<Numbers, X>, X>(&self, to: &mut X) -> T::Answer {
+        T::take(nop_7b::fold_operands(self), Row::nopl_rm, to)
     }
 
     fn visit<V: RegisterVisitor<Numbers>>(&mut self, visitor: &mut V) {
@@ -322,6 +308,7 @@ impl nop_8b {
     }
 
     /// What is made of the operands, for any family.
+    #[inline(always)]
     pub fn fold_operands<R: Registers, T: FromOperands<R>>(&self) -> T
         ensures value { result ≡ fold T.made_of_none T.made_with T.made_of_nop (operands_nop_8b {R = R} self.now) }
         ensures shape { HasShape {F = R.WriteXmm} row.nopl_rm (operands_nop_8b {R = R} {A = R.ReadGpr} {B = R.ReadWriteGpr} {C = R.WriteGpr} {D = R.ReadXmm} {E = R.ReadWriteXmm} self.now) }
@@ -342,12 +329,9 @@ impl RowAndOperands for nop_8b {
 
     ghost operands_of = { operands_nop_8b };
 
-    fn row(&self) -> Row {
-        Row::nopl_rm
-    }
-
-    fn fold_operands<T: FromOperands<Numbers>>(&self) -> T {
-        nop_8b::fold_operands(self)
+    #[inline(always)]
+    fn hand_to<T: Task<Numbers, X>, X>(&self, to: &mut X) -> T::Answer {
+        T::take(nop_8b::fold_operands(self), Row::nopl_rm, to)
     }
 
     fn visit<V: RegisterVisitor<Numbers>>(&mut self, visitor: &mut V) {
@@ -365,6 +349,7 @@ impl nop_9b {
     }
 
     /// What is made of the operands, for any family.
+    #[inline(always)]
     pub fn fold_operands<R: Registers, T: FromOperands<R>>(&self) -> T
         ensures value { result ≡ fold T.made_of_none T.made_with T.made_of_nop (operands_nop_9b {R = R} self.now) }
         ensures shape { HasShape {F = R.WriteXmm} row.nopw_rm (operands_nop_9b {R = R} {A = R.ReadGpr} {B = R.ReadWriteGpr} {C = R.WriteGpr} {D = R.ReadXmm} {E = R.ReadWriteXmm} self.now) }
@@ -385,12 +370,9 @@ impl RowAndOperands for nop_9b {
 
     ghost operands_of = { operands_nop_9b };
 
-    fn row(&self) -> Row {
-        Row::nopw_rm
-    }
-
-    fn fold_operands<T: FromOperands<Numbers>>(&self) -> T {
-        nop_9b::fold_operands(self)
+    #[inline(always)]
+    fn hand_to<T: Task<Numbers, X>, X>(&self, to: &mut X) -> T::Answer {
+        T::take(nop_9b::fold_operands(self), Row::nopw_rm, to)
     }
 
     fn visit<V: RegisterVisitor<Numbers>>(&mut self, visitor: &mut V) {

@@ -8,7 +8,7 @@ ghost use Rattle.cax64_operand.specs.declared.operand.Operands.TheVariants.{Two}
 
 use cax64_address::operand::XmmMem;
 use cax64_machine_code::row::Row;
-use cax64_operand::{FromOperands, Operand, RegisterVisitor, RowAndOperands, of_two};
+use cax64_operand::{Operand, RegisterVisitor, RowAndOperands, Task, of_two};
 use cax64_register::{Registers, Xmm};
 use std::marker::Model;
 
@@ -40,15 +40,16 @@ impl<R: Registers> RowAndOperands for andps_a<R> {
 
     ghost operands_of = { λ i. i };
 
-    fn row(&self) -> Row {
-        Row::andps_a
-    }
-
     #[tactic(auto, unfolding(cax64_machine_code::specs::Rows::line_of))]
-    fn fold_operands<T: FromOperands<R>>(&self) -> T {
-        of_two(
-            Operand::ReadWriteXmm(*self.xmm1.as_ref()),
-            Operand::ReadXmmMem(self.xmm_m128),
+    #[inline(always)]
+    fn hand_to<T: Task<R, X>, X>(&self, to: &mut X) -> T::Answer {
+        T::take(
+            of_two(
+                Operand::ReadWriteXmm(*self.xmm1.as_ref()),
+                Operand::ReadXmmMem(self.xmm_m128),
+            ),
+            Row::andps_a,
+            to,
         )
     }
 

@@ -10,7 +10,7 @@ ghost use Rattle.cax64_operand.specs.declared.operand.Operands.TheVariants.{Thre
 use cax64_address::operand::XmmMem;
 use cax64_immediate::Imm8;
 use cax64_machine_code::row::Row;
-use cax64_operand::{FromOperands, Immediate, Operand, RegisterVisitor, RowAndOperands, of_three};
+use cax64_operand::{Immediate, Operand, RegisterVisitor, RowAndOperands, Task, of_three};
 use cax64_register::{Registers, Xmm};
 use std::marker::Model;
 
@@ -52,16 +52,17 @@ impl<R: Registers> RowAndOperands for cmpps_a<R> {
 
     ghost operands_of = { λ i. i };
 
-    fn row(&self) -> Row {
-        Row::cmpps_a
-    }
-
     #[tactic(auto, unfolding(cax64_machine_code::specs::Rows::line_of))]
-    fn fold_operands<T: FromOperands<R>>(&self) -> T {
-        of_three(
-            Operand::ReadWriteXmm(*self.xmm1.as_ref()),
-            Operand::ReadXmmMem(self.xmm_m128),
-            Operand::Imm(Immediate::Predicate(self.imm8.value())),
+    #[inline(always)]
+    fn hand_to<T: Task<R, X>, X>(&self, to: &mut X) -> T::Answer {
+        T::take(
+            of_three(
+                Operand::ReadWriteXmm(*self.xmm1.as_ref()),
+                Operand::ReadXmmMem(self.xmm_m128),
+                Operand::Imm(Immediate::Predicate(self.imm8.value())),
+            ),
+            Row::cmpps_a,
+            to,
         )
     }
 
@@ -109,16 +110,17 @@ impl<R: Registers> RowAndOperands for cmppd_a<R> {
 
     ghost operands_of = { λ i. i };
 
-    fn row(&self) -> Row {
-        Row::cmppd_a
-    }
-
     #[tactic(auto, unfolding(cax64_machine_code::specs::Rows::line_of))]
-    fn fold_operands<T: FromOperands<R>>(&self) -> T {
-        of_three(
-            Operand::ReadWriteXmm(*self.xmm1.as_ref()),
-            Operand::ReadXmmMem(self.xmm_m128),
-            Operand::Imm(Immediate::Predicate(self.imm8.value())),
+    #[inline(always)]
+    fn hand_to<T: Task<R, X>, X>(&self, to: &mut X) -> T::Answer {
+        T::take(
+            of_three(
+                Operand::ReadWriteXmm(*self.xmm1.as_ref()),
+                Operand::ReadXmmMem(self.xmm_m128),
+                Operand::Imm(Immediate::Predicate(self.imm8.value())),
+            ),
+            Row::cmppd_a,
+            to,
         )
     }
 
@@ -166,16 +168,17 @@ impl<R: Registers> RowAndOperands for cmpss_a<R> {
 
     ghost operands_of = { λ i. i };
 
-    fn row(&self) -> Row {
-        Row::cmpss_a
-    }
-
     #[tactic(auto, unfolding(cax64_machine_code::specs::Rows::line_of))]
-    fn fold_operands<T: FromOperands<R>>(&self) -> T {
-        of_three(
-            Operand::ReadWriteXmm(*self.xmm1.as_ref()),
-            Operand::ReadXmmMem(self.xmm_m32),
-            Operand::Imm(Immediate::Predicate(self.imm8.value())),
+    #[inline(always)]
+    fn hand_to<T: Task<R, X>, X>(&self, to: &mut X) -> T::Answer {
+        T::take(
+            of_three(
+                Operand::ReadWriteXmm(*self.xmm1.as_ref()),
+                Operand::ReadXmmMem(self.xmm_m32),
+                Operand::Imm(Immediate::Predicate(self.imm8.value())),
+            ),
+            Row::cmpss_a,
+            to,
         )
     }
 
@@ -223,16 +226,17 @@ impl<R: Registers> RowAndOperands for cmpsd_a<R> {
 
     ghost operands_of = { λ i. i };
 
-    fn row(&self) -> Row {
-        Row::cmpsd_a
-    }
-
     #[tactic(auto, unfolding(cax64_machine_code::specs::Rows::line_of))]
-    fn fold_operands<T: FromOperands<R>>(&self) -> T {
-        of_three(
-            Operand::ReadWriteXmm(*self.xmm1.as_ref()),
-            Operand::ReadXmmMem(self.xmm_m64),
-            Operand::Imm(Immediate::Predicate(self.imm8.value())),
+    #[inline(always)]
+    fn hand_to<T: Task<R, X>, X>(&self, to: &mut X) -> T::Answer {
+        T::take(
+            of_three(
+                Operand::ReadWriteXmm(*self.xmm1.as_ref()),
+                Operand::ReadXmmMem(self.xmm_m64),
+                Operand::Imm(Immediate::Predicate(self.imm8.value())),
+            ),
+            Row::cmpsd_a,
+            to,
         )
     }
 

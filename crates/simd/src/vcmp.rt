@@ -10,7 +10,7 @@ ghost use Rattle.cax64_operand.specs.declared.operand.Operands.TheVariants.{Four
 use cax64_address::operand::XmmMem;
 use cax64_immediate::Imm8;
 use cax64_machine_code::row::Row;
-use cax64_operand::{FromOperands, Immediate, Operand, RegisterVisitor, RowAndOperands, of_four};
+use cax64_operand::{Immediate, Operand, RegisterVisitor, RowAndOperands, Task, of_four};
 use cax64_register::{Registers, Xmm};
 use std::marker::Model;
 
@@ -55,17 +55,18 @@ impl<R: Registers> RowAndOperands for vcmpps_b<R> {
 
     ghost operands_of = { λ i. i };
 
-    fn row(&self) -> Row {
-        Row::vcmpps_b
-    }
-
     #[tactic(auto, unfolding(cax64_machine_code::specs::Rows::line_of))]
-    fn fold_operands<T: FromOperands<R>>(&self) -> T {
-        of_four(
-            Operand::WriteXmm(*self.xmm1.as_ref()),
-            Operand::ReadXmm(*self.xmm2.as_ref()),
-            Operand::ReadXmmMem(self.xmm_m128),
-            Operand::Imm(Immediate::VexPredicate(self.imm8.value())),
+    #[inline(always)]
+    fn hand_to<T: Task<R, X>, X>(&self, to: &mut X) -> T::Answer {
+        T::take(
+            of_four(
+                Operand::WriteXmm(*self.xmm1.as_ref()),
+                Operand::ReadXmm(*self.xmm2.as_ref()),
+                Operand::ReadXmmMem(self.xmm_m128),
+                Operand::Imm(Immediate::VexPredicate(self.imm8.value())),
+            ),
+            Row::vcmpps_b,
+            to,
         )
     }
 
@@ -117,17 +118,18 @@ impl<R: Registers> RowAndOperands for vcmppd_b<R> {
 
     ghost operands_of = { λ i. i };
 
-    fn row(&self) -> Row {
-        Row::vcmppd_b
-    }
-
     #[tactic(auto, unfolding(cax64_machine_code::specs::Rows::line_of))]
-    fn fold_operands<T: FromOperands<R>>(&self) -> T {
-        of_four(
-            Operand::WriteXmm(*self.xmm1.as_ref()),
-            Operand::ReadXmm(*self.xmm2.as_ref()),
-            Operand::ReadXmmMem(self.xmm_m128),
-            Operand::Imm(Immediate::VexPredicate(self.imm8.value())),
+    #[inline(always)]
+    fn hand_to<T: Task<R, X>, X>(&self, to: &mut X) -> T::Answer {
+        T::take(
+            of_four(
+                Operand::WriteXmm(*self.xmm1.as_ref()),
+                Operand::ReadXmm(*self.xmm2.as_ref()),
+                Operand::ReadXmmMem(self.xmm_m128),
+                Operand::Imm(Immediate::VexPredicate(self.imm8.value())),
+            ),
+            Row::vcmppd_b,
+            to,
         )
     }
 
@@ -179,17 +181,18 @@ impl<R: Registers> RowAndOperands for vcmpss_b<R> {
 
     ghost operands_of = { λ i. i };
 
-    fn row(&self) -> Row {
-        Row::vcmpss_b
-    }
-
     #[tactic(auto, unfolding(cax64_machine_code::specs::Rows::line_of))]
-    fn fold_operands<T: FromOperands<R>>(&self) -> T {
-        of_four(
-            Operand::WriteXmm(*self.xmm1.as_ref()),
-            Operand::ReadXmm(*self.xmm2.as_ref()),
-            Operand::ReadXmmMem(self.xmm_m32),
-            Operand::Imm(Immediate::VexPredicate(self.imm8.value())),
+    #[inline(always)]
+    fn hand_to<T: Task<R, X>, X>(&self, to: &mut X) -> T::Answer {
+        T::take(
+            of_four(
+                Operand::WriteXmm(*self.xmm1.as_ref()),
+                Operand::ReadXmm(*self.xmm2.as_ref()),
+                Operand::ReadXmmMem(self.xmm_m32),
+                Operand::Imm(Immediate::VexPredicate(self.imm8.value())),
+            ),
+            Row::vcmpss_b,
+            to,
         )
     }
 
@@ -241,17 +244,18 @@ impl<R: Registers> RowAndOperands for vcmpsd_b<R> {
 
     ghost operands_of = { λ i. i };
 
-    fn row(&self) -> Row {
-        Row::vcmpsd_b
-    }
-
     #[tactic(auto, unfolding(cax64_machine_code::specs::Rows::line_of))]
-    fn fold_operands<T: FromOperands<R>>(&self) -> T {
-        of_four(
-            Operand::WriteXmm(*self.xmm1.as_ref()),
-            Operand::ReadXmm(*self.xmm2.as_ref()),
-            Operand::ReadXmmMem(self.xmm_m64),
-            Operand::Imm(Immediate::VexPredicate(self.imm8.value())),
+    #[inline(always)]
+    fn hand_to<T: Task<R, X>, X>(&self, to: &mut X) -> T::Answer {
+        T::take(
+            of_four(
+                Operand::WriteXmm(*self.xmm1.as_ref()),
+                Operand::ReadXmm(*self.xmm2.as_ref()),
+                Operand::ReadXmmMem(self.xmm_m64),
+                Operand::Imm(Immediate::VexPredicate(self.imm8.value())),
+            ),
+            Row::vcmpsd_b,
+            to,
         )
     }
 

@@ -8,7 +8,7 @@ ghost use Rattle.cax64_operand.specs.declared.operand.Operands.TheVariants.{Two}
 
 use cax64_address::operand::XmmMem;
 use cax64_machine_code::row::Row;
-use cax64_operand::{FromOperands, Operand, RegisterVisitor, RowAndOperands, of_two};
+use cax64_operand::{Operand, RegisterVisitor, RowAndOperands, Task, of_two};
 use cax64_register::{Registers, Xmm};
 use std::marker::Model;
 
@@ -41,15 +41,16 @@ impl<R: Registers> RowAndOperands for vcvtpd2ps_a<R> {
 
     ghost operands_of = { λ i. i };
 
-    fn row(&self) -> Row {
-        Row::vcvtpd2ps_a
-    }
-
     #[tactic(auto, unfolding(cax64_machine_code::specs::Rows::line_of))]
-    fn fold_operands<T: FromOperands<R>>(&self) -> T {
-        of_two(
-            Operand::WriteXmm(*self.xmm1.as_ref()),
-            Operand::ReadXmmMem(self.xmm_m128),
+    #[inline(always)]
+    fn hand_to<T: Task<R, X>, X>(&self, to: &mut X) -> T::Answer {
+        T::take(
+            of_two(
+                Operand::WriteXmm(*self.xmm1.as_ref()),
+                Operand::ReadXmmMem(self.xmm_m128),
+            ),
+            Row::vcvtpd2ps_a,
+            to,
         )
     }
 
@@ -88,15 +89,16 @@ impl<R: Registers> RowAndOperands for vcvttpd2dq_a<R> {
 
     ghost operands_of = { λ i. i };
 
-    fn row(&self) -> Row {
-        Row::vcvttpd2dq_a
-    }
-
     #[tactic(auto, unfolding(cax64_machine_code::specs::Rows::line_of))]
-    fn fold_operands<T: FromOperands<R>>(&self) -> T {
-        of_two(
-            Operand::WriteXmm(*self.xmm1.as_ref()),
-            Operand::ReadXmmMem(self.xmm_m128),
+    #[inline(always)]
+    fn hand_to<T: Task<R, X>, X>(&self, to: &mut X) -> T::Answer {
+        T::take(
+            of_two(
+                Operand::WriteXmm(*self.xmm1.as_ref()),
+                Operand::ReadXmmMem(self.xmm_m128),
+            ),
+            Row::vcvttpd2dq_a,
+            to,
         )
     }
 

@@ -7,7 +7,7 @@ use cranelift_assembler_x64::{
 };
 use named_instructions::address::target_of;
 use named_instructions::fields::{Fault, Fields, parsed};
-use named_instructions::{Takes, take_named};
+use named_instructions::instruction_of;
 use std::alloc::Global;
 use x64_code_buffer::{BindError, CodeBuffer, FinishError, patched_field};
 
@@ -23,19 +23,14 @@ pub(crate) fn answer_patched(fields: &mut Fields<'_>, came: &mut String) -> Resu
     Ok(())
 }
 
-/// A buffer that takes instructions.
-#[derive(Drop)]
-struct Pushing {
-    buffer: CodeBuffer<Global>,
-}
-
-impl Takes for Pushing {
-    fn take<I: RowAndOperands<Family = Numbers> + Drop>(&mut self, inst: I) -> Result<(), Fault> {
-        if !inst.is_encodable(&self.buffer) {
-            return Err(Fault::Malformed);
-        }
-        self.buffer.push(&inst).map_err(|_| Fault::NoMemory)
+fn push<I: RowAndOperands<Family = Numbers> + Drop>(
+    buffer: &mut CodeBuffer<Global>,
+    inst: I,
+) -> Result<(), Fault> {
+    if !inst.is_encodable(buffer) {
+        return Err(Fault::Malformed);
     }
+    buffer.push(&inst).map_err(|_| Fault::NoMemory)
 }
 
 fn label_of(text: &str) -> Result<Label, Fault> {
@@ -82,34 +77,38 @@ fn put(buffer: &mut CodeBuffer<Global>, call: &str, value: &str) -> Result<(), F
 
 /// Makes a call that has an argument, and writes its answer.
 fn make_call(
-    pushing: &mut Pushing,
+    buffer: &mut CodeBuffer<Global>,
     call: &str,
     argument: &str,
     came: &mut String,
 ) -> Result<(), Fault> {
     match call {
         "bind" => {
-            let bound = pushing.buffer.bind(label_of(argument)?);
+            let bound = buffer.bind(label_of(argument)?);
             write_bound(came, bound)
         }
         "bind_constant" => {
-            let bound = pushing.buffer.bind_constant(constant_of(argument)?);
+            let bound = buffer.bind_constant(constant_of(argument)?);
             write_bound(came, bound)
         }
         "push" => {
             let (name, values) = argument.split_once(' ').ok_or(Fault::Malformed)?;
-            take_named(pushing, name, values)?;
+            push(buffer, instruction_of(name, values)?)?;
             write_bound(came, Ok(()))
         }
         _ => {
-            put(&mut pushing.buffer, call, argument)?;
+            put(buffer, call, argument)?;
             write_bound(came, Ok(()))
         }
     }
 }
 
 /// Makes the calls of a script, and writes the answer of each.
-fn run_script(pushing: &mut Pushing, script: &str, came: &mut String) -> Result<(), Fault> {
+fn run_script(
+    buffer: &mut CodeBuffer<Global>,
+    script: &str,
+    came: &mut String,
+) -> Result<(), Fault> {
     let mut is_first = true;
     for step in script.split(" | ") {
         if !is_first {
@@ -117,8 +116,8 @@ fn run_script(pushing: &mut Pushing, script: &str, came: &mut String) -> Result<
         }
         is_first = false;
         match step.split_once(' ') {
-            Some((call, argument)) => make_call(pushing, call, argument, came)?,
-            None if step == "new_label" => new_label(&mut pushing.buffer, came)?,
+            Some((call, argument)) => make_call(buffer, call, argument, came)?,
+            None if step == "new_label" => new_label(buffer, came)?,
             None => return Err(Fault::Malformed),
         }
     }
@@ -154,12 +153,10 @@ pub(crate) fn answer_buffer(
     if stage == "1" && has_changed(script) {
         return Err(Fault::PassedOver);
     }
-    let mut pushing = Pushing {
-        buffer: CodeBuffer::new(alloc),
-    };
-    run_script(&mut pushing, script, came)?;
+    let mut buffer = CodeBuffer::new(alloc);
+    run_script(&mut buffer, script, came)?;
     came.push('\t')?;
-    write_notices(came, pushing.buffer.notices())?;
+    write_notices(came, buffer.notices())?;
     came.push('\t')?;
-    write_finished(came, pushing.buffer)
+    write_finished(came, buffer)
 }

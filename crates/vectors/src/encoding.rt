@@ -9,7 +9,7 @@ use cranelift_assembler_x64 as assembler;
 use cranelift_assembler_x64::reader::read_inst;
 use cranelift_assembler_x64::{Instruction, Numbers, Recorder, Row, RowAndOperands};
 use named_instructions::fields::{Fault, Fields, parsed};
-use named_instructions::{Takes, take_named};
+use named_instructions::instruction_of;
 use std::alloc::Global;
 
 /// An empty recorder that knows the offsets of a column.
@@ -61,9 +61,7 @@ impl Encoded {
             visits: VisitText::new(alloc),
         })
     }
-}
 
-impl Takes for Encoded {
     fn take<I: RowAndOperands<Family = Numbers> + Drop>(
         &mut self,
         mut inst: I,
@@ -84,7 +82,7 @@ fn encode_line(alloc: Global, fields: &mut Fields<'_>) -> Result<(Encoded, u8, R
     let name = fields.text()?;
     let values = fields.text()?;
     let mut encoded = Encoded::new(alloc, fields.text()?)?;
-    take_named(&mut encoded, name, values)?;
+    encoded.take(instruction_of(name, values)?)?;
     let (length, row) = encoded.length_and_row.ok_or(Fault::Malformed)?;
     Ok((encoded, length, row))
 }
@@ -133,15 +131,11 @@ struct Faulty {
     visits: VisitText,
 }
 
-impl Takes for Faulty {
-    fn take<I: RowAndOperands<Family = Numbers> + Drop>(
-        &mut self,
-        mut inst: I,
-    ) -> Result<(), Fault> {
+impl Faulty {
+    fn take<I: RowAndOperands<Family = Numbers> + Drop>(&mut self, mut inst: I) {
         self.fault = inst.first_fault(&self.sink);
         self.is_encodable = inst.is_encodable(&self.sink);
         inst.visit(&mut self.visits);
-        Ok(())
     }
 }
 
@@ -158,7 +152,7 @@ pub(crate) fn answer_fault(
         is_encodable: false,
         visits: VisitText::new(alloc),
     };
-    take_named(&mut faulty, name, values)?;
+    faulty.take(instruction_of(name, values)?);
     write_fault(came, faulty.fault)?;
     if faulty.is_encodable != faulty.fault.is_none() {
         let is_encodable = faulty.is_encodable;

@@ -24,3 +24,5 @@ mod sinks;
 mod table;
 #[cfg(test)]
 mod visits;
+#[cfg(test)]
+mod words;

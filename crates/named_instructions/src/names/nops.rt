@@ -1,30 +1,28 @@
 //! Instructions that do nothing.
 
-use crate::fields::{Fault, parsed};
-use crate::names::Takes;
+use crate::fields::parsed;
 use cranelift_assembler_x64::inst::{
     nop_1b, nop_2b, nop_3b, nop_4b, nop_5b, nop_6b, nop_7b, nop_8b, nop_9b,
 };
+use cranelift_assembler_x64::{Inst, Numbers};
 
 /// The number of bytes of the nop of this name.
-fn nop_length(name: &str) -> Result<u8, Fault> {
-    let bytes = name
-        .strip_prefix("nop_")
-        .and_then(|rest| rest.strip_suffix('b'));
-    parsed(bytes.ok_or(Fault::PassedOver)?)
+fn nop_length(name: &str) -> Option<u8> {
+    let bytes = name.strip_prefix("nop_")?.strip_suffix('b')?;
+    parsed(bytes).ok()
 }
 
-pub(crate) fn take_nop<T: Takes>(taker: &mut T, name: &str) -> Result<(), Fault> {
+pub(crate) fn nop(name: &str) -> Option<Inst<Numbers>> {
     match nop_length(name)? {
-        1 => taker.take(nop_1b::new()),
-        2 => taker.take(nop_2b::new()),
-        3 => taker.take(nop_3b::new()),
-        4 => taker.take(nop_4b::new()),
-        5 => taker.take(nop_5b::new()),
-        6 => taker.take(nop_6b::new()),
-        7 => taker.take(nop_7b::new()),
-        8 => taker.take(nop_8b::new()),
-        9 => taker.take(nop_9b::new()),
-        _ => Err(Fault::PassedOver),
+        1 => Some(Inst::nop_1b(nop_1b::new())),
+        2 => Some(Inst::nop_2b(nop_2b::new())),
+        3 => Some(Inst::nop_3b(nop_3b::new())),
+        4 => Some(Inst::nop_4b(nop_4b::new())),
+        5 => Some(Inst::nop_5b(nop_5b::new())),
+        6 => Some(Inst::nop_6b(nop_6b::new())),
+        7 => Some(Inst::nop_7b(nop_7b::new())),
+        8 => Some(Inst::nop_8b(nop_8b::new())),
+        9 => Some(Inst::nop_9b(nop_9b::new())),
+        _ => None,
     }
 }

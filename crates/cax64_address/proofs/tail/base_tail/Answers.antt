@@ -1,4 +1,4 @@
-use Rattle.std.proofs.Common.{◌≡◌, ◌≢◌, ◌+◌, ◌*◌, ◌%◌, ◌<◌, arith, w32}
+use Rattle.std.proofs.Common.{◌≡◌, ◌≢◌, ◌+◌, ◌*◌, ◌%◌, ◌<◌, arith, refl, w32}
 use Rattle.std.proofs.lemmas.Int.{to_z-of_z}
 use Rattle.std.proofs.lemmas.Nat.{and_mask}
 use Rattle.cax64_address.specs.Displacement.{GivesBack, IsClassOf, factor_of, mode_of}
@@ -14,7 +14,7 @@ returns-then-low-eq4-clause-tail c =
     let back : GivesBack (factor_of c.args.evex_scaling) c.args.displacement c.new-disp.result = rw (to_z-of_z w32 c.args.displacement c.ranges.displacement) at c.new-disp.ensures.gives_back in
     let low : c.args.base % 8 ≡ 4 = omega (arith, and_mask c.args.base 3) in
     let byte : c.encode_modrm.result ≡ mode_of c.new-disp.result * 64 + c.args.reg * 8 + 4 = omega arith in
-    rw (parts c.new-disp.result c.byte.ensures c.long.ensures) (emits_stack _ _ _ _ _ _ _ (chosen_other _ _ _ _ class back (λ e. omega arith)) c.requires.reg byte low)
+    rw (parts c.new-disp.result c.byte.ensures c.long.ensures) (emits_stack _ _ _ 0 _ _ _ _ _ (chosen_other _ _ _ _ class back (λ e. omega arith)) c.requires.reg byte refl low)
 
 pub returns-then-low-eq4-clause-bytes : goal.returns-then-low-eq4-clause-bytes
 returns-then-low-eq4-clause-bytes c =

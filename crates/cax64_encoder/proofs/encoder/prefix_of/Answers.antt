@@ -1,13 +1,18 @@
-use Rattle.std.proofs.Common.{◌≡◌, ◌++◌, refl, Some}
+use Rattle.std.proofs.Common.{◌≡◌, ◌++◌, ◌∙◌, refl, sym, true, false, Some}
+use Rattle.std.specs.Int.{from_bool}
 use Rattle.std.specs.Prelude.{IsSome, IsTrue, ◌↔◌}
+use Rattle.cax64_machine_code.specs.Line.{w_matches}
+use Rattle.cax64_machine_code.specs.Rows.{line_of}
 use Rattle.cax64_prefix.specs.Rex.{rex_bytes}
 use Rattle.cax64_prefix.proofs.Prefixes.{legacy_bytes}
 use Rattle.cax64_encoder.specs.Numbered.{plain, place_named}
 use Rattle.cax64_encoder.specs.Prefix.{rex_stands}
-use Rattle.cax64_table.specs.Numbers.{has_8bit}
+use Rattle.cax64_table.specs.Numbers.{has_8bit, is_vex}
 use Rattle.cax64_encoder.proofs.Fronts.{last_prefix}
+use Rattle.cax64_encoder.proofs.Lines.{line_facts, w_fits, w_zero}
 use Rattle.cax64_encoder.proofs.Numbers.{numbers_are, numbers_below}
-use Rattle.cax64_encoder.proofs.PrefixParts.{set_same, set_numbered, legacy_for, vex_for}
+use Rattle.cax64_encoder.proofs.PrefixParts.{LegacyIs, legacy_is, VexIs, vex_is, legacy_for, vex_for}
+use Rattle.cax64_encoder.proofs.Table.{row_is_line}
 use Rattle.cax64_encoder.proofs.encoder.prefix_of.Goals as goal
 
 pub rex_of-rex-requires-clause-base : goal.rex_of-rex-requires-clause-base
@@ -16,18 +21,34 @@ rex_of-rex-requires-clause-base c = (numbers_below c.args.place.now c.requires.n
 pub rex_of-rex-requires-clause-index : goal.rex_of-rex-requires-clause-index
 rex_of-rex-requires-clause-index c = (numbers_below c.args.place.now c.requires.numbered c.requires.place).1
 
-pub returns-in-LegacyField : goal.returns-in-LegacyField
-returns-in-LegacyField c =
+pub three_op-requires-clause-map_low : goal.three_op-requires-clause-map_low
+three_op-requires-clause-map_low c =
+    let line = line_of c.args.row in
+    let is : is_vex line.prefix ≡ true = sym c.is_vex.ensures ∙ c.if-is_vex.true in
+    (vex_is line c.pp.result c.map.result c.l.result (row_is_line c.args.row) is c.pp.ensures.is c.map.ensures.is c.l.ensures.is).map_least
+
+pub returns-then-is_vex : goal.returns-then-is_vex
+returns-then-is_vex c =
+    let line = line_of c.args.row in
+    let is : is_vex line.prefix ≡ true = sym c.is_vex.ensures ∙ c.if-is_vex.true in
+    let vex : VexIs line.prefix c.pp.result c.map.result c.l.result = vex_is line c.pp.result c.map.result c.l.result (row_is_line c.args.row) is c.pp.ensures.is c.map.ensures.is c.l.ensures.is in
+    let place = numbers_are c.args.place.now c.requires.numbered in
+    let facts = line_facts line (row_is_line c.args.row) in
+    let matches : w_matches line.w (from_bool c.w-w.result) ≡ true = rw c.w-w.ensures (w_fits line.w facts.w) in
+    rw c.vex.ensures (vex_for plain.enc line c.args.reg _ (place_named c.args.place.now) c.pp.result c.map.result c.l.result vex.field c.w-w.result c.register_number.result (Some c.args.place.now.base, Some c.args.place.now.index) c.three_op.result c.three_op.ensures.bytes
+    vex.is (row_is_line c.args.row) c.requires.vvvv_fits matches c.register_number.ensures.number place.b place.x c.w-w.ensures c.three_op.ensures.reads c.three_op.ensures.two_bytes)
+
+pub returns : goal.returns
+returns c =
+    let line = line_of c.args.row in
+    let none : is_vex line.prefix ≡ false = sym c.is_vex.ensures ∙ c.if-is_vex.false in
+    let legacy : LegacyIs line.prefix = legacy_is line.prefix none in
     let place = numbers_are c.args.place.now c.requires.numbered in
     let named = place_named c.args.place.now in
-    let number = set_numbered c.args.line.prefix c.in-LegacyField.field-0 c.in-LegacyField.field-1 c.args.numbers.legacy c.in-LegacyField.is c.requires.legacy in
-    let stands : IsSome c.rex_of-rex.result ↔ IsTrue (rex_stands plain.enc c.w_bit-w.result (has_8bit c.args.line.tail) c.args.reg named) = rw (c.requires.uses_8bit, place.high, place.special) at c.rex_of-rex.ensures.stands in
-    let bytes : c.append.result ≡ legacy_bytes c.in-LegacyField.field-0 ++ rex_bytes c.rex_of-rex.result = rw (c.append.ensures.bytes, c.legacy.ensures.bytes c.in-LegacyField.field-0 number, set_same c.in-LegacyField.field-0, c.optional.ensures.bytes, c.byte.ensures, last_prefix c.rex_of-rex.result) refl in
-    rw bytes (legacy_for plain.settled plain.enc c.args.line c.args.reg _ named c.in-LegacyField.field-0 c.in-LegacyField.field-1 c.w_bit-w.result c.rex_of-rex.result
-    c.in-LegacyField.is c.requires.line c.requires.reg c.requires.place c.requires.vvvv_fits c.requires.bare c.w_bit-w.ensures.matches c.w_bit-w.ensures.zero c.w_bit-w.ensures.value (rw (place.x, place.b) at c.rex_of-rex.ensures.bits) stands)
-
-pub returns-in-VexField : goal.returns-in-VexField
-returns-in-VexField c =
-    let place = numbers_are c.args.place.now c.requires.numbered in
-    rw c.vex.ensures (vex_for plain.enc c.args.line c.args.reg _ (place_named c.args.place.now) c.in-VexField.pp c.in-VexField.map c.in-VexField.l c.in-VexField.field-3 c.w_bit-w.result c.register_number.result (Some c.args.place.now.base, Some c.args.place.now.index) c.three_op.result c.three_op.ensures.bytes
-    c.in-VexField.is c.requires.line c.requires.vvvv_fits c.w_bit-w.ensures.matches c.register_number.ensures.number place.b place.x c.w_bit-w.ensures.value c.three_op.ensures.reads c.three_op.ensures.two_bytes)
+    let facts = line_facts line (row_is_line c.args.row) in
+    let matches : w_matches line.w (from_bool c.w-w.result) ≡ true = rw c.w-w.ensures (w_fits line.w facts.w) in
+    let flag : c.uses_8bit.result ≡ has_8bit line.tail = c.uses_8bit.ensures none in
+    let stands : IsSome c.rex_of-rex.result ↔ IsTrue (rex_stands plain.enc c.w-w.result (has_8bit line.tail) c.args.reg named) = rw (flag, place.high, place.special) at c.rex_of-rex.ensures.stands in
+    let bytes : c.append.result ≡ legacy_bytes legacy.set ++ rex_bytes c.rex_of-rex.result = rw (c.append.ensures.bytes, c.legacy.ensures.bytes, legacy.bytes, c.optional.ensures.bytes, c.byte.ensures, last_prefix c.rex_of-rex.result) refl in
+    rw bytes (legacy_for plain.settled plain.enc line c.args.reg _ named legacy.set legacy.rexed c.w-w.result c.rex_of-rex.result
+    legacy.is (row_is_line c.args.row) c.requires.reg c.requires.place c.requires.vvvv_fits c.requires.bare matches (λ zero. c.w-w.ensures ∙ w_zero line.w zero) c.w-w.ensures (rw (place.x, place.b) at c.rex_of-rex.ensures.bits) stands)

@@ -1,6 +1,9 @@
-use Rattle.std.proofs.Common.{◌∙◌, ap, Err}
+use Rattle.std.proofs.Common.{◌∙◌, ◌≤◌, ap, Err, length, arith}
 use Rattle.std.proofs.lemmas.Result.{err_from_is_err_and}
 use Rattle.cax64_sink.proofs.Runs.{ran_append, ran_refused}
+use Rattle.cax64_sink.proofs.Roomier.{ran_roomier_after, roomier_absorbed}
+use Rattle.cax64_encoder.specs.Code.{code_actions}
+use Rattle.cax64_encoder.proofs.Fronts.{code_some}
 use Rattle.cax64_encoder.proofs.code.Code.put.Goals as goal
 
 pub returns-in_err-put_trap : goal.returns-in_err-put_trap
@@ -18,11 +21,7 @@ returns-in_err-use_optional g c =
     let p = err_from_is_err_and c.from_residual-in_err-use_optional.result c.from_residual-in_err-use_optional.ensures.1 in
     ran_append c.put_trap.ensures c.in_ok-put_trap.was (ran_append c.put.ensures c.in_ok-put.was (ran_refused _ _ c.use_optional.ensures c.in_err-use_optional.was (p.1 ∙ ap Err p.2)))
 
-pub returns-in_err-put_long : goal.returns-in_err-put_long
-returns-in_err-put_long g c =
-    let p = err_from_is_err_and c.from_residual-in_err-put_long.result c.from_residual-in_err-put_long.ensures.1 in
-    ran_append c.put_trap.ensures c.in_ok-put_trap.was (ran_append c.put.ensures c.in_ok-put.was (ran_append c.use_optional.ensures c.in_ok-use_optional.was (ran_refused _ _ c.put_long.ensures c.in_err-put_long.was (p.1 ∙ ap Err p.2))))
-
 pub returns : goal.returns
 returns g c =
-    ran_append c.put_trap.ensures c.in_ok-put_trap.was (ran_append c.put.ensures c.in_ok-put.was (ran_append c.use_optional.ensures c.in_ok-use_optional.was (ran_append c.put_long.ensures c.in_ok-put_long.was c.put_imm.ensures)))
+    roomier_absorbed (code_actions c.args.self.now) (code_some c.args.self.now c.requires.front)
+    (ran_roomier_after c.put_trap.ensures c.in_ok-put_trap.was (ran_roomier_after c.put.ensures c.in_ok-put.was (ran_roomier_after c.use_optional.ensures c.in_ok-use_optional.was c.put_rest.ensures)))

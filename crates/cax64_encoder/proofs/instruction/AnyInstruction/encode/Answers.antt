@@ -1,21 +1,31 @@
+use Rattle.cax64_operand.specs.Family.{family_of, numbering}
 use Rattle.cax64_sink.proofs.Ends.{ran_keeps}
+use Rattle.cax64_encoder.proofs.Encodable.{content_is}
 use Rattle.cax64_encoder.proofs.Instructions.{run_adds, run_leaves, stays_in_front, run_error, run_enough, run_room, run_bytes_fall, run_notices_fall, len_most}
 use Rattle.cax64_encoder.proofs.Relatives.{meant_relative}
 use Rattle.cax64_encoder.proofs.instruction.AnyInstruction.encode.Goals as goal
 
+pub hand_to-requires : goal.hand_to-requires
+hand_to-requires g c shape =
+    let f = family_of (numbering g.I.Family.ReadGpr.AsReg.settled g.I.Family.ReadGpr.AsReg.enc) (numbering g.I.Family.ReadWriteGpr.AsReg.settled g.I.Family.ReadWriteGpr.AsReg.enc) (numbering g.I.Family.WriteGpr.AsReg.settled g.I.Family.WriteGpr.AsReg.enc) (numbering g.I.Family.ReadXmm.AsReg.settled g.I.Family.ReadXmm.AsReg.enc) (numbering g.I.Family.ReadWriteXmm.AsReg.settled g.I.Family.ReadWriteXmm.AsReg.enc) (numbering g.I.Family.WriteXmm.AsReg.settled g.I.Family.WriteXmm.AsReg.enc) g.I.Family.WriteGpr.PartialEq.eq in
+    let o = g.I.RowAndOperands.operands_of c.args.self.now in
+    (o, record { kept = content_is f o; shape = shape; can = c.requires })
+
 pub returns : goal.returns
 returns g c =
-    let meant = c.code_in.ensures.encodes in
+    let f = family_of (numbering g.I.Family.ReadGpr.AsReg.settled g.I.Family.ReadGpr.AsReg.enc) (numbering g.I.Family.ReadWriteGpr.AsReg.settled g.I.Family.ReadWriteGpr.AsReg.enc) (numbering g.I.Family.WriteGpr.AsReg.settled g.I.Family.WriteGpr.AsReg.enc) (numbering g.I.Family.ReadXmm.AsReg.settled g.I.Family.ReadXmm.AsReg.enc) (numbering g.I.Family.ReadWriteXmm.AsReg.settled g.I.Family.ReadWriteXmm.AsReg.enc) (numbering g.I.Family.WriteXmm.AsReg.settled g.I.Family.WriteXmm.AsReg.enc) g.I.Family.WriteGpr.PartialEq.eq in
+    let o = g.I.RowAndOperands.operands_of c.args.self.now in
+    let w = c.hand_to.ensures.answers o (record { kept = content_is f o; shape = c.hand_to.ensures.shape; can = c.requires }) in
     record {
-      adds = run_adds c.put.result meant c.put.ensures;
-      leaves = run_leaves c.put.result meant c.put.ensures;
-      front = stays_in_front _ _ _ c.put.result (run_adds c.put.result meant c.put.ensures) (run_leaves c.put.result meant c.put.ensures);
-      error = run_error c.put.result c.put.ensures;
-      keeps = ran_keeps c.put.ensures;
-      enough = run_enough meant c.put.ensures;
-      room = run_room meant c.put.ensures;
-      byte_room = run_bytes_fall meant c.put.ensures;
-      notice_room = run_notices_fall meant c.put.ensures;
-      most = len_most meant;
-      relative = meant_relative _ _ _ _ c.code_in.ensures.shape;
+      adds = run_adds c.hand_to.result w.encodes w.ran;
+      leaves = run_leaves c.hand_to.result w.encodes w.ran;
+      front = stays_in_front _ _ _ c.hand_to.result (run_adds c.hand_to.result w.encodes w.ran) (run_leaves c.hand_to.result w.encodes w.ran);
+      error = run_error c.hand_to.result w.ran;
+      keeps = ran_keeps w.ran;
+      enough = run_enough w.encodes w.ran;
+      room = run_room w.encodes w.ran;
+      byte_room = run_bytes_fall w.encodes w.ran;
+      notice_room = run_notices_fall w.encodes w.ran;
+      most = len_most w.encodes;
+      relative = meant_relative _ _ _ _ c.hand_to.ensures.shape;
     }

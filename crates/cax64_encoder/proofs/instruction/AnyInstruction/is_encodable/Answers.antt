@@ -6,4 +6,4 @@ use Rattle.cax64_encoder.proofs.instruction.AnyInstruction.is_encodable.Goals as
 pub returns : goal.returns
 returns g c =
     let f = family_of (numbering g.I.Family.ReadGpr.AsReg.settled g.I.Family.ReadGpr.AsReg.enc) (numbering g.I.Family.ReadWriteGpr.AsReg.settled g.I.Family.ReadWriteGpr.AsReg.enc) (numbering g.I.Family.WriteGpr.AsReg.settled g.I.Family.WriteGpr.AsReg.enc) (numbering g.I.Family.ReadXmm.AsReg.settled g.I.Family.ReadXmm.AsReg.enc) (numbering g.I.Family.ReadWriteXmm.AsReg.settled g.I.Family.ReadWriteXmm.AsReg.enc) (numbering g.I.Family.WriteXmm.AsReg.settled g.I.Family.WriteXmm.AsReg.enc) g.I.Family.WriteGpr.PartialEq.eq in
-    (rw (c.fold_operands-checked.ensures.value ∙ checked_fold f (g.I.RowAndOperands.operands_of c.args.self.now)) at c.holds.ensures) ∙ holds_is f (g.I.RowAndOperands.row_of c.args.self.now) (g.I.RowAndOperands.operands_of c.args.self.now) (g.S.CodeSink.state c.args.sink.now).offsets
+    (rw (checked_fold f (g.I.RowAndOperands.operands_of c.args.self.now)) at c.hand_to.ensures.answers) ∙ holds_is f (g.I.RowAndOperands.row_of c.args.self.now) (g.I.RowAndOperands.operands_of c.args.self.now) (g.S.CodeSink.state c.args.sink.now).offsets

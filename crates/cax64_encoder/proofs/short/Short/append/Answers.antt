@@ -1,6 +1,6 @@
 use Rattle.std.proofs.Common.{◌<◌, ◌≤◌, ◌+◌, ◌∙◌, ap, length, arith}
 use Rattle.std.proofs.lemmas.List.{length-append}
-use Rattle.cax64_encoder.proofs.LowBytes.{word_shifted, both_fit, both_below, view_append, view_length}
+use Rattle.cax64_sink.proofs.LowBytes.{word_shifted, both_fit, both_below, view_append, view_length}
 use Rattle.cax64_encoder.proofs.short.Short.append.Goals as goal
 
 pub overflow_add-result : goal.overflow_add-result

@@ -1,0 +1,282 @@
+//! The instruction within is handed to a task, by groups of variants, so that each kind has code of its own. What the
+//! prover keeps of an arm that borrows what is within grows with the arms before it.
+
+ghost use Rattle.std.specs.Prelude.{◌≤◌};
+ghost use Rattle.cax64_inst.specs.Group.{group_of};
+ghost use Rattle.cax64_inst.specs.Inst.{row_of, operands_of};
+ghost use Rattle.cax64_inst.specs.Shaped.{Shaped};
+ghost use Rattle.cax64_operand.specs.Fold.{fold};
+ghost use Rattle.cax64_operand.specs.Shape.{HasShape};
+
+use crate::Inst;
+use cax64_machine_code::row::Row;
+use cax64_operand::{RowAndOperands, Task};
+use cax64_register::Registers;
+
+/// Hands on an instruction. That its operands have their row's shape is one word here, in what is asked: the search for a
+/// proof takes the definition's many parts apart in every arm.
+#[tactic(auto, unfolding(crate::specs::Shaped::Shaped))]
+#[inline(always)]
+fn give<I: RowAndOperands, T: Task<I::Family, X>, X>(instruction: &I, to: &mut X) -> T::Answer
+    requires asks { Shaped (I.row_of instruction.now) (I.operands_of instruction.now) → T.asks (I.row_of instruction.now) (fold T.made_of_none T.made_with T.made_of_nop (I.operands_of instruction.now)) to.old }
+    ensures answers { T.answers (I.row_of instruction.now) (fold T.made_of_none T.made_with T.made_of_nop (I.operands_of instruction.now)) to.old to.new result }
+    ensures shape { HasShape (I.row_of instruction.now) (I.operands_of instruction.now) }
+{
+    instruction.hand_to::<T, X>(to)
+}
+
+impl<R: Registers> Inst<R> {
+    /// Hands on what is within, if it is of the first group, and else asks the next. So do the others.
+    #[tactic(auto, unfolding(crate::specs::Inst::row_of, crate::specs::Inst::operands_of, crate::specs::Group::group_of))]
+    #[inline(always)]
+    pub(crate) fn hand_to_lock_add_or<T: Task<R, X>, X>(&self, to: &mut X) -> T::Answer
+        requires asks { Shaped (row_of self.now) (operands_of self.now) → T.asks (row_of self.now) (fold T.made_of_none T.made_with T.made_of_nop (operands_of self.now)) to.old }
+        ensures answers { T.answers (row_of self.now) (fold T.made_of_none T.made_with T.made_of_nop (operands_of self.now)) to.old to.new result }
+        ensures shape { HasShape (row_of self.now) (operands_of self.now) }
+    {
+        match self {
+            Inst::lock_addb_mi(i) => give::<_, T, X>(i, to),
+            Inst::lock_addw_mi(i) => give::<_, T, X>(i, to),
+            Inst::lock_addl_mi(i) => give::<_, T, X>(i, to),
+            Inst::lock_addq_mi_sxl(i) => give::<_, T, X>(i, to),
+            Inst::lock_addl_mi_sxb(i) => give::<_, T, X>(i, to),
+            Inst::lock_addq_mi_sxb(i) => give::<_, T, X>(i, to),
+            Inst::lock_addb_mr(i) => give::<_, T, X>(i, to),
+            Inst::lock_addw_mr(i) => give::<_, T, X>(i, to),
+            Inst::lock_addl_mr(i) => give::<_, T, X>(i, to),
+            Inst::lock_addq_mr(i) => give::<_, T, X>(i, to),
+            Inst::lock_orb_mi(i) => give::<_, T, X>(i, to),
+            Inst::lock_orw_mi(i) => give::<_, T, X>(i, to),
+            Inst::lock_orl_mi(i) => give::<_, T, X>(i, to),
+            Inst::lock_orq_mi_sxl(i) => give::<_, T, X>(i, to),
+            Inst::lock_orl_mi_sxb(i) => give::<_, T, X>(i, to),
+            Inst::lock_orq_mi_sxb(i) => give::<_, T, X>(i, to),
+            Inst::lock_orb_mr(i) => give::<_, T, X>(i, to),
+            Inst::lock_orw_mr(i) => give::<_, T, X>(i, to),
+            Inst::lock_orl_mr(i) => give::<_, T, X>(i, to),
+            Inst::lock_orq_mr(i) => give::<_, T, X>(i, to),
+            _ => self.hand_to_lock_adc_exchange::<T, X>(to),
+        }
+    }
+
+    #[tactic(auto, unfolding(crate::specs::Inst::row_of, crate::specs::Inst::operands_of, crate::specs::Group::group_of))]
+    #[inline(always)]
+    fn hand_to_lock_adc_exchange<T: Task<R, X>, X>(&self, to: &mut X) -> T::Answer
+        requires group { 1 ≤ group_of self.now }
+        requires asks { Shaped (row_of self.now) (operands_of self.now) → T.asks (row_of self.now) (fold T.made_of_none T.made_with T.made_of_nop (operands_of self.now)) to.old }
+        ensures answers { T.answers (row_of self.now) (fold T.made_of_none T.made_with T.made_of_nop (operands_of self.now)) to.old to.new result }
+        ensures shape { HasShape (row_of self.now) (operands_of self.now) }
+    {
+        match self {
+            Inst::lock_adcb_mi(i) => give::<_, T, X>(i, to),
+            Inst::lock_adcw_mi(i) => give::<_, T, X>(i, to),
+            Inst::lock_adcl_mi(i) => give::<_, T, X>(i, to),
+            Inst::lock_adcq_mi_sxl(i) => give::<_, T, X>(i, to),
+            Inst::lock_adcl_mi_sxb(i) => give::<_, T, X>(i, to),
+            Inst::lock_adcq_mi_sxb(i) => give::<_, T, X>(i, to),
+            Inst::lock_adcb_mr(i) => give::<_, T, X>(i, to),
+            Inst::lock_adcw_mr(i) => give::<_, T, X>(i, to),
+            Inst::lock_adcl_mr(i) => give::<_, T, X>(i, to),
+            Inst::lock_adcq_mr(i) => give::<_, T, X>(i, to),
+            Inst::lock_cmpxchgb_mr(i) => give::<_, T, X>(i, to),
+            Inst::lock_cmpxchgw_mr(i) => give::<_, T, X>(i, to),
+            Inst::lock_cmpxchgl_mr(i) => give::<_, T, X>(i, to),
+            Inst::lock_cmpxchgq_mr(i) => give::<_, T, X>(i, to),
+            Inst::lock_cmpxchg16b_m(i) => give::<_, T, X>(i, to),
+            Inst::lock_xaddb_mr(i) => give::<_, T, X>(i, to),
+            Inst::lock_xaddw_mr(i) => give::<_, T, X>(i, to),
+            Inst::lock_xaddl_mr(i) => give::<_, T, X>(i, to),
+            Inst::lock_xaddq_mr(i) => give::<_, T, X>(i, to),
+            _ => self.hand_to_lock_sbb_and::<T, X>(to),
+        }
+    }
+
+    #[tactic(auto, unfolding(crate::specs::Inst::row_of, crate::specs::Inst::operands_of, crate::specs::Group::group_of))]
+    #[inline(always)]
+    fn hand_to_lock_sbb_and<T: Task<R, X>, X>(&self, to: &mut X) -> T::Answer
+        requires group { 2 ≤ group_of self.now }
+        requires asks { Shaped (row_of self.now) (operands_of self.now) → T.asks (row_of self.now) (fold T.made_of_none T.made_with T.made_of_nop (operands_of self.now)) to.old }
+        ensures answers { T.answers (row_of self.now) (fold T.made_of_none T.made_with T.made_of_nop (operands_of self.now)) to.old to.new result }
+        ensures shape { HasShape (row_of self.now) (operands_of self.now) }
+    {
+        match self {
+            Inst::lock_sbbb_mi(i) => give::<_, T, X>(i, to),
+            Inst::lock_sbbw_mi(i) => give::<_, T, X>(i, to),
+            Inst::lock_sbbl_mi(i) => give::<_, T, X>(i, to),
+            Inst::lock_sbbq_mi_sxl(i) => give::<_, T, X>(i, to),
+            Inst::lock_sbbl_mi_sxb(i) => give::<_, T, X>(i, to),
+            Inst::lock_sbbq_mi_sxb(i) => give::<_, T, X>(i, to),
+            Inst::lock_sbbb_mr(i) => give::<_, T, X>(i, to),
+            Inst::lock_sbbw_mr(i) => give::<_, T, X>(i, to),
+            Inst::lock_sbbl_mr(i) => give::<_, T, X>(i, to),
+            Inst::lock_sbbq_mr(i) => give::<_, T, X>(i, to),
+            Inst::lock_andb_mi(i) => give::<_, T, X>(i, to),
+            Inst::lock_andw_mi(i) => give::<_, T, X>(i, to),
+            Inst::lock_andl_mi(i) => give::<_, T, X>(i, to),
+            Inst::lock_andq_mi_sxl(i) => give::<_, T, X>(i, to),
+            Inst::lock_andl_mi_sxb(i) => give::<_, T, X>(i, to),
+            Inst::lock_andq_mi_sxb(i) => give::<_, T, X>(i, to),
+            Inst::lock_andb_mr(i) => give::<_, T, X>(i, to),
+            Inst::lock_andw_mr(i) => give::<_, T, X>(i, to),
+            Inst::lock_andl_mr(i) => give::<_, T, X>(i, to),
+            Inst::lock_andq_mr(i) => give::<_, T, X>(i, to),
+            _ => self.hand_to_lock_sub_xor::<T, X>(to),
+        }
+    }
+
+    #[tactic(auto, unfolding(crate::specs::Inst::row_of, crate::specs::Inst::operands_of, crate::specs::Group::group_of))]
+    #[inline(always)]
+    fn hand_to_lock_sub_xor<T: Task<R, X>, X>(&self, to: &mut X) -> T::Answer
+        requires group { 3 ≤ group_of self.now }
+        requires asks { Shaped (row_of self.now) (operands_of self.now) → T.asks (row_of self.now) (fold T.made_of_none T.made_with T.made_of_nop (operands_of self.now)) to.old }
+        ensures answers { T.answers (row_of self.now) (fold T.made_of_none T.made_with T.made_of_nop (operands_of self.now)) to.old to.new result }
+        ensures shape { HasShape (row_of self.now) (operands_of self.now) }
+    {
+        match self {
+            Inst::lock_subb_mi(i) => give::<_, T, X>(i, to),
+            Inst::lock_subw_mi(i) => give::<_, T, X>(i, to),
+            Inst::lock_subl_mi(i) => give::<_, T, X>(i, to),
+            Inst::lock_subq_mi_sxl(i) => give::<_, T, X>(i, to),
+            Inst::lock_subl_mi_sxb(i) => give::<_, T, X>(i, to),
+            Inst::lock_subq_mi_sxb(i) => give::<_, T, X>(i, to),
+            Inst::lock_subb_mr(i) => give::<_, T, X>(i, to),
+            Inst::lock_subw_mr(i) => give::<_, T, X>(i, to),
+            Inst::lock_subl_mr(i) => give::<_, T, X>(i, to),
+            Inst::lock_subq_mr(i) => give::<_, T, X>(i, to),
+            Inst::lock_xorb_mi(i) => give::<_, T, X>(i, to),
+            Inst::lock_xorw_mi(i) => give::<_, T, X>(i, to),
+            Inst::lock_xorl_mi(i) => give::<_, T, X>(i, to),
+            Inst::lock_xorq_mi_sxl(i) => give::<_, T, X>(i, to),
+            Inst::lock_xorl_mi_sxb(i) => give::<_, T, X>(i, to),
+            Inst::lock_xorq_mi_sxb(i) => give::<_, T, X>(i, to),
+            Inst::lock_xorb_mr(i) => give::<_, T, X>(i, to),
+            Inst::lock_xorw_mr(i) => give::<_, T, X>(i, to),
+            Inst::lock_xorl_mr(i) => give::<_, T, X>(i, to),
+            Inst::lock_xorq_mr(i) => give::<_, T, X>(i, to),
+            _ => self.hand_to_shift::<T, X>(to),
+        }
+    }
+
+    #[tactic(auto, unfolding(crate::specs::Inst::row_of, crate::specs::Inst::operands_of, crate::specs::Group::group_of))]
+    #[inline(always)]
+    fn hand_to_shift<T: Task<R, X>, X>(&self, to: &mut X) -> T::Answer
+        requires group { 4 ≤ group_of self.now }
+        requires asks { Shaped (row_of self.now) (operands_of self.now) → T.asks (row_of self.now) (fold T.made_of_none T.made_with T.made_of_nop (operands_of self.now)) to.old }
+        ensures answers { T.answers (row_of self.now) (fold T.made_of_none T.made_with T.made_of_nop (operands_of self.now)) to.old to.new result }
+        ensures shape { HasShape (row_of self.now) (operands_of self.now) }
+    {
+        match self {
+            Inst::rolb_m1(i) => give::<_, T, X>(i, to),
+            Inst::rolw_m1(i) => give::<_, T, X>(i, to),
+            Inst::roll_m1(i) => give::<_, T, X>(i, to),
+            Inst::rolq_m1(i) => give::<_, T, X>(i, to),
+            Inst::rorb_m1(i) => give::<_, T, X>(i, to),
+            Inst::rorw_m1(i) => give::<_, T, X>(i, to),
+            Inst::rorl_m1(i) => give::<_, T, X>(i, to),
+            Inst::rorq_m1(i) => give::<_, T, X>(i, to),
+            Inst::sarb_m1(i) => give::<_, T, X>(i, to),
+            Inst::sarw_m1(i) => give::<_, T, X>(i, to),
+            Inst::sarl_m1(i) => give::<_, T, X>(i, to),
+            Inst::sarq_m1(i) => give::<_, T, X>(i, to),
+            Inst::shlb_m1(i) => give::<_, T, X>(i, to),
+            Inst::shlw_m1(i) => give::<_, T, X>(i, to),
+            Inst::shll_m1(i) => give::<_, T, X>(i, to),
+            Inst::shlq_m1(i) => give::<_, T, X>(i, to),
+            Inst::shrb_m1(i) => give::<_, T, X>(i, to),
+            Inst::shrw_m1(i) => give::<_, T, X>(i, to),
+            Inst::shrl_m1(i) => give::<_, T, X>(i, to),
+            Inst::shrq_m1(i) => give::<_, T, X>(i, to),
+            _ => self.hand_to_unlocked::<T, X>(to),
+        }
+    }
+
+    #[tactic(auto, unfolding(crate::specs::Inst::row_of, crate::specs::Inst::operands_of, crate::specs::Group::group_of))]
+    #[inline(always)]
+    fn hand_to_unlocked<T: Task<R, X>, X>(&self, to: &mut X) -> T::Answer
+        requires group { 5 ≤ group_of self.now }
+        requires asks { Shaped (row_of self.now) (operands_of self.now) → T.asks (row_of self.now) (fold T.made_of_none T.made_with T.made_of_nop (operands_of self.now)) to.old }
+        ensures answers { T.answers (row_of self.now) (fold T.made_of_none T.made_with T.made_of_nop (operands_of self.now)) to.old to.new result }
+        ensures shape { HasShape (row_of self.now) (operands_of self.now) }
+    {
+        match self {
+            Inst::andb_i(i) => give::<_, T, X>(i, to),
+            Inst::mulxl_rvm(i) => give::<_, T, X>(i, to),
+            Inst::mulxq_rvm(i) => give::<_, T, X>(i, to),
+            Inst::xchgb_rm(i) => give::<_, T, X>(i, to),
+            Inst::xchgw_rm(i) => give::<_, T, X>(i, to),
+            Inst::xchgl_rm(i) => give::<_, T, X>(i, to),
+            Inst::xchgq_rm(i) => give::<_, T, X>(i, to),
+            Inst::andps_a(i) => give::<_, T, X>(i, to),
+            Inst::cmpps_a(i) => give::<_, T, X>(i, to),
+            Inst::cmppd_a(i) => give::<_, T, X>(i, to),
+            Inst::cmpss_a(i) => give::<_, T, X>(i, to),
+            Inst::cmpsd_a(i) => give::<_, T, X>(i, to),
+            Inst::vcmpps_b(i) => give::<_, T, X>(i, to),
+            Inst::vcmppd_b(i) => give::<_, T, X>(i, to),
+            Inst::vcmpss_b(i) => give::<_, T, X>(i, to),
+            Inst::vcmpsd_b(i) => give::<_, T, X>(i, to),
+            Inst::vcvtpd2ps_a(i) => give::<_, T, X>(i, to),
+            Inst::vcvttpd2dq_a(i) => give::<_, T, X>(i, to),
+            Inst::callq_m(i) => give::<_, T, X>(i, to),
+            Inst::jmpq_m(i) => give::<_, T, X>(i, to),
+            _ => self.hand_to_without_registers::<T, X>(to),
+        }
+    }
+
+    #[tactic(auto, unfolding(crate::specs::Inst::row_of, crate::specs::Inst::operands_of, crate::specs::Group::group_of, crate::specs::Shaped::Shaped))]
+    #[inline(always)]
+    fn hand_to_without_registers<T: Task<R, X>, X>(&self, to: &mut X) -> T::Answer
+        requires group { 6 ≤ group_of self.now }
+        requires asks { Shaped (row_of self.now) (operands_of self.now) → T.asks (row_of self.now) (fold T.made_of_none T.made_with T.made_of_nop (operands_of self.now)) to.old }
+        ensures answers { T.answers (row_of self.now) (fold T.made_of_none T.made_with T.made_of_nop (operands_of self.now)) to.old to.new result }
+        ensures shape { HasShape (row_of self.now) (operands_of self.now) }
+    {
+        match self {
+            Inst::nop_1b(i) => T::take(i.fold_operands(), Row::nop_1b, to),
+            Inst::nop_2b(i) => T::take(i.fold_operands(), Row::nop_2b, to),
+            Inst::nop_3b(i) => T::take(i.fold_operands(), Row::nopl_rm, to),
+            Inst::nop_4b(i) => T::take(i.fold_operands(), Row::nopl_rm, to),
+            Inst::nop_5b(i) => T::take(i.fold_operands(), Row::nopl_rm, to),
+            Inst::nop_6b(i) => T::take(i.fold_operands(), Row::nopw_rm, to),
+            Inst::nop_7b(i) => T::take(i.fold_operands(), Row::nopl_rm, to),
+            Inst::nop_8b(i) => T::take(i.fold_operands(), Row::nopl_rm, to),
+            Inst::nop_9b(i) => T::take(i.fold_operands(), Row::nopw_rm, to),
+            Inst::jmp_d8(i) => T::take(i.fold_operands(), Row::jmp_d8, to),
+            Inst::jo_d8(i) => T::take(i.fold_operands(), Row::jo_d8, to),
+            Inst::jno_d8(i) => T::take(i.fold_operands(), Row::jno_d8, to),
+            Inst::jb_d8(i) => T::take(i.fold_operands(), Row::jb_d8, to),
+            Inst::jae_d8(i) => T::take(i.fold_operands(), Row::jae_d8, to),
+            Inst::je_d8(i) => T::take(i.fold_operands(), Row::je_d8, to),
+            Inst::jne_d8(i) => T::take(i.fold_operands(), Row::jne_d8, to),
+            Inst::jbe_d8(i) => T::take(i.fold_operands(), Row::jbe_d8, to),
+            Inst::ja_d8(i) => T::take(i.fold_operands(), Row::ja_d8, to),
+            Inst::js_d8(i) => T::take(i.fold_operands(), Row::js_d8, to),
+            Inst::jns_d8(i) => T::take(i.fold_operands(), Row::jns_d8, to),
+            Inst::jp_d8(i) => T::take(i.fold_operands(), Row::jp_d8, to),
+            Inst::jnp_d8(i) => T::take(i.fold_operands(), Row::jnp_d8, to),
+            Inst::jl_d8(i) => T::take(i.fold_operands(), Row::jl_d8, to),
+            Inst::jge_d8(i) => T::take(i.fold_operands(), Row::jge_d8, to),
+            Inst::jle_d8(i) => T::take(i.fold_operands(), Row::jle_d8, to),
+            Inst::jg_d8(i) => T::take(i.fold_operands(), Row::jg_d8, to),
+            Inst::callq_d(i) => T::take(i.fold_operands(), Row::callq_d, to),
+            Inst::jmp_d32(i) => T::take(i.fold_operands(), Row::jmp_d32, to),
+            Inst::jo_d32(i) => T::take(i.fold_operands(), Row::jo_d32, to),
+            Inst::jno_d32(i) => T::take(i.fold_operands(), Row::jno_d32, to),
+            Inst::jb_d32(i) => T::take(i.fold_operands(), Row::jb_d32, to),
+            Inst::jae_d32(i) => T::take(i.fold_operands(), Row::jae_d32, to),
+            Inst::je_d32(i) => T::take(i.fold_operands(), Row::je_d32, to),
+            Inst::jne_d32(i) => T::take(i.fold_operands(), Row::jne_d32, to),
+            Inst::jbe_d32(i) => T::take(i.fold_operands(), Row::jbe_d32, to),
+            Inst::ja_d32(i) => T::take(i.fold_operands(), Row::ja_d32, to),
+            Inst::js_d32(i) => T::take(i.fold_operands(), Row::js_d32, to),
+            Inst::jns_d32(i) => T::take(i.fold_operands(), Row::jns_d32, to),
+            Inst::jp_d32(i) => T::take(i.fold_operands(), Row::jp_d32, to),
+            Inst::jnp_d32(i) => T::take(i.fold_operands(), Row::jnp_d32, to),
+            Inst::jl_d32(i) => T::take(i.fold_operands(), Row::jl_d32, to),
+            Inst::jge_d32(i) => T::take(i.fold_operands(), Row::jge_d32, to),
+            Inst::jle_d32(i) => T::take(i.fold_operands(), Row::jle_d32, to),
+            Inst::jg_d32(i) => T::take(i.fold_operands(), Row::jg_d32, to),
+            _ => unreachable!(),
+        }
+    }
+}

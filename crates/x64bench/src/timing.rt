@@ -1,0 +1,221 @@
+//! The best times of the calls, over a whole list each. Nothing here knows which instructions there are.
+
+ghost use Rattle.std.specs.Prelude.{◌↔◌, IsTrue, All};
+ghost use Rattle.cranelift_assembler_x64.specs.Instruction.{can_encode_in};
+ghost use Rattle.cranelift_assembler_x64.specs.Text.{nameable};
+ghost use Rattle.cranelift_assembler_x64.specs.Vec.{vec_state};
+
+use cranelift_assembler_x64::reader::read_inst;
+use cranelift_assembler_x64::{
+    Instruction, InstructionText, RowAndOperands, all_encodable, encode_each,
+};
+use std::alloc::{AllocError, Global};
+use std::io;
+use std::io::ErrorKind;
+use std::time::{Duration, Instant};
+
+const ROUNDS: u32 = 15;
+
+/// What is timed.
+#[derive(Clone, Copy)]
+pub(crate) enum Call {
+    EncodeAll,
+    IsEncodable,
+    IsEncodableAndEncode,
+    EncodedLen,
+    ToString,
+    ReadInst,
+}
+
+/// In an order in which there is code before it is measured or read.
+pub(crate) const CALLS: [Call; 6] = [
+    Call::EncodeAll,
+    Call::IsEncodable,
+    Call::IsEncodableAndEncode,
+    Call::EncodedLen,
+    Call::ToString,
+    Call::ReadInst,
+];
+
+impl Call {
+    pub(crate) fn name(self) -> &'static str {
+        match self {
+            Call::EncodeAll => "encode_all",
+            Call::IsEncodable => "is_encodable",
+            Call::IsEncodableAndEncode => "is_encodable_and_encode",
+            Call::EncodedLen => "encoded_len",
+            Call::ToString => "to_string",
+            Call::ReadInst => "read_inst",
+        }
+    }
+}
+
+/// The place of the first instruction that can't be encoded or has no text.
+pub(crate) fn first_unfit<I: RowAndOperands>(insts: &[I], code: &Vec<u8>) -> Option<usize> {
+    for (place, inst) in insts.iter().enumerate() {
+        if !inst.is_encodable(code) || !inst.nameable() {
+            return Some(place);
+        }
+    }
+    None
+}
+
+/// The time since `start`. An error where not all was done, or what came isn't what was to come.
+fn time_if(rt: &HostRuntime, start: Instant, is_done: bool) -> io::Result<Duration> {
+    let time = start.elapsed(rt)?;
+    if is_done {
+        Ok(time)
+    } else {
+        Err(io::Error::from(ErrorKind::InvalidData))
+    }
+}
+
+/// The call is that of `encode_each`: `encode_all` is nothing else.
+fn time_encode_all<I: Instruction>(
+    rt: &HostRuntime,
+    insts: &[I],
+    code: &mut Vec<u8>,
+) -> io::Result<Duration> {
+    code.clear();
+    if !all_encodable(insts, &*code) {
+        return Err(io::Error::from(ErrorKind::InvalidData));
+    }
+    let start = Instant::now(rt)?;
+    let is_done = encode_each(insts, code).is_ok();
+    time_if(rt, start, is_done)
+}
+
+fn time_is_encodable<I: Instruction>(
+    rt: &HostRuntime,
+    insts: &[I],
+    code: &Vec<u8>,
+) -> io::Result<Duration> {
+    let start = Instant::now(rt)?;
+    let is_done = all_encodable(insts, code);
+    time_if(rt, start, is_done)
+}
+
+/// Encodes each instruction behind the test whether it can be.
+fn encode_checked<I: Instruction>(insts: &[I], code: &mut Vec<u8>) -> bool {
+    for inst in insts {
+        if !inst.is_encodable(&*code) || inst.encode(code).is_err() {
+            return false;
+        }
+    }
+    true
+}
+
+fn time_is_encodable_and_encode<I: Instruction>(
+    rt: &HostRuntime,
+    insts: &[I],
+    code: &mut Vec<u8>,
+) -> io::Result<Duration> {
+    code.clear();
+    let start = Instant::now(rt)?;
+    let is_done = encode_checked(insts, code);
+    time_if(rt, start, is_done)
+}
+
+/// The length of all instructions.
+fn code_length<I: Instruction>(insts: &[I], code: &Vec<u8>) -> usize
+    requires { All (λ i. IsTrue (can_encode_in (vec_state code.now) (I.meant i))) insts.now }
+{
+    let mut length: usize = 0;
+    for inst in insts {
+        length = length.wrapping_add(usize::from(inst.encoded_len(code)));
+    }
+    length
+}
+
+fn time_encoded_len<I: Instruction>(
+    rt: &HostRuntime,
+    insts: &[I],
+    code: &Vec<u8>,
+) -> io::Result<Duration> {
+    if !all_encodable(insts, code) {
+        return Err(io::Error::from(ErrorKind::InvalidData));
+    }
+    let start = Instant::now(rt)?;
+    let length = code_length(insts, code);
+    time_if(rt, start, length == code.len())
+}
+
+/// Whether each instruction has a text.
+fn all_nameable<I: InstructionText>(insts: &[I]) -> bool
+    ensures { IsTrue result ↔ All (λ i. IsTrue (nameable I.names (I.operands_of i))) insts.now }
+{
+    insts.iter().all(|inst| inst.nameable())
+}
+
+/// The length of all texts, each made and let go.
+fn text_length<I: InstructionText>(alloc: Global, insts: &[I]) -> Result<usize, AllocError>
+    requires { All (λ i. IsTrue (nameable I.names (I.operands_of i))) insts.now }
+{
+    let mut length: usize = 0;
+    for inst in insts {
+        let text = inst.to_string(alloc)?;
+        length = length.wrapping_add(text.len());
+    }
+    Ok(length)
+}
+
+fn time_to_string<I: InstructionText>(rt: &HostRuntime, insts: &[I]) -> io::Result<Duration> {
+    if !all_nameable(insts) {
+        return Err(io::Error::from(ErrorKind::InvalidData));
+    }
+    let start = Instant::now(rt)?;
+    let length = text_length(rt.alloc(), insts)?;
+    time_if(rt, start, length != 0)
+}
+
+/// Whether the code is that of so many instructions.
+fn reads_as(code: &[u8], count: usize) -> bool {
+    let mut rest = code;
+    for _ in 0..count {
+        let Some(reading) = read_inst(rest) else {
+            return false;
+        };
+        let Some(behind) = rest.get(usize::from(reading.length)..) else {
+            return false;
+        };
+        rest = behind;
+    }
+    rest.is_empty()
+}
+
+fn time_read_inst(rt: &HostRuntime, code: &[u8], count: usize) -> io::Result<Duration> {
+    let start = Instant::now(rt)?;
+    let is_done = reads_as(code, count);
+    time_if(rt, start, is_done)
+}
+
+/// The time of one round. `code` is what the last call that encodes made.
+fn time_of<I: RowAndOperands>(
+    rt: &HostRuntime,
+    call: Call,
+    insts: &[I],
+    code: &mut Vec<u8>,
+) -> io::Result<Duration> {
+    match call {
+        Call::EncodeAll => time_encode_all(rt, insts, code),
+        Call::IsEncodable => time_is_encodable(rt, insts, &*code),
+        Call::IsEncodableAndEncode => time_is_encodable_and_encode(rt, insts, code),
+        Call::EncodedLen => time_encoded_len(rt, insts, &*code),
+        Call::ToString => time_to_string(rt, insts),
+        Call::ReadInst => time_read_inst(rt, code.as_slice(), insts.len()),
+    }
+}
+
+/// The best time of all rounds.
+pub(crate) fn best_time<I: RowAndOperands>(
+    rt: &HostRuntime,
+    call: Call,
+    insts: &[I],
+    code: &mut Vec<u8>,
+) -> io::Result<Duration> {
+    let mut best = Duration::MAX;
+    for _ in 0..ROUNDS {
+        best = best.min(time_of(rt, call, insts, code)?);
+    }
+    Ok(best)
+}
