@@ -1,9 +1,10 @@
-use Rattle.std.proofs.Common.{◌≡◌, ℕ, ◌/◌, ◌%◌, ◌^◌, ◌<◌, ◌≤ℤ◌, arith, Bool, true, false, ◌⊎◌, inl, inr, refl, ◌∙◌, ap, sym, subst, Option, Some, None, List, [], ◌∷◌, ℤ, pos, negsuc, w8, w16, w32, FitsSigned}
+use Rattle.std.proofs.Common.{◌≡◌, ℕ, ◌/◌, ◌%◌, ◌^◌, ◌<◌, ◌≤ℤ◌, arith, Bool, true, false, refl, ◌∙◌, ap, sym, subst, Option, Some, None, List, [], ◌∷◌, ℤ, pos, negsuc, w8, w16, w32, FitsSigned}
 use Rattle.std.specs.Int.{cast_unsigned, to_le_bytes}
 use Rattle.std.specs.Prelude.{◌-ℤ◌, ◌==◌, ◌||◌, not, nat_lt, nat_le, option_map}
 use Rattle.std.proofs.lemmas.Bool.{and_parts}
 use Rattle.std.proofs.lemmas.Bool.Decides.{nat_tests}
 use Rattle.std.proofs.lemmas.Int.{ints, to_z-of_z}
+use Rattle.cax64_address.specs.Emitted.{TailOf}
 use Rattle.cax64_address.specs.Memory.{index_named}
 use Rattle.cax64_address.specs.Offset.{sum_fits, sum_of}
 use Rattle.cax64_address.specs.declared.amode.Amode.TheVariants.{ImmReg, ImmRegRegShift, RipRelative}
@@ -33,7 +34,7 @@ use Rattle.cax64_prefix.specs.Rex.{is_special_if_8bit}
 use Rattle.cax64_register.specs.Real.{is_real, is_real_non_rsp}
 use Rattle.cax64_sink.specs.Call.{Action, put}
 use Rattle.cax64_sink.specs.Rest.{word_actions, is_imm_len}
-use Rattle.cax64_encoder.specs.Encodes.{EncodesParts, form_parts}
+use Rattle.cax64_encoder.specs.Encodes.{EncodesParts, TailPartOf, form_parts}
 use Rattle.cax64_encoder.specs.Form.{Form, with_roles, is_absent, is_no_place, reg_fits, place_fits, tail_fits, vvvv_fits, fits}
 use Rattle.cax64_encoder.specs.Form as forms
 use Rattle.cax64_encoder.specs.ImmActions.{imm_actions, optional_imm_actions, imm_word, optional_imm_word, imm_named}
@@ -41,7 +42,7 @@ use Rattle.cax64_encoder.specs.Instruction.{ShortestFor}
 use Rattle.cax64_encoder.specs.Meant.{low}
 use Rattle.cax64_encoder.specs.Notices.{memory_notices, notices_of}
 use Rattle.cax64_encoder.specs.Number.{number_value}
-use Rattle.cax64_encoder.specs.Numbered.{HasImmWord, IsNumbered, numbered_place, numbered_form, no_form, with_role, notice_count, plain, kind_named, place_named, form_named}
+use Rattle.cax64_encoder.specs.Numbered.{HasImmWord, IsNumbered, numbered_place, numbered_form, no_form, with_role, notice_count, plain, flags_named, place_named, form_named}
 use Rattle.cax64_encoder.specs.Numbered as numbered
 use Rattle.cax64_encoder.specs.Place.{memory_in, displacement_in, place_read}
 use Rattle.cax64_encoder.specs.Prefix.{place_high, place_special}
@@ -51,8 +52,6 @@ use Rattle.cax64_encoder.specs.declared.number.Number.{Number}
 use Rattle.cax64_encoder.specs.declared.number.Number.TheVariants.{Settled, Unsettled}
 use Rattle.cax64_encoder.specs.declared.numbered.NumberedForm.{NumberedForm}
 use Rattle.cax64_encoder.specs.declared.numbered.NumberedPlace.{NumberedPlace}
-use Rattle.cax64_encoder.specs.declared.numbered.PlaceKind.{PlaceKind}
-use Rattle.cax64_encoder.specs.declared.numbered.PlaceKind.TheVariants as kind
 use Rattle.cax64_encoder.specs.declared.role.PlaceOperand as place
 use Rattle.cax64_encoder.specs.declared.role.PlaceOperand.{PlaceOperand}
 use Rattle.cax64_encoder.specs.declared.role.Role.{Role}
@@ -126,21 +125,14 @@ numbers_below numbers e h =
         (below base 16 p.0, below index 16 q.0)
     by_place (place.TheVariants.Memory (RipRelative target)) h = (omega arith, omega arith)
 
--- a base alone has no index, and the number of an index is another
-base_of : (k : PlaceKind) (numbers : NumberedPlace) → k ≡ kind.Base → numbers ≡ numbered_place plain (kind_named k numbers) → numbers.index ≡ 4
-base_of kind.NoPlace numbers k e = cc
-base_of kind.Register numbers k e = cc
-base_of kind.Base numbers k e = ap (λ (p : NumberedPlace). p.index) e
-base_of kind.BaseAndIndex numbers k e = cc
-base_of (kind.Relative target) numbers k e = cc
+-- a base alone has no index, and the number of an index is another: number 4 is none
 
-base_index : (numbers : NumberedPlace) → IsNumbered numbers → numbers.kind ≡ kind.Base → numbers.index ≡ 4
-base_index numbers e k = base_of numbers.kind numbers k e
+no_index : (numbers : NumberedPlace) → numbers ≡ numbered_place plain (flags_named true None false false numbers) → numbers.index ≡ 4
+no_index numbers e = ap (λ (p : NumberedPlace). p.index) e
 
-index_other : (numbers : NumberedPlace) → numbers.kind ≡ kind.BaseAndIndex → numbered.place_is_real numbers ≡ true → (numbers.index == 4) ≡ false
-index_other numbers k h =
-    let both : place_is_real plain.settled plain.enc (kind_named kind.BaseAndIndex numbers) ≡ true = rw k at h in
-    let p = and_parts (nat_lt numbers.base 16) _ both in
+index_other : (numbers : NumberedPlace) → place_is_real plain.settled plain.enc (flags_named true None false true numbers) ≡ true → (numbers.index == 4) ≡ false
+index_other numbers h =
+    let p = and_parts (nat_lt numbers.base 16) _ h in
     let q = and_parts (nat_lt numbers.index 16) (not (numbers.index == 4)) p.1 in
     is_not (numbers.index == 4) q.1
   where
@@ -148,25 +140,35 @@ index_other numbers k h =
     is_not true h = cc
     is_not false h = refl
 
--- what is read for an address of a base, in which the number 4 is no index
+-- Numbers that name a register, or an address of a base.
+module _ (numbers : NumberedPlace) (e : IsNumbered numbers) (stands : numbers.stands ≡ true) (absent : numbers.relative ≡ None) where
+  -- a register is the base too
+  pub register_named : numbers.is_register ≡ true → place_named numbers ≡ place.TheVariants.Register (Settled numbers.base)
+  register_named r =
+      let is : place_named numbers ≡ place.TheVariants.Register (Settled numbers.register) = rw (stands, absent, r) refl in
+      let own : numbers ≡ numbered_place plain (place.TheVariants.Register (Settled numbers.register)) = rw is at e in
+      let base : numbers.base ≡ numbers.register = ap (λ (p : NumberedPlace). p.base) own in
+      is ∙ ap (λ (n : ℕ). place.TheVariants.Register (Settled n)) (sym base)
 
-base_read : (k : PlaceKind) (numbers : NumberedPlace) (disp : ℤ) (at_end : ℕ) → k ≡ kind.Base → numbers.index ≡ 4 → place_read plain.enc disp at_end (kind_named k numbers) ≡ Some (Mem (Some numbers.base) (index_named numbers.index numbers.scale) disp)
-base_read kind.NoPlace numbers disp at_end e i = cc
-base_read kind.Register numbers disp at_end e i = cc
-base_read kind.Base numbers disp at_end e i = rw i refl
-base_read kind.BaseAndIndex numbers disp at_end e i = cc
-base_read (kind.Relative target) numbers disp at_end e i = cc
+  module _ (h : numbered.place_is_real numbers ≡ true) (r : numbers.is_register ≡ false) (disp : ℤ) (at_end : ℕ) where
+    address_named : place_named numbers ≡ flags_named true None false numbers.has_index numbers
+    address_named = rw (stands, absent, r) refl
 
-both_read : (k : PlaceKind) (numbers : NumberedPlace) (disp : ℤ) (at_end : ℕ) → k ≡ kind.BaseAndIndex → (numbers.index == 4) ≡ false → place_read plain.enc disp at_end (kind_named k numbers) ≡ Some (Mem (Some numbers.base) (index_named numbers.index numbers.scale) disp)
-both_read kind.NoPlace numbers disp at_end e i = cc
-both_read kind.Register numbers disp at_end e i = cc
-both_read kind.Base numbers disp at_end e i = cc
-both_read kind.BaseAndIndex numbers disp at_end e i = rw i refl
-both_read (kind.Relative target) numbers disp at_end e i = cc
+    -- what is read for an address
+    pub address_read : place_read plain.enc disp at_end (place_named numbers) ≡ Some (Mem (Some numbers.base) (index_named numbers.index numbers.scale) disp)
+    address_read = rw address_named (by_index numbers.has_index (rw address_named at e) (rw address_named at h))
+      where
+        by_index : (i : Bool) → numbers ≡ numbered_place plain (flags_named true None false i numbers) → place_is_real plain.settled plain.enc (flags_named true None false i numbers) ≡ true → place_read plain.enc disp at_end (flags_named true None false i numbers) ≡ Some (Mem (Some numbers.base) (index_named numbers.index numbers.scale) disp)
+        by_index false e h = rw (no_index numbers e) refl
+        by_index true e h = rw (index_other numbers h) refl
 
-pub memory_read : (numbers : NumberedPlace) (disp : ℤ) (at_end : ℕ) → IsNumbered numbers → numbered.place_is_real numbers ≡ true → (numbers.kind ≡ kind.Base) ⊎ (numbers.kind ≡ kind.BaseAndIndex) → place_read plain.enc disp at_end (place_named numbers) ≡ Some (Mem (Some numbers.base) (index_named numbers.index numbers.scale) disp)
-memory_read numbers disp at_end n h (inl e) = base_read numbers.kind numbers disp at_end e (base_index numbers n e)
-memory_read numbers disp at_end n h (inr e) = both_read numbers.kind numbers disp at_end e (index_other numbers e h)
+    -- what is put for the tail of its base is its tail
+    pub address_tail : (reg : ℕ) (acts : List Action) → TailOf (numbers.index / 8) (numbers.base / 8) 1 (reg % 8) (Mem (Some numbers.base) (index_named numbers.index numbers.scale) disp) (λ at. []) acts → TailPartOf plain.enc disp at_end reg (place_named numbers) acts
+    address_tail reg acts tail = rw address_named (by_index numbers.has_index (rw address_named at e) (rw address_named at h))
+      where
+        by_index : (i : Bool) → numbers ≡ numbered_place plain (flags_named true None false i numbers) → place_is_real plain.settled plain.enc (flags_named true None false i numbers) ≡ true → TailPartOf plain.enc disp at_end reg (flags_named true None false i numbers) acts
+        by_index false e h = rw (no_index numbers e) at tail
+        by_index true e h = rw (index_other numbers h) at tail
 
 -- What they stand for has the shape of the operands.
 

@@ -1,10 +1,11 @@
-use Rattle.std.specs.Prelude.{◌≡◌, ℕ, Bool, true, ◌&&◌, Some, None, option_map, pos}
+use Rattle.std.specs.Prelude.{◌≡◌, ℕ, Bool, true, ◌&&◌, false, Option, Some, None, option_map, pos}
 use Rattle.cax64_address.specs.declared.amode.Amode.{Amode}
 use Rattle.cax64_address.specs.declared.amode.Amode.TheVariants.{ImmReg, ImmRegRegShift, RipRelative}
 use Rattle.cax64_address.specs.declared.amode.Scale.TheVariants.{One}
 use Rattle.cax64_address.specs.declared.offset.AmodeOffsetPlusKnownOffset.{AmodeOffsetPlusKnownOffset}
 use Rattle.cax64_machine_code.specs.declared.line.Line.{Line}
 use Rattle.cax64_operand.specs.Family.{Numbering}
+use Rattle.cax64_sink.specs.declared.DeferredTarget.{DeferredTarget}
 use Rattle.cax64_encoder.specs.Form.{Form}
 use Rattle.cax64_encoder.specs.ImmActions.{imm_named, imm_word, optional_imm_word}
 use Rattle.cax64_encoder.specs.Notices.{trap_count}
@@ -14,8 +15,6 @@ use Rattle.cax64_encoder.specs.Role.{number}
 use Rattle.cax64_encoder.specs.declared.number.Number.TheVariants.{Settled}
 use Rattle.cax64_encoder.specs.declared.numbered.NumberedForm.{NumberedForm}
 use Rattle.cax64_encoder.specs.declared.numbered.NumberedPlace.{NumberedPlace}
-use Rattle.cax64_encoder.specs.declared.numbered.PlaceKind.{PlaceKind}
-use Rattle.cax64_encoder.specs.declared.numbered.PlaceKind.TheVariants as kind
 use Rattle.cax64_encoder.specs.declared.role.PlaceOperand as place
 use Rattle.cax64_encoder.specs.declared.role.PlaceOperand.{PlaceOperand}
 use Rattle.cax64_encoder.specs.declared.role.Role.{Role}
@@ -27,15 +26,15 @@ abbrev pub no_displacement : AmodeOffsetPlusKnownOffset
 no_displacement = record { simm32 = pos 0; offset = None }
 
 abbrev pub no_place : NumberedPlace
-no_place = record { kind = kind.NoPlace; base = 0; index = 0; register = 0; scale = One; displacement = no_displacement; trap = None }
+no_place = record { stands = false; is_register = false; has_index = false; relative = None; base = 0; index = 0; register = 0; scale = One; displacement = no_displacement; trap = None }
 
 abbrev pub register_place : ℕ → NumberedPlace
-register_place number = record { kind = kind.Register; base = number; index = 0; register = number; scale = One; displacement = no_displacement; trap = None }
+register_place number = record { stands = true; is_register = true; has_index = false; relative = None; base = number; index = 0; register = number; scale = One; displacement = no_displacement; trap = None }
 
 abbrev pub numbered_amode : {M : Type 0} → Numbering M → Amode M → NumberedPlace
-numbered_amode n (ImmReg base simm32 trap) = record { kind = kind.Base; base = number_value (number n base); index = 4; register = 0; scale = One; displacement = simm32; trap = trap }
-numbered_amode n (ImmRegRegShift base index scale simm32 trap) = record { kind = kind.BaseAndIndex; base = number_value (number n base); index = number_value (number n index); register = 0; scale = scale; displacement = record { simm32 = simm32; offset = None }; trap = trap }
-numbered_amode n (RipRelative target) = record { kind = kind.Relative target; base = 0; index = 0; register = 0; scale = One; displacement = no_displacement; trap = None }
+numbered_amode n (ImmReg base simm32 trap) = record { stands = true; is_register = false; has_index = false; relative = None; base = number_value (number n base); index = 4; register = 0; scale = One; displacement = simm32; trap = trap }
+numbered_amode n (ImmRegRegShift base index scale simm32 trap) = record { stands = true; is_register = false; has_index = true; relative = None; base = number_value (number n base); index = number_value (number n index); register = 0; scale = scale; displacement = record { simm32 = simm32; offset = None }; trap = trap }
+numbered_amode n (RipRelative target) = record { stands = true; is_register = false; has_index = false; relative = Some target; base = 0; index = 0; register = 0; scale = One; displacement = no_displacement; trap = None }
 
 abbrev pub numbered_place : {M : Type 0} → Numbering M → PlaceOperand M → NumberedPlace
 numbered_place n place.TheVariants.NoPlace = no_place
@@ -62,30 +61,28 @@ with_role n (role.Place operand) form = record { reg = form.reg; vvvv = form.vvv
 with_role n (role.Immediate imm) form = record { reg = form.reg; vvvv = form.vvvv; place = form.place; imm = imm_word imm }
 
 -- how many notices an instruction with this place makes
-abbrev pub kind_notices : PlaceKind → ℕ → ℕ
-kind_notices kind.NoPlace trap = trap
-kind_notices kind.Register trap = trap
-kind_notices kind.Base trap = trap
-kind_notices kind.BaseAndIndex trap = trap
-kind_notices (kind.Relative target) trap = 1
+abbrev pub relative_notices : Option DeferredTarget → ℕ → ℕ
+relative_notices None trap = trap
+relative_notices (Some target) trap = 1
 
 abbrev pub notice_count : NumberedPlace → ℕ
-notice_count place = kind_notices place.kind (trap_count place.trap)
+notice_count place = relative_notices place.relative (trap_count place.trap)
 
 -- What numbers stand for: operands whose registers are plain numbers.
 
 abbrev pub plain : Numbering ℕ
 plain = record { settled = λ _. true; enc = λ number. number }
 
-abbrev pub kind_named : PlaceKind → NumberedPlace → PlaceOperand ℕ
-kind_named kind.NoPlace numbers = place.TheVariants.NoPlace
-kind_named kind.Register numbers = place.TheVariants.Register (Settled numbers.register)
-kind_named kind.Base numbers = place.TheVariants.Memory (ImmReg numbers.base numbers.displacement numbers.trap)
-kind_named kind.BaseAndIndex numbers = place.TheVariants.Memory (ImmRegRegShift numbers.base numbers.index numbers.scale numbers.displacement.simm32 numbers.trap)
-kind_named (kind.Relative target) numbers = place.TheVariants.Memory (RipRelative target)
+-- by whether anything stands, the target, whether it is a register, whether there is an index
+abbrev pub flags_named : Bool → Option DeferredTarget → Bool → Bool → NumberedPlace → PlaceOperand ℕ
+flags_named false relative is_register has_index numbers = place.TheVariants.NoPlace
+flags_named true (Some target) is_register has_index numbers = place.TheVariants.Memory (RipRelative target)
+flags_named true None true has_index numbers = place.TheVariants.Register (Settled numbers.register)
+flags_named true None false true numbers = place.TheVariants.Memory (ImmRegRegShift numbers.base numbers.index numbers.scale numbers.displacement.simm32 numbers.trap)
+flags_named true None false false numbers = place.TheVariants.Memory (ImmReg numbers.base numbers.displacement numbers.trap)
 
 abbrev pub place_named : NumberedPlace → PlaceOperand ℕ
-place_named numbers = kind_named numbers.kind numbers
+place_named numbers = flags_named numbers.stands numbers.relative numbers.is_register numbers.has_index numbers
 
 -- in a row of this line
 abbrev pub form_named : Line → NumberedForm → Form ℕ

@@ -1,6 +1,6 @@
 //! From a row of the table and operands to the code of an instruction.
 
-ghost use Rattle.std.specs.Prelude.{◌≡◌, ◌==◌, ◌<◌, ◌≤◌, ◌/◌, ◌&&◌, ◌||◌, ◌↔◌, nat_le, false, IsTrue, IsSome, Option, option_map, length};
+ghost use Rattle.std.specs.Prelude.{◌≡◌, ◌∷◌, [], ◌==◌, ◌<◌, ◌≤◌, ◌/◌, ◌&&◌, ◌||◌, ◌↔◌, nat_le, true, false, IsTrue, IsSome, Option, option_map, length};
 ghost use Rattle.std.specs.Int.{from_bool};
 ghost use Rattle.cax64_address.specs.Emitted as address;
 ghost use Rattle.cax64_address.specs.Memory.{memory_actions};
@@ -22,13 +22,14 @@ ghost use Rattle.cax64_machine_code.specs.Prefix.{rex_bits};
 ghost use Rattle.cax64_machine_code.specs.Rows.{line_of};
 ghost use Rattle.cax64_prefix.specs.Rex.{is_special_if_8bit};
 ghost use Rattle.cax64_operand.specs.declared.operand.Operands.{Operands};
+ghost use Rattle.cax64_sink.specs.Call.{put};
 ghost use Rattle.cax64_sink.specs.Run.{all_bytes};
 
 use crate::code::{Code, TailPart};
 use crate::content::Content;
 use crate::front;
 use crate::nop::nop_code;
-use crate::numbered::{NumberedForm, NumberedPlace, PlaceKind};
+use crate::numbered::{NumberedForm, NumberedPlace};
 use crate::short::Short;
 use cax64_address::disp::encode_modrm;
 use cax64_address::memory::{MemoryTail, memory_tail};
@@ -121,6 +122,24 @@ fn memory_part(tail: MemoryTail) -> TailPart
     }
 }
 
+/// The tail of a base, or in its place this ModR/M byte alone, which names a register. Nothing is tested, so that
+/// nothing is guessed: a branch would cost more.
+#[inline(always)]
+fn register_or_base(is_register: bool, modrm: u8, tail: MemoryTail) -> MemoryTail
+    ensures register { is_register ≡ true → memory_actions result ≡ put (modrm ∷ []) ∷ [] }
+    ensures base { is_register ≡ false → result ≡ tail }
+{
+    let is_base = !is_register;
+    MemoryTail {
+        modrm: if is_register { modrm } else { tail.modrm },
+        sib: tail.sib,
+        has_sib: tail.has_sib & is_base,
+        byte: tail.byte,
+        has_byte: tail.has_byte & is_base,
+        long: if is_register { None } else { tail.long },
+    }
+}
+
 /// The tail of a place, with this number in reg, before this many bytes of immediate.
 #[inline(always)]
 fn tail_part(reg: u8, place: &NumberedPlace, displacement: i32, bytes_at_end: u8) -> TailPart
@@ -133,26 +152,19 @@ fn tail_part(reg: u8, place: &NumberedPlace, displacement: i32, bytes_at_end: u8
     ensures few { length result.front ≤ 3 }
 {
     let reg = reg % 8;
-    match place.kind {
-        PlaceKind::NoPlace => TailPart {
+    if !place.stands {
+        return TailPart {
             front: Short::empty(),
             target: None,
             long: None,
-        },
-        PlaceKind::Register => TailPart {
-            front: Short::one(encode_modrm(3, reg, place.register % 8)),
-            target: None,
-            long: None,
-        },
-        PlaceKind::Base | PlaceKind::BaseAndIndex => memory_part(memory_tail(
-            reg,
-            place.base,
-            place.index,
-            place.scale,
-            displacement,
-        )),
-        PlaceKind::Relative(target) => relative_part(relative_tail(reg, target, bytes_at_end)),
+        };
     }
+    if let Some(target) = place.relative {
+        return relative_part(relative_tail(reg, target, bytes_at_end));
+    }
+    let modrm = encode_modrm(3, reg, place.base % 8);
+    let tail = memory_tail(reg, place.base, place.index, place.scale, displacement);
+    memory_part(register_or_base(place.is_register, modrm, tail))
 }
 
 /// The code of the instruction of a row with these operands, whose memory operand has this displacement.

@@ -14,20 +14,17 @@ use cax64_operand::{Operand, RegisterFamily};
 use cax64_register::{AsReg, Registers, gpr};
 use cax64_sink::{DeferredTarget, TrapCode};
 
-/// What stands in the rest of the tail.
-#[derive(Clone, Copy)]
-pub enum PlaceKind {
-    NoPlace,
-    Register,
-    Base,
-    BaseAndIndex,
-    Relative(DeferredTarget),
-}
-
-/// What the rest of the tail names. What its kind lacks is 0 or absent.
+/// What the rest of the tail names. What it lacks is false, 0 or absent.
 #[derive(Clone, Copy)]
 pub struct NumberedPlace {
-    pub kind: PlaceKind,
+    /// Whether anything stands there.
+    pub stands: bool,
+    /// Whether that is a register and no address.
+    pub is_register: bool,
+    /// Whether it is an address of a base and an index. No code asks: it tells what the numbers stand for.
+    pub has_index: bool,
+    /// The target of an address relative to the end.
+    pub relative: Option<DeferredTarget>,
     /// Of the register or of the base.
     pub base: u8,
     /// 4, which is no index, beside a base alone.
@@ -57,7 +54,10 @@ impl NumberedPlace {
         ensures { result ≡ no_place }
     {
         NumberedPlace {
-            kind: PlaceKind::NoPlace,
+            stands: false,
+            is_register: false,
+            has_index: false,
+            relative: None,
             base: 0,
             index: 0,
             register: 0,
@@ -73,7 +73,8 @@ impl NumberedPlace {
         ensures { result ≡ register_place number }
     {
         let mut numbers = NumberedPlace::none();
-        numbers.kind = PlaceKind::Register;
+        numbers.stands = true;
+        numbers.is_register = true;
         numbers.base = number;
         numbers.register = number;
         numbers
@@ -85,9 +86,9 @@ impl NumberedPlace {
         ensures { result ≡ numbered_amode (numbering M.settled M.enc) amode.now }
     {
         let mut numbers = NumberedPlace::none();
+        numbers.stands = true;
         match amode {
             Amode::ImmReg { base, simm32, trap } => {
-                numbers.kind = PlaceKind::Base;
                 numbers.base = Number::value_of(*base);
                 numbers.index = gpr::enc::RSP;
                 numbers.displacement = *simm32;
@@ -100,14 +101,14 @@ impl NumberedPlace {
                 simm32,
                 trap,
             } => {
-                numbers.kind = PlaceKind::BaseAndIndex;
+                numbers.has_index = true;
                 numbers.base = Number::value_of(*base);
                 numbers.index = Number::value_of(*index.as_ref());
                 numbers.scale = *scale;
                 numbers.displacement.simm32 = *simm32;
                 numbers.trap = *trap;
             }
-            Amode::RipRelative { target } => numbers.kind = PlaceKind::Relative(*target),
+            Amode::RipRelative { target } => numbers.relative = Some(*target),
         }
         numbers
     }
@@ -117,9 +118,9 @@ impl NumberedPlace {
     pub fn notice_count(&self) -> u8
         ensures { result ≡ notice_count self.now }
     {
-        match self.kind {
-            PlaceKind::Relative(_) => 1,
-            _ => u8::from(self.trap.is_some()),
+        match self.relative {
+            Some(_) => 1,
+            None => u8::from(self.trap.is_some()),
         }
     }
 }

@@ -373,7 +373,7 @@ impl<R: Registers> RowAndOperands for Inst<R> {
     #[tactic(auto, unfolding(crate::specs::Shaped::Shaped))]
     #[inline(always)]
     fn hand_to<T: Task<R, X>, X>(&self, to: &mut X) -> T::Answer {
-        self.hand_to_lock_add_or::<T, X>(to)
+        self.hand_to_within::<T, X>(to)
     }
 
     fn visit<V: RegisterVisitor<R>>(&mut self, visitor: &mut V) {

@@ -1,5 +1,5 @@
-//! The instruction within is handed to a task, by groups of variants, so that each kind has code of its own. What the
-//! prover keeps of an arm that borrows what is within grows with the arms before it.
+//! The instruction within is handed to a task, so that each kind has code of its own. One match over all that have
+//! registers is one jump; matches one behind the other, each of a few kinds, would be as many jumps.
 
 ghost use Rattle.std.specs.Prelude.{◌≤◌};
 ghost use Rattle.cax64_inst.specs.Group.{group_of};
@@ -26,10 +26,10 @@ fn give<I: RowAndOperands, T: Task<I::Family, X>, X>(instruction: &I, to: &mut X
 }
 
 impl<R: Registers> Inst<R> {
-    /// Hands on what is within, if it is of the first group, and else asks the next. So do the others.
+    /// Hands on what is within, if it has registers, and else asks the other function.
     #[tactic(auto, unfolding(crate::specs::Inst::row_of, crate::specs::Inst::operands_of, crate::specs::Group::group_of))]
     #[inline(always)]
-    pub(crate) fn hand_to_lock_add_or<T: Task<R, X>, X>(&self, to: &mut X) -> T::Answer
+    pub(crate) fn hand_to_within<T: Task<R, X>, X>(&self, to: &mut X) -> T::Answer
         requires asks { Shaped (row_of self.now) (operands_of self.now) → T.asks (row_of self.now) (fold T.made_of_none T.made_with T.made_of_nop (operands_of self.now)) to.old }
         ensures answers { T.answers (row_of self.now) (fold T.made_of_none T.made_with T.made_of_nop (operands_of self.now)) to.old to.new result }
         ensures shape { HasShape (row_of self.now) (operands_of self.now) }
@@ -55,19 +55,6 @@ impl<R: Registers> Inst<R> {
             Inst::lock_orw_mr(i) => give::<_, T, X>(i, to),
             Inst::lock_orl_mr(i) => give::<_, T, X>(i, to),
             Inst::lock_orq_mr(i) => give::<_, T, X>(i, to),
-            _ => self.hand_to_lock_adc_exchange::<T, X>(to),
-        }
-    }
-
-    #[tactic(auto, unfolding(crate::specs::Inst::row_of, crate::specs::Inst::operands_of, crate::specs::Group::group_of))]
-    #[inline(always)]
-    fn hand_to_lock_adc_exchange<T: Task<R, X>, X>(&self, to: &mut X) -> T::Answer
-        requires group { 1 ≤ group_of self.now }
-        requires asks { Shaped (row_of self.now) (operands_of self.now) → T.asks (row_of self.now) (fold T.made_of_none T.made_with T.made_of_nop (operands_of self.now)) to.old }
-        ensures answers { T.answers (row_of self.now) (fold T.made_of_none T.made_with T.made_of_nop (operands_of self.now)) to.old to.new result }
-        ensures shape { HasShape (row_of self.now) (operands_of self.now) }
-    {
-        match self {
             Inst::lock_adcb_mi(i) => give::<_, T, X>(i, to),
             Inst::lock_adcw_mi(i) => give::<_, T, X>(i, to),
             Inst::lock_adcl_mi(i) => give::<_, T, X>(i, to),
@@ -87,85 +74,9 @@ impl<R: Registers> Inst<R> {
             Inst::lock_xaddw_mr(i) => give::<_, T, X>(i, to),
             Inst::lock_xaddl_mr(i) => give::<_, T, X>(i, to),
             Inst::lock_xaddq_mr(i) => give::<_, T, X>(i, to),
-            _ => self.hand_to_lock_sbb_and::<T, X>(to),
-        }
-    }
-
-    #[tactic(auto, unfolding(crate::specs::Inst::row_of, crate::specs::Inst::operands_of, crate::specs::Group::group_of))]
-    #[inline(always)]
-    fn hand_to_lock_sbb_and<T: Task<R, X>, X>(&self, to: &mut X) -> T::Answer
-        requires group { 2 ≤ group_of self.now }
-        requires asks { Shaped (row_of self.now) (operands_of self.now) → T.asks (row_of self.now) (fold T.made_of_none T.made_with T.made_of_nop (operands_of self.now)) to.old }
-        ensures answers { T.answers (row_of self.now) (fold T.made_of_none T.made_with T.made_of_nop (operands_of self.now)) to.old to.new result }
-        ensures shape { HasShape (row_of self.now) (operands_of self.now) }
-    {
-        match self {
-            Inst::lock_sbbb_mi(i) => give::<_, T, X>(i, to),
-            Inst::lock_sbbw_mi(i) => give::<_, T, X>(i, to),
-            Inst::lock_sbbl_mi(i) => give::<_, T, X>(i, to),
-            Inst::lock_sbbq_mi_sxl(i) => give::<_, T, X>(i, to),
-            Inst::lock_sbbl_mi_sxb(i) => give::<_, T, X>(i, to),
-            Inst::lock_sbbq_mi_sxb(i) => give::<_, T, X>(i, to),
-            Inst::lock_sbbb_mr(i) => give::<_, T, X>(i, to),
-            Inst::lock_sbbw_mr(i) => give::<_, T, X>(i, to),
-            Inst::lock_sbbl_mr(i) => give::<_, T, X>(i, to),
-            Inst::lock_sbbq_mr(i) => give::<_, T, X>(i, to),
-            Inst::lock_andb_mi(i) => give::<_, T, X>(i, to),
-            Inst::lock_andw_mi(i) => give::<_, T, X>(i, to),
-            Inst::lock_andl_mi(i) => give::<_, T, X>(i, to),
-            Inst::lock_andq_mi_sxl(i) => give::<_, T, X>(i, to),
-            Inst::lock_andl_mi_sxb(i) => give::<_, T, X>(i, to),
-            Inst::lock_andq_mi_sxb(i) => give::<_, T, X>(i, to),
-            Inst::lock_andb_mr(i) => give::<_, T, X>(i, to),
-            Inst::lock_andw_mr(i) => give::<_, T, X>(i, to),
-            Inst::lock_andl_mr(i) => give::<_, T, X>(i, to),
-            Inst::lock_andq_mr(i) => give::<_, T, X>(i, to),
-            _ => self.hand_to_lock_sub_xor::<T, X>(to),
-        }
-    }
-
-    #[tactic(auto, unfolding(crate::specs::Inst::row_of, crate::specs::Inst::operands_of, crate::specs::Group::group_of))]
-    #[inline(always)]
-    fn hand_to_lock_sub_xor<T: Task<R, X>, X>(&self, to: &mut X) -> T::Answer
-        requires group { 3 ≤ group_of self.now }
-        requires asks { Shaped (row_of self.now) (operands_of self.now) → T.asks (row_of self.now) (fold T.made_of_none T.made_with T.made_of_nop (operands_of self.now)) to.old }
-        ensures answers { T.answers (row_of self.now) (fold T.made_of_none T.made_with T.made_of_nop (operands_of self.now)) to.old to.new result }
-        ensures shape { HasShape (row_of self.now) (operands_of self.now) }
-    {
-        match self {
-            Inst::lock_subb_mi(i) => give::<_, T, X>(i, to),
-            Inst::lock_subw_mi(i) => give::<_, T, X>(i, to),
-            Inst::lock_subl_mi(i) => give::<_, T, X>(i, to),
-            Inst::lock_subq_mi_sxl(i) => give::<_, T, X>(i, to),
-            Inst::lock_subl_mi_sxb(i) => give::<_, T, X>(i, to),
-            Inst::lock_subq_mi_sxb(i) => give::<_, T, X>(i, to),
-            Inst::lock_subb_mr(i) => give::<_, T, X>(i, to),
-            Inst::lock_subw_mr(i) => give::<_, T, X>(i, to),
-            Inst::lock_subl_mr(i) => give::<_, T, X>(i, to),
-            Inst::lock_subq_mr(i) => give::<_, T, X>(i, to),
-            Inst::lock_xorb_mi(i) => give::<_, T, X>(i, to),
-            Inst::lock_xorw_mi(i) => give::<_, T, X>(i, to),
-            Inst::lock_xorl_mi(i) => give::<_, T, X>(i, to),
-            Inst::lock_xorq_mi_sxl(i) => give::<_, T, X>(i, to),
-            Inst::lock_xorl_mi_sxb(i) => give::<_, T, X>(i, to),
-            Inst::lock_xorq_mi_sxb(i) => give::<_, T, X>(i, to),
-            Inst::lock_xorb_mr(i) => give::<_, T, X>(i, to),
-            Inst::lock_xorw_mr(i) => give::<_, T, X>(i, to),
-            Inst::lock_xorl_mr(i) => give::<_, T, X>(i, to),
-            Inst::lock_xorq_mr(i) => give::<_, T, X>(i, to),
-            _ => self.hand_to_shift::<T, X>(to),
-        }
-    }
-
-    #[tactic(auto, unfolding(crate::specs::Inst::row_of, crate::specs::Inst::operands_of, crate::specs::Group::group_of))]
-    #[inline(always)]
-    fn hand_to_shift<T: Task<R, X>, X>(&self, to: &mut X) -> T::Answer
-        requires group { 4 ≤ group_of self.now }
-        requires asks { Shaped (row_of self.now) (operands_of self.now) → T.asks (row_of self.now) (fold T.made_of_none T.made_with T.made_of_nop (operands_of self.now)) to.old }
-        ensures answers { T.answers (row_of self.now) (fold T.made_of_none T.made_with T.made_of_nop (operands_of self.now)) to.old to.new result }
-        ensures shape { HasShape (row_of self.now) (operands_of self.now) }
-    {
-        match self {
+            Inst::andb_i(i) => give::<_, T, X>(i, to),
+            Inst::mulxl_rvm(i) => give::<_, T, X>(i, to),
+            Inst::mulxq_rvm(i) => give::<_, T, X>(i, to),
             Inst::rolb_m1(i) => give::<_, T, X>(i, to),
             Inst::rolw_m1(i) => give::<_, T, X>(i, to),
             Inst::roll_m1(i) => give::<_, T, X>(i, to),
@@ -186,22 +97,6 @@ impl<R: Registers> Inst<R> {
             Inst::shrw_m1(i) => give::<_, T, X>(i, to),
             Inst::shrl_m1(i) => give::<_, T, X>(i, to),
             Inst::shrq_m1(i) => give::<_, T, X>(i, to),
-            _ => self.hand_to_unlocked::<T, X>(to),
-        }
-    }
-
-    #[tactic(auto, unfolding(crate::specs::Inst::row_of, crate::specs::Inst::operands_of, crate::specs::Group::group_of))]
-    #[inline(always)]
-    fn hand_to_unlocked<T: Task<R, X>, X>(&self, to: &mut X) -> T::Answer
-        requires group { 5 ≤ group_of self.now }
-        requires asks { Shaped (row_of self.now) (operands_of self.now) → T.asks (row_of self.now) (fold T.made_of_none T.made_with T.made_of_nop (operands_of self.now)) to.old }
-        ensures answers { T.answers (row_of self.now) (fold T.made_of_none T.made_with T.made_of_nop (operands_of self.now)) to.old to.new result }
-        ensures shape { HasShape (row_of self.now) (operands_of self.now) }
-    {
-        match self {
-            Inst::andb_i(i) => give::<_, T, X>(i, to),
-            Inst::mulxl_rvm(i) => give::<_, T, X>(i, to),
-            Inst::mulxq_rvm(i) => give::<_, T, X>(i, to),
             Inst::xchgb_rm(i) => give::<_, T, X>(i, to),
             Inst::xchgw_rm(i) => give::<_, T, X>(i, to),
             Inst::xchgl_rm(i) => give::<_, T, X>(i, to),
@@ -219,6 +114,46 @@ impl<R: Registers> Inst<R> {
             Inst::vcvttpd2dq_a(i) => give::<_, T, X>(i, to),
             Inst::callq_m(i) => give::<_, T, X>(i, to),
             Inst::jmpq_m(i) => give::<_, T, X>(i, to),
+            Inst::lock_sbbb_mi(i) => give::<_, T, X>(i, to),
+            Inst::lock_sbbw_mi(i) => give::<_, T, X>(i, to),
+            Inst::lock_sbbl_mi(i) => give::<_, T, X>(i, to),
+            Inst::lock_sbbq_mi_sxl(i) => give::<_, T, X>(i, to),
+            Inst::lock_sbbl_mi_sxb(i) => give::<_, T, X>(i, to),
+            Inst::lock_sbbq_mi_sxb(i) => give::<_, T, X>(i, to),
+            Inst::lock_sbbb_mr(i) => give::<_, T, X>(i, to),
+            Inst::lock_sbbw_mr(i) => give::<_, T, X>(i, to),
+            Inst::lock_sbbl_mr(i) => give::<_, T, X>(i, to),
+            Inst::lock_sbbq_mr(i) => give::<_, T, X>(i, to),
+            Inst::lock_andb_mi(i) => give::<_, T, X>(i, to),
+            Inst::lock_andw_mi(i) => give::<_, T, X>(i, to),
+            Inst::lock_andl_mi(i) => give::<_, T, X>(i, to),
+            Inst::lock_andq_mi_sxl(i) => give::<_, T, X>(i, to),
+            Inst::lock_andl_mi_sxb(i) => give::<_, T, X>(i, to),
+            Inst::lock_andq_mi_sxb(i) => give::<_, T, X>(i, to),
+            Inst::lock_andb_mr(i) => give::<_, T, X>(i, to),
+            Inst::lock_andw_mr(i) => give::<_, T, X>(i, to),
+            Inst::lock_andl_mr(i) => give::<_, T, X>(i, to),
+            Inst::lock_andq_mr(i) => give::<_, T, X>(i, to),
+            Inst::lock_subb_mi(i) => give::<_, T, X>(i, to),
+            Inst::lock_subw_mi(i) => give::<_, T, X>(i, to),
+            Inst::lock_subl_mi(i) => give::<_, T, X>(i, to),
+            Inst::lock_subq_mi_sxl(i) => give::<_, T, X>(i, to),
+            Inst::lock_subl_mi_sxb(i) => give::<_, T, X>(i, to),
+            Inst::lock_subq_mi_sxb(i) => give::<_, T, X>(i, to),
+            Inst::lock_subb_mr(i) => give::<_, T, X>(i, to),
+            Inst::lock_subw_mr(i) => give::<_, T, X>(i, to),
+            Inst::lock_subl_mr(i) => give::<_, T, X>(i, to),
+            Inst::lock_subq_mr(i) => give::<_, T, X>(i, to),
+            Inst::lock_xorb_mi(i) => give::<_, T, X>(i, to),
+            Inst::lock_xorw_mi(i) => give::<_, T, X>(i, to),
+            Inst::lock_xorl_mi(i) => give::<_, T, X>(i, to),
+            Inst::lock_xorq_mi_sxl(i) => give::<_, T, X>(i, to),
+            Inst::lock_xorl_mi_sxb(i) => give::<_, T, X>(i, to),
+            Inst::lock_xorq_mi_sxb(i) => give::<_, T, X>(i, to),
+            Inst::lock_xorb_mr(i) => give::<_, T, X>(i, to),
+            Inst::lock_xorw_mr(i) => give::<_, T, X>(i, to),
+            Inst::lock_xorl_mr(i) => give::<_, T, X>(i, to),
+            Inst::lock_xorq_mr(i) => give::<_, T, X>(i, to),
             _ => self.hand_to_without_registers::<T, X>(to),
         }
     }

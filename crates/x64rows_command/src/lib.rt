@@ -2,11 +2,13 @@
 #![tactic(auto)]
 
 mod command;
+mod ending;
 mod fault;
 mod operand;
 mod tail;
 mod words;
 
 pub use command::{asked_tail, asks_for_buffer, asks_for_rows};
+pub use ending::end;
 pub use fault::Fault;
 pub use operand::{base_and_displacement, base_and_index};

@@ -14,7 +14,7 @@ use crate::line::push_bytes;
 use crate::rows::ROW_LINES;
 use std::alloc::Allocator;
 use std::io::Write;
-use x64rows_command::{Fault, asked_tail, asks_for_buffer, asks_for_rows};
+use x64rows_command::{Fault, asked_tail, asks_for_buffer, asks_for_rows, end};
 
 /// Prints bytes as a line.
 fn print_bytes<A: Allocator>(alloc: A, bytes: &[u8], out: &mut impl Write) -> Result<(), Fault>
@@ -85,11 +85,5 @@ pub fn run<A: Allocator>(alloc: A, words: &[&str], out: &mut impl Write, err: &m
     ensures unchanged { result ≡ 2 → out.new ≡ out.old }
     ensures told { (result ≡ 0) ⊎ (result ≡ 4) → err.new ≡ err.old }
 {
-    let Err(fault) = print_lines(alloc, words, out) else {
-        return 0;
-    };
-    if let Some(message) = fault.message() {
-        let _ = err.write_all(message.as_bytes());
-    }
-    fault.status()
+    end(print_lines(alloc, words, out), err)
 }

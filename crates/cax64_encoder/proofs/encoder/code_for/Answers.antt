@@ -1,4 +1,4 @@
-use Rattle.std.proofs.Common.{◌≡◌, ◌∙◌, ap, sym, length, FitsSigned, w32, rules, true, None}
+use Rattle.std.proofs.Common.{◌≡◌, ◌∙◌, ap, sym, length, FitsSigned, w32, rules, None}
 use Rattle.std.proofs.lemmas.Int.{to_z-of_z}
 use Rattle.cax64_machine_code.specs.Len.{len_of}
 use Rattle.cax64_machine_code.specs.Rows.{line_of}
@@ -7,7 +7,6 @@ use Rattle.cax64_operand.specs.NopRow.{nop_row}
 use Rattle.cax64_operand.specs.OperandList.{list_of, nop_of}
 use Rattle.cax64_sink.specs.Run.{all_bytes}
 use Rattle.cax64_encoder.specs.Code.{code_actions}
-use Rattle.cax64_encoder.specs.Content.{content_of}
 use Rattle.cax64_encoder.specs.Encodes.{EncodesParts, form_parts}
 use Rattle.cax64_encoder.specs.Form.{form_of}
 use Rattle.cax64_encoder.specs.Numbered.{numbered_form, plain, place_named, form_named}

@@ -1,6 +1,5 @@
-use Rattle.std.proofs.Common.{◌≡◌, ◌∙◌}
+use Rattle.std.proofs.Common.{◌∙◌}
 use Rattle.cax64_operand.specs.Family.{family_of, numbering}
-use Rattle.cax64_encoder.specs.Content.{content_of}
 use Rattle.cax64_encoder.specs.Task.{Kept}
 use Rattle.cax64_encoder.proofs.Encodable.{content_is}
 use Rattle.cax64_encoder.proofs.encoder.code_in.Goals as goal

@@ -1,4 +1,4 @@
-use Rattle.std.proofs.Common.{◌∙◌, ◌≤◌, ap, Err, length, arith}
+use Rattle.std.proofs.Common.{◌∙◌, ap, Err}
 use Rattle.std.proofs.lemmas.Result.{err_from_is_err_and}
 use Rattle.cax64_sink.proofs.Runs.{ran_append, ran_refused}
 use Rattle.cax64_sink.proofs.Roomier.{ran_roomier_after, roomier_absorbed}
