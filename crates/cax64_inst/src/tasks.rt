@@ -1,22 +1,30 @@
-//! The instruction within is handed to a task, so that each kind has code of its own. One match over all that have
-//! registers is one jump; matches one behind the other, each of a few kinds, would be as many jumps.
+//! The instruction within is handed to a task, so that each kind has code of its own. One match over all is one jump;
+//! matches one behind the other, each of a few kinds, would be as many jumps.
 
-ghost use Rattle.std.specs.Prelude.{◌≤◌};
-ghost use Rattle.cax64_inst.specs.Group.{group_of};
+ghost use Rattle.std.specs.Prelude.{◌≡◌};
 ghost use Rattle.cax64_inst.specs.Inst.{row_of, operands_of};
 ghost use Rattle.cax64_inst.specs.Shaped.{Shaped};
 ghost use Rattle.cax64_operand.specs.Fold.{fold};
+ghost use Rattle.cax64_operand.specs.NopRow.{nop_row};
 ghost use Rattle.cax64_operand.specs.Shape.{HasShape};
+ghost use Rattle.cax64_operand.specs.declared.operand.Operand.TheVariants as operand;
+ghost use Rattle.cax64_operand.specs.declared.operand.Operands.TheVariants as operands;
 
 use crate::Inst;
 use cax64_machine_code::row::Row;
-use cax64_operand::{RowAndOperands, Task};
+use cax64_operand::{FromOperands, Immediate, Nop, Operand, RowAndOperands, Task, of_one};
 use cax64_register::Registers;
+use jump::{
+    callq_d, ja_d8, ja_d32, jae_d8, jae_d32, jb_d8, jb_d32, jbe_d8, jbe_d32, je_d8, je_d32, jg_d8,
+    jg_d32, jge_d8, jge_d32, jl_d8, jl_d32, jle_d8, jle_d32, jmp_d8, jmp_d32, jne_d8, jne_d32,
+    jno_d8, jno_d32, jnp_d8, jnp_d32, jns_d8, jns_d32, jo_d8, jo_d32, jp_d8, jp_d32, js_d8, js_d32,
+};
+use nop::{nop_1b, nop_2b, nop_3b, nop_4b, nop_5b, nop_6b, nop_7b, nop_8b, nop_9b};
 
 /// Hands on an instruction. That its operands have their row's shape is one word here, in what is asked: the search for a
 /// proof takes the definition's many parts apart in every arm.
 #[tactic(auto, unfolding(crate::specs::Shaped::Shaped))]
-#[inline(always)]
+#[inline(never)]
 fn give<I: RowAndOperands, T: Task<I::Family, X>, X>(instruction: &I, to: &mut X) -> T::Answer
     requires asks { Shaped (I.row_of instruction.now) (I.operands_of instruction.now) → T.asks (I.row_of instruction.now) (fold T.made_of_none T.made_with T.made_of_nop (I.operands_of instruction.now)) to.old }
     ensures answers { T.answers (I.row_of instruction.now) (fold T.made_of_none T.made_with T.made_of_nop (I.operands_of instruction.now)) to.old to.new result }
@@ -25,9 +33,35 @@ fn give<I: RowAndOperands, T: Task<I::Family, X>, X>(instruction: &I, to: &mut X
     instruction.hand_to::<T, X>(to)
 }
 
+/// Hands on a no-operation.
+#[tactic(auto, unfolding(crate::specs::Shaped::Shaped))]
+#[inline(always)]
+fn give_nop<R: Registers, T: Task<R, X>, X>(nop: Nop, row: Row, to: &mut X) -> T::Answer
+    requires row { row ≡ nop_row nop }
+    requires asks { Shaped {R = R} {A = R.ReadGpr} {B = R.ReadWriteGpr} {C = R.WriteGpr} {D = R.ReadXmm} {E = R.ReadWriteXmm} {F = R.WriteXmm} row (operands.Nop nop) → T.asks row (fold T.made_of_none T.made_with T.made_of_nop (operands.Nop nop)) to.old }
+    ensures answers { T.answers row (fold T.made_of_none T.made_with T.made_of_nop (operands.Nop nop)) to.old to.new result }
+{
+    T::take(T::nop(nop), row, to)
+}
+
+/// Hands on a jump or a call by a distance.
+#[tactic(auto, unfolding(crate::specs::Shaped::Shaped))]
+#[inline(always)]
+fn give_distance<R: Registers, T: Task<R, X>, X>(
+    distance: Immediate,
+    row: Row,
+    to: &mut X,
+) -> T::Answer
+    requires shape { HasShape {R = R} {A = R.ReadGpr} {B = R.ReadWriteGpr} {C = R.WriteGpr} {D = R.ReadXmm} {E = R.ReadWriteXmm} {F = R.WriteXmm} row (operands.One (operand.Imm distance)) }
+    requires asks { Shaped {R = R} {A = R.ReadGpr} {B = R.ReadWriteGpr} {C = R.WriteGpr} {D = R.ReadXmm} {E = R.ReadWriteXmm} {F = R.WriteXmm} row (operands.One (operand.Imm distance)) → T.asks row (fold T.made_of_none T.made_with T.made_of_nop (operands.One (operand.Imm distance))) to.old }
+    ensures answers { T.answers row (fold T.made_of_none T.made_with T.made_of_nop (operands.One (operand.Imm distance))) to.old to.new result }
+{
+    T::take(of_one(Operand::Imm(distance)), row, to)
+}
+
 impl<R: Registers> Inst<R> {
-    /// Hands on what is within, if it has registers, and else asks the other function.
-    #[tactic(auto, unfolding(crate::specs::Inst::row_of, crate::specs::Inst::operands_of, crate::specs::Group::group_of))]
+    /// Hands on what is within. A kind without registers isn't borrowed: its distance is read out of it.
+    #[tactic(auto, unfolding(crate::specs::Inst::row_of, crate::specs::Inst::operands_of, cax64_machine_code::specs::Rows::line_of))]
     #[inline(always)]
     pub(crate) fn hand_to_within<T: Task<R, X>, X>(&self, to: &mut X) -> T::Answer
         requires asks { Shaped (row_of self.now) (operands_of self.now) → T.asks (row_of self.now) (fold T.made_of_none T.made_with T.made_of_nop (operands_of self.now)) to.old }
@@ -154,64 +188,190 @@ impl<R: Registers> Inst<R> {
             Inst::lock_xorw_mr(i) => give::<_, T, X>(i, to),
             Inst::lock_xorl_mr(i) => give::<_, T, X>(i, to),
             Inst::lock_xorq_mr(i) => give::<_, T, X>(i, to),
-            _ => self.hand_to_without_registers::<T, X>(to),
-        }
-    }
-
-    #[tactic(auto, unfolding(crate::specs::Inst::row_of, crate::specs::Inst::operands_of, crate::specs::Group::group_of, crate::specs::Shaped::Shaped))]
-    #[inline(always)]
-    fn hand_to_without_registers<T: Task<R, X>, X>(&self, to: &mut X) -> T::Answer
-        requires group { 6 ≤ group_of self.now }
-        requires asks { Shaped (row_of self.now) (operands_of self.now) → T.asks (row_of self.now) (fold T.made_of_none T.made_with T.made_of_nop (operands_of self.now)) to.old }
-        ensures answers { T.answers (row_of self.now) (fold T.made_of_none T.made_with T.made_of_nop (operands_of self.now)) to.old to.new result }
-        ensures shape { HasShape (row_of self.now) (operands_of self.now) }
-    {
-        match self {
-            Inst::nop_1b(i) => T::take(i.fold_operands(), Row::nop_1b, to),
-            Inst::nop_2b(i) => T::take(i.fold_operands(), Row::nop_2b, to),
-            Inst::nop_3b(i) => T::take(i.fold_operands(), Row::nopl_rm, to),
-            Inst::nop_4b(i) => T::take(i.fold_operands(), Row::nopl_rm, to),
-            Inst::nop_5b(i) => T::take(i.fold_operands(), Row::nopl_rm, to),
-            Inst::nop_6b(i) => T::take(i.fold_operands(), Row::nopw_rm, to),
-            Inst::nop_7b(i) => T::take(i.fold_operands(), Row::nopl_rm, to),
-            Inst::nop_8b(i) => T::take(i.fold_operands(), Row::nopl_rm, to),
-            Inst::nop_9b(i) => T::take(i.fold_operands(), Row::nopw_rm, to),
-            Inst::jmp_d8(i) => T::take(i.fold_operands(), Row::jmp_d8, to),
-            Inst::jo_d8(i) => T::take(i.fold_operands(), Row::jo_d8, to),
-            Inst::jno_d8(i) => T::take(i.fold_operands(), Row::jno_d8, to),
-            Inst::jb_d8(i) => T::take(i.fold_operands(), Row::jb_d8, to),
-            Inst::jae_d8(i) => T::take(i.fold_operands(), Row::jae_d8, to),
-            Inst::je_d8(i) => T::take(i.fold_operands(), Row::je_d8, to),
-            Inst::jne_d8(i) => T::take(i.fold_operands(), Row::jne_d8, to),
-            Inst::jbe_d8(i) => T::take(i.fold_operands(), Row::jbe_d8, to),
-            Inst::ja_d8(i) => T::take(i.fold_operands(), Row::ja_d8, to),
-            Inst::js_d8(i) => T::take(i.fold_operands(), Row::js_d8, to),
-            Inst::jns_d8(i) => T::take(i.fold_operands(), Row::jns_d8, to),
-            Inst::jp_d8(i) => T::take(i.fold_operands(), Row::jp_d8, to),
-            Inst::jnp_d8(i) => T::take(i.fold_operands(), Row::jnp_d8, to),
-            Inst::jl_d8(i) => T::take(i.fold_operands(), Row::jl_d8, to),
-            Inst::jge_d8(i) => T::take(i.fold_operands(), Row::jge_d8, to),
-            Inst::jle_d8(i) => T::take(i.fold_operands(), Row::jle_d8, to),
-            Inst::jg_d8(i) => T::take(i.fold_operands(), Row::jg_d8, to),
-            Inst::callq_d(i) => T::take(i.fold_operands(), Row::callq_d, to),
-            Inst::jmp_d32(i) => T::take(i.fold_operands(), Row::jmp_d32, to),
-            Inst::jo_d32(i) => T::take(i.fold_operands(), Row::jo_d32, to),
-            Inst::jno_d32(i) => T::take(i.fold_operands(), Row::jno_d32, to),
-            Inst::jb_d32(i) => T::take(i.fold_operands(), Row::jb_d32, to),
-            Inst::jae_d32(i) => T::take(i.fold_operands(), Row::jae_d32, to),
-            Inst::je_d32(i) => T::take(i.fold_operands(), Row::je_d32, to),
-            Inst::jne_d32(i) => T::take(i.fold_operands(), Row::jne_d32, to),
-            Inst::jbe_d32(i) => T::take(i.fold_operands(), Row::jbe_d32, to),
-            Inst::ja_d32(i) => T::take(i.fold_operands(), Row::ja_d32, to),
-            Inst::js_d32(i) => T::take(i.fold_operands(), Row::js_d32, to),
-            Inst::jns_d32(i) => T::take(i.fold_operands(), Row::jns_d32, to),
-            Inst::jp_d32(i) => T::take(i.fold_operands(), Row::jp_d32, to),
-            Inst::jnp_d32(i) => T::take(i.fold_operands(), Row::jnp_d32, to),
-            Inst::jl_d32(i) => T::take(i.fold_operands(), Row::jl_d32, to),
-            Inst::jge_d32(i) => T::take(i.fold_operands(), Row::jge_d32, to),
-            Inst::jle_d32(i) => T::take(i.fold_operands(), Row::jle_d32, to),
-            Inst::jg_d32(i) => T::take(i.fold_operands(), Row::jg_d32, to),
-            _ => unreachable!(),
+            Inst::nop_1b(_) => give_nop::<R, T, X>(Nop::One, Row::nop_1b, to),
+            Inst::nop_2b(_) => give_nop::<R, T, X>(Nop::Two, Row::nop_2b, to),
+            Inst::nop_3b(_) => give_nop::<R, T, X>(Nop::Three, Row::nopl_rm, to),
+            Inst::nop_4b(_) => give_nop::<R, T, X>(Nop::Four, Row::nopl_rm, to),
+            Inst::nop_5b(_) => give_nop::<R, T, X>(Nop::Five, Row::nopl_rm, to),
+            Inst::nop_6b(_) => give_nop::<R, T, X>(Nop::Six, Row::nopw_rm, to),
+            Inst::nop_7b(_) => give_nop::<R, T, X>(Nop::Seven, Row::nopl_rm, to),
+            Inst::nop_8b(_) => give_nop::<R, T, X>(Nop::Eight, Row::nopl_rm, to),
+            Inst::nop_9b(_) => give_nop::<R, T, X>(Nop::Nine, Row::nopw_rm, to),
+            &Inst::jmp_d8(jmp_d8 { imm8 }) => give_distance::<R, T, X>(
+                Immediate::Distance8(imm8.value()),
+                Row::jmp_d8,
+                to,
+            ),
+            &Inst::jo_d8(jo_d8 { imm8 }) => give_distance::<R, T, X>(
+                Immediate::Distance8(imm8.value()),
+                Row::jo_d8,
+                to,
+            ),
+            &Inst::jno_d8(jno_d8 { imm8 }) => give_distance::<R, T, X>(
+                Immediate::Distance8(imm8.value()),
+                Row::jno_d8,
+                to,
+            ),
+            &Inst::jb_d8(jb_d8 { imm8 }) => give_distance::<R, T, X>(
+                Immediate::Distance8(imm8.value()),
+                Row::jb_d8,
+                to,
+            ),
+            &Inst::jae_d8(jae_d8 { imm8 }) => give_distance::<R, T, X>(
+                Immediate::Distance8(imm8.value()),
+                Row::jae_d8,
+                to,
+            ),
+            &Inst::je_d8(je_d8 { imm8 }) => give_distance::<R, T, X>(
+                Immediate::Distance8(imm8.value()),
+                Row::je_d8,
+                to,
+            ),
+            &Inst::jne_d8(jne_d8 { imm8 }) => give_distance::<R, T, X>(
+                Immediate::Distance8(imm8.value()),
+                Row::jne_d8,
+                to,
+            ),
+            &Inst::jbe_d8(jbe_d8 { imm8 }) => give_distance::<R, T, X>(
+                Immediate::Distance8(imm8.value()),
+                Row::jbe_d8,
+                to,
+            ),
+            &Inst::ja_d8(ja_d8 { imm8 }) => give_distance::<R, T, X>(
+                Immediate::Distance8(imm8.value()),
+                Row::ja_d8,
+                to,
+            ),
+            &Inst::js_d8(js_d8 { imm8 }) => give_distance::<R, T, X>(
+                Immediate::Distance8(imm8.value()),
+                Row::js_d8,
+                to,
+            ),
+            &Inst::jns_d8(jns_d8 { imm8 }) => give_distance::<R, T, X>(
+                Immediate::Distance8(imm8.value()),
+                Row::jns_d8,
+                to,
+            ),
+            &Inst::jp_d8(jp_d8 { imm8 }) => give_distance::<R, T, X>(
+                Immediate::Distance8(imm8.value()),
+                Row::jp_d8,
+                to,
+            ),
+            &Inst::jnp_d8(jnp_d8 { imm8 }) => give_distance::<R, T, X>(
+                Immediate::Distance8(imm8.value()),
+                Row::jnp_d8,
+                to,
+            ),
+            &Inst::jl_d8(jl_d8 { imm8 }) => give_distance::<R, T, X>(
+                Immediate::Distance8(imm8.value()),
+                Row::jl_d8,
+                to,
+            ),
+            &Inst::jge_d8(jge_d8 { imm8 }) => give_distance::<R, T, X>(
+                Immediate::Distance8(imm8.value()),
+                Row::jge_d8,
+                to,
+            ),
+            &Inst::jle_d8(jle_d8 { imm8 }) => give_distance::<R, T, X>(
+                Immediate::Distance8(imm8.value()),
+                Row::jle_d8,
+                to,
+            ),
+            &Inst::jg_d8(jg_d8 { imm8 }) => give_distance::<R, T, X>(
+                Immediate::Distance8(imm8.value()),
+                Row::jg_d8,
+                to,
+            ),
+            &Inst::callq_d(callq_d { imm32 }) => give_distance::<R, T, X>(
+                Immediate::Distance32(imm32.value()),
+                Row::callq_d,
+                to,
+            ),
+            &Inst::jmp_d32(jmp_d32 { imm32 }) => give_distance::<R, T, X>(
+                Immediate::Distance32(imm32.value()),
+                Row::jmp_d32,
+                to,
+            ),
+            &Inst::jo_d32(jo_d32 { imm32 }) => give_distance::<R, T, X>(
+                Immediate::Distance32(imm32.value()),
+                Row::jo_d32,
+                to,
+            ),
+            &Inst::jno_d32(jno_d32 { imm32 }) => give_distance::<R, T, X>(
+                Immediate::Distance32(imm32.value()),
+                Row::jno_d32,
+                to,
+            ),
+            &Inst::jb_d32(jb_d32 { imm32 }) => give_distance::<R, T, X>(
+                Immediate::Distance32(imm32.value()),
+                Row::jb_d32,
+                to,
+            ),
+            &Inst::jae_d32(jae_d32 { imm32 }) => give_distance::<R, T, X>(
+                Immediate::Distance32(imm32.value()),
+                Row::jae_d32,
+                to,
+            ),
+            &Inst::je_d32(je_d32 { imm32 }) => give_distance::<R, T, X>(
+                Immediate::Distance32(imm32.value()),
+                Row::je_d32,
+                to,
+            ),
+            &Inst::jne_d32(jne_d32 { imm32 }) => give_distance::<R, T, X>(
+                Immediate::Distance32(imm32.value()),
+                Row::jne_d32,
+                to,
+            ),
+            &Inst::jbe_d32(jbe_d32 { imm32 }) => give_distance::<R, T, X>(
+                Immediate::Distance32(imm32.value()),
+                Row::jbe_d32,
+                to,
+            ),
+            &Inst::ja_d32(ja_d32 { imm32 }) => give_distance::<R, T, X>(
+                Immediate::Distance32(imm32.value()),
+                Row::ja_d32,
+                to,
+            ),
+            &Inst::js_d32(js_d32 { imm32 }) => give_distance::<R, T, X>(
+                Immediate::Distance32(imm32.value()),
+                Row::js_d32,
+                to,
+            ),
+            &Inst::jns_d32(jns_d32 { imm32 }) => give_distance::<R, T, X>(
+                Immediate::Distance32(imm32.value()),
+                Row::jns_d32,
+                to,
+            ),
+            &Inst::jp_d32(jp_d32 { imm32 }) => give_distance::<R, T, X>(
+                Immediate::Distance32(imm32.value()),
+                Row::jp_d32,
+                to,
+            ),
+            &Inst::jnp_d32(jnp_d32 { imm32 }) => give_distance::<R, T, X>(
+                Immediate::Distance32(imm32.value()),
+                Row::jnp_d32,
+                to,
+            ),
+            &Inst::jl_d32(jl_d32 { imm32 }) => give_distance::<R, T, X>(
+                Immediate::Distance32(imm32.value()),
+                Row::jl_d32,
+                to,
+            ),
+            &Inst::jge_d32(jge_d32 { imm32 }) => give_distance::<R, T, X>(
+                Immediate::Distance32(imm32.value()),
+                Row::jge_d32,
+                to,
+            ),
+            &Inst::jle_d32(jle_d32 { imm32 }) => give_distance::<R, T, X>(
+                Immediate::Distance32(imm32.value()),
+                Row::jle_d32,
+                to,
+            ),
+            &Inst::jg_d32(jg_d32 { imm32 }) => give_distance::<R, T, X>(
+                Immediate::Distance32(imm32.value()),
+                Row::jg_d32,
+                to,
+            ),
         }
     }
 }
