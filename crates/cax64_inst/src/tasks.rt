@@ -19,7 +19,6 @@ use jump::{
     jg_d32, jge_d8, jge_d32, jl_d8, jl_d32, jle_d8, jle_d32, jmp_d8, jmp_d32, jne_d8, jne_d32,
     jno_d8, jno_d32, jnp_d8, jnp_d32, jns_d8, jns_d32, jo_d8, jo_d32, jp_d8, jp_d32, js_d8, js_d32,
 };
-use nop::{nop_1b, nop_2b, nop_3b, nop_4b, nop_5b, nop_6b, nop_7b, nop_8b, nop_9b};
 
 /// Hands on an instruction. That its operands have their row's shape is one word here, in what is asked: the search for a
 /// proof takes the definition's many parts apart in every arm.
