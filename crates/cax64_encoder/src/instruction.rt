@@ -109,6 +109,7 @@ impl<I: RowAndOperands> Instruction for I {
         first_fault(&operands_of(self), sink)
     }
 
+    #[inline(always)]
     fn is_encodable<S: CodeSink>(&self, sink: &S) -> bool {
         let mut sink = sink;
         self.hand_to::<Checked, &S>(&mut sink)
@@ -123,6 +124,7 @@ impl<I: RowAndOperands> Instruction for I {
         content.form.place.notice_count()
     }
 
+    #[inline(always)]
     fn encode<S: CodeSink>(&self, sink: &mut S) -> Result<(), SinkError> {
         self.hand_to::<Content, S>(sink)
     }

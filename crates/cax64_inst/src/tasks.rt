@@ -7,10 +7,12 @@ ghost use Rattle.cax64_inst.specs.Shaped.{Shaped};
 ghost use Rattle.cax64_operand.specs.Fold.{fold};
 ghost use Rattle.cax64_operand.specs.NopRow.{nop_row};
 ghost use Rattle.cax64_operand.specs.Shape.{HasShape};
+ghost use Rattle.cax64_operand.specs.declared.immediate.Immediate.TheVariants as immediate;
 ghost use Rattle.cax64_operand.specs.declared.operand.Operand.TheVariants as operand;
 ghost use Rattle.cax64_operand.specs.declared.operand.Operands.TheVariants as operands;
 
 use crate::Inst;
+use cax64_immediate::{Simm8, Simm32};
 use cax64_machine_code::row::Row;
 use cax64_operand::{FromOperands, Immediate, Nop, Operand, RowAndOperands, Task, of_one};
 use cax64_register::Registers;
@@ -19,6 +21,7 @@ use jump::{
     jg_d32, jge_d8, jge_d32, jl_d8, jl_d32, jle_d8, jle_d32, jmp_d8, jmp_d32, jne_d8, jne_d32,
     jno_d8, jno_d32, jnp_d8, jnp_d32, jns_d8, jns_d32, jo_d8, jo_d32, jp_d8, jp_d32, js_d8, js_d32,
 };
+use nop::{nop_1b, nop_2b, nop_3b, nop_4b, nop_5b, nop_6b, nop_7b, nop_8b, nop_9b};
 
 /// Hands on an instruction. That its operands have their row's shape is one word here, in what is asked: the search for a
 /// proof takes the definition's many parts apart in every arm.
@@ -32,10 +35,11 @@ fn give<I: RowAndOperands, T: Task<I::Family, X>, X>(instruction: &I, to: &mut X
     instruction.hand_to::<T, X>(to)
 }
 
-/// Hands on a no-operation.
+/// Hands on a no-operation. `Kind` is the kind that it is, so that each has a function of its own, in which the row is
+/// known.
 #[tactic(auto, unfolding(crate::specs::Shaped::Shaped))]
-#[inline(always)]
-fn give_nop<R: Registers, T: Task<R, X>, X>(nop: Nop, row: Row, to: &mut X) -> T::Answer
+#[inline(never)]
+fn give_nop<Kind, R: Registers, T: Task<R, X>, X>(nop: Nop, row: Row, to: &mut X) -> T::Answer
     requires row { row ≡ nop_row nop }
     requires asks { Shaped {R = R} {A = R.ReadGpr} {B = R.ReadWriteGpr} {C = R.WriteGpr} {D = R.ReadXmm} {E = R.ReadWriteXmm} {F = R.WriteXmm} row (operands.Nop nop) → T.asks row (fold T.made_of_none T.made_with T.made_of_nop (operands.Nop nop)) to.old }
     ensures answers { T.answers row (fold T.made_of_none T.made_with T.made_of_nop (operands.Nop nop)) to.old to.new result }
@@ -43,18 +47,35 @@ fn give_nop<R: Registers, T: Task<R, X>, X>(nop: Nop, row: Row, to: &mut X) -> T
     T::take(T::nop(nop), row, to)
 }
 
-/// Hands on a jump or a call by a distance.
+/// Hands on a jump by a distance of one byte.
 #[tactic(auto, unfolding(crate::specs::Shaped::Shaped))]
-#[inline(always)]
-fn give_distance<R: Registers, T: Task<R, X>, X>(
-    distance: Immediate,
+#[inline(never)]
+fn give_short<Kind, R: Registers, T: Task<R, X>, X>(
+    distance: Simm8,
     row: Row,
     to: &mut X,
 ) -> T::Answer
-    requires shape { HasShape {R = R} {A = R.ReadGpr} {B = R.ReadWriteGpr} {C = R.WriteGpr} {D = R.ReadXmm} {E = R.ReadWriteXmm} {F = R.WriteXmm} row (operands.One (operand.Imm distance)) }
-    requires asks { Shaped {R = R} {A = R.ReadGpr} {B = R.ReadWriteGpr} {C = R.WriteGpr} {D = R.ReadXmm} {E = R.ReadWriteXmm} {F = R.WriteXmm} row (operands.One (operand.Imm distance)) → T.asks row (fold T.made_of_none T.made_with T.made_of_nop (operands.One (operand.Imm distance))) to.old }
-    ensures answers { T.answers row (fold T.made_of_none T.made_with T.made_of_nop (operands.One (operand.Imm distance))) to.old to.new result }
+    requires shape { HasShape {R = R} {A = R.ReadGpr} {B = R.ReadWriteGpr} {C = R.WriteGpr} {D = R.ReadXmm} {E = R.ReadWriteXmm} {F = R.WriteXmm} row (operands.One (operand.Imm (immediate.Distance8 distance))) }
+    requires asks { Shaped {R = R} {A = R.ReadGpr} {B = R.ReadWriteGpr} {C = R.WriteGpr} {D = R.ReadXmm} {E = R.ReadWriteXmm} {F = R.WriteXmm} row (operands.One (operand.Imm (immediate.Distance8 distance))) → T.asks row (fold T.made_of_none T.made_with T.made_of_nop (operands.One (operand.Imm (immediate.Distance8 distance)))) to.old }
+    ensures answers { T.answers row (fold T.made_of_none T.made_with T.made_of_nop (operands.One (operand.Imm (immediate.Distance8 distance)))) to.old to.new result }
 {
+    let distance = Immediate::Distance8(distance.value());
+    T::take(of_one(Operand::Imm(distance)), row, to)
+}
+
+/// Hands on a jump or a call by a distance of four bytes.
+#[tactic(auto, unfolding(crate::specs::Shaped::Shaped))]
+#[inline(never)]
+fn give_near<Kind, R: Registers, T: Task<R, X>, X>(
+    distance: Simm32,
+    row: Row,
+    to: &mut X,
+) -> T::Answer
+    requires shape { HasShape {R = R} {A = R.ReadGpr} {B = R.ReadWriteGpr} {C = R.WriteGpr} {D = R.ReadXmm} {E = R.ReadWriteXmm} {F = R.WriteXmm} row (operands.One (operand.Imm (immediate.Distance32 distance))) }
+    requires asks { Shaped {R = R} {A = R.ReadGpr} {B = R.ReadWriteGpr} {C = R.WriteGpr} {D = R.ReadXmm} {E = R.ReadWriteXmm} {F = R.WriteXmm} row (operands.One (operand.Imm (immediate.Distance32 distance))) → T.asks row (fold T.made_of_none T.made_with T.made_of_nop (operands.One (operand.Imm (immediate.Distance32 distance)))) to.old }
+    ensures answers { T.answers row (fold T.made_of_none T.made_with T.made_of_nop (operands.One (operand.Imm (immediate.Distance32 distance)))) to.old to.new result }
+{
+    let distance = Immediate::Distance32(distance.value());
     T::take(of_one(Operand::Imm(distance)), row, to)
 }
 
@@ -187,190 +208,90 @@ impl<R: Registers> Inst<R> {
             Inst::lock_xorw_mr(i) => give::<_, T, X>(i, to),
             Inst::lock_xorl_mr(i) => give::<_, T, X>(i, to),
             Inst::lock_xorq_mr(i) => give::<_, T, X>(i, to),
-            Inst::nop_1b(_) => give_nop::<R, T, X>(Nop::One, Row::nop_1b, to),
-            Inst::nop_2b(_) => give_nop::<R, T, X>(Nop::Two, Row::nop_2b, to),
-            Inst::nop_3b(_) => give_nop::<R, T, X>(Nop::Three, Row::nopl_rm, to),
-            Inst::nop_4b(_) => give_nop::<R, T, X>(Nop::Four, Row::nopl_rm, to),
-            Inst::nop_5b(_) => give_nop::<R, T, X>(Nop::Five, Row::nopl_rm, to),
-            Inst::nop_6b(_) => give_nop::<R, T, X>(Nop::Six, Row::nopw_rm, to),
-            Inst::nop_7b(_) => give_nop::<R, T, X>(Nop::Seven, Row::nopl_rm, to),
-            Inst::nop_8b(_) => give_nop::<R, T, X>(Nop::Eight, Row::nopl_rm, to),
-            Inst::nop_9b(_) => give_nop::<R, T, X>(Nop::Nine, Row::nopw_rm, to),
-            &Inst::jmp_d8(jmp_d8 { imm8 }) => give_distance::<R, T, X>(
-                Immediate::Distance8(imm8.value()),
-                Row::jmp_d8,
-                to,
-            ),
-            &Inst::jo_d8(jo_d8 { imm8 }) => give_distance::<R, T, X>(
-                Immediate::Distance8(imm8.value()),
-                Row::jo_d8,
-                to,
-            ),
-            &Inst::jno_d8(jno_d8 { imm8 }) => give_distance::<R, T, X>(
-                Immediate::Distance8(imm8.value()),
-                Row::jno_d8,
-                to,
-            ),
-            &Inst::jb_d8(jb_d8 { imm8 }) => give_distance::<R, T, X>(
-                Immediate::Distance8(imm8.value()),
-                Row::jb_d8,
-                to,
-            ),
-            &Inst::jae_d8(jae_d8 { imm8 }) => give_distance::<R, T, X>(
-                Immediate::Distance8(imm8.value()),
-                Row::jae_d8,
-                to,
-            ),
-            &Inst::je_d8(je_d8 { imm8 }) => give_distance::<R, T, X>(
-                Immediate::Distance8(imm8.value()),
-                Row::je_d8,
-                to,
-            ),
-            &Inst::jne_d8(jne_d8 { imm8 }) => give_distance::<R, T, X>(
-                Immediate::Distance8(imm8.value()),
-                Row::jne_d8,
-                to,
-            ),
-            &Inst::jbe_d8(jbe_d8 { imm8 }) => give_distance::<R, T, X>(
-                Immediate::Distance8(imm8.value()),
-                Row::jbe_d8,
-                to,
-            ),
-            &Inst::ja_d8(ja_d8 { imm8 }) => give_distance::<R, T, X>(
-                Immediate::Distance8(imm8.value()),
-                Row::ja_d8,
-                to,
-            ),
-            &Inst::js_d8(js_d8 { imm8 }) => give_distance::<R, T, X>(
-                Immediate::Distance8(imm8.value()),
-                Row::js_d8,
-                to,
-            ),
-            &Inst::jns_d8(jns_d8 { imm8 }) => give_distance::<R, T, X>(
-                Immediate::Distance8(imm8.value()),
-                Row::jns_d8,
-                to,
-            ),
-            &Inst::jp_d8(jp_d8 { imm8 }) => give_distance::<R, T, X>(
-                Immediate::Distance8(imm8.value()),
-                Row::jp_d8,
-                to,
-            ),
-            &Inst::jnp_d8(jnp_d8 { imm8 }) => give_distance::<R, T, X>(
-                Immediate::Distance8(imm8.value()),
-                Row::jnp_d8,
-                to,
-            ),
-            &Inst::jl_d8(jl_d8 { imm8 }) => give_distance::<R, T, X>(
-                Immediate::Distance8(imm8.value()),
-                Row::jl_d8,
-                to,
-            ),
-            &Inst::jge_d8(jge_d8 { imm8 }) => give_distance::<R, T, X>(
-                Immediate::Distance8(imm8.value()),
-                Row::jge_d8,
-                to,
-            ),
-            &Inst::jle_d8(jle_d8 { imm8 }) => give_distance::<R, T, X>(
-                Immediate::Distance8(imm8.value()),
-                Row::jle_d8,
-                to,
-            ),
-            &Inst::jg_d8(jg_d8 { imm8 }) => give_distance::<R, T, X>(
-                Immediate::Distance8(imm8.value()),
-                Row::jg_d8,
-                to,
-            ),
-            &Inst::callq_d(callq_d { imm32 }) => give_distance::<R, T, X>(
-                Immediate::Distance32(imm32.value()),
+            Inst::nop_1b(_) => give_nop::<nop_1b, R, T, X>(Nop::One, Row::nop_1b, to),
+            Inst::nop_2b(_) => give_nop::<nop_2b, R, T, X>(Nop::Two, Row::nop_2b, to),
+            Inst::nop_3b(_) => give_nop::<nop_3b, R, T, X>(Nop::Three, Row::nopl_rm, to),
+            Inst::nop_4b(_) => give_nop::<nop_4b, R, T, X>(Nop::Four, Row::nopl_rm, to),
+            Inst::nop_5b(_) => give_nop::<nop_5b, R, T, X>(Nop::Five, Row::nopl_rm, to),
+            Inst::nop_6b(_) => give_nop::<nop_6b, R, T, X>(Nop::Six, Row::nopw_rm, to),
+            Inst::nop_7b(_) => give_nop::<nop_7b, R, T, X>(Nop::Seven, Row::nopl_rm, to),
+            Inst::nop_8b(_) => give_nop::<nop_8b, R, T, X>(Nop::Eight, Row::nopl_rm, to),
+            Inst::nop_9b(_) => give_nop::<nop_9b, R, T, X>(Nop::Nine, Row::nopw_rm, to),
+            &Inst::jmp_d8(jmp_d8 { imm8 }) => give_short::<jmp_d8, R, T, X>(imm8, Row::jmp_d8, to),
+            &Inst::jo_d8(jo_d8 { imm8 }) => give_short::<jo_d8, R, T, X>(imm8, Row::jo_d8, to),
+            &Inst::jno_d8(jno_d8 { imm8 }) => give_short::<jno_d8, R, T, X>(imm8, Row::jno_d8, to),
+            &Inst::jb_d8(jb_d8 { imm8 }) => give_short::<jb_d8, R, T, X>(imm8, Row::jb_d8, to),
+            &Inst::jae_d8(jae_d8 { imm8 }) => give_short::<jae_d8, R, T, X>(imm8, Row::jae_d8, to),
+            &Inst::je_d8(je_d8 { imm8 }) => give_short::<je_d8, R, T, X>(imm8, Row::je_d8, to),
+            &Inst::jne_d8(jne_d8 { imm8 }) => give_short::<jne_d8, R, T, X>(imm8, Row::jne_d8, to),
+            &Inst::jbe_d8(jbe_d8 { imm8 }) => give_short::<jbe_d8, R, T, X>(imm8, Row::jbe_d8, to),
+            &Inst::ja_d8(ja_d8 { imm8 }) => give_short::<ja_d8, R, T, X>(imm8, Row::ja_d8, to),
+            &Inst::js_d8(js_d8 { imm8 }) => give_short::<js_d8, R, T, X>(imm8, Row::js_d8, to),
+            &Inst::jns_d8(jns_d8 { imm8 }) => give_short::<jns_d8, R, T, X>(imm8, Row::jns_d8, to),
+            &Inst::jp_d8(jp_d8 { imm8 }) => give_short::<jp_d8, R, T, X>(imm8, Row::jp_d8, to),
+            &Inst::jnp_d8(jnp_d8 { imm8 }) => give_short::<jnp_d8, R, T, X>(imm8, Row::jnp_d8, to),
+            &Inst::jl_d8(jl_d8 { imm8 }) => give_short::<jl_d8, R, T, X>(imm8, Row::jl_d8, to),
+            &Inst::jge_d8(jge_d8 { imm8 }) => give_short::<jge_d8, R, T, X>(imm8, Row::jge_d8, to),
+            &Inst::jle_d8(jle_d8 { imm8 }) => give_short::<jle_d8, R, T, X>(imm8, Row::jle_d8, to),
+            &Inst::jg_d8(jg_d8 { imm8 }) => give_short::<jg_d8, R, T, X>(imm8, Row::jg_d8, to),
+            &Inst::callq_d(callq_d { imm32 }) => give_near::<callq_d, R, T, X>(
+                imm32,
                 Row::callq_d,
                 to,
             ),
-            &Inst::jmp_d32(jmp_d32 { imm32 }) => give_distance::<R, T, X>(
-                Immediate::Distance32(imm32.value()),
+            &Inst::jmp_d32(jmp_d32 { imm32 }) => give_near::<jmp_d32, R, T, X>(
+                imm32,
                 Row::jmp_d32,
                 to,
             ),
-            &Inst::jo_d32(jo_d32 { imm32 }) => give_distance::<R, T, X>(
-                Immediate::Distance32(imm32.value()),
-                Row::jo_d32,
-                to,
-            ),
-            &Inst::jno_d32(jno_d32 { imm32 }) => give_distance::<R, T, X>(
-                Immediate::Distance32(imm32.value()),
+            &Inst::jo_d32(jo_d32 { imm32 }) => give_near::<jo_d32, R, T, X>(imm32, Row::jo_d32, to),
+            &Inst::jno_d32(jno_d32 { imm32 }) => give_near::<jno_d32, R, T, X>(
+                imm32,
                 Row::jno_d32,
                 to,
             ),
-            &Inst::jb_d32(jb_d32 { imm32 }) => give_distance::<R, T, X>(
-                Immediate::Distance32(imm32.value()),
-                Row::jb_d32,
-                to,
-            ),
-            &Inst::jae_d32(jae_d32 { imm32 }) => give_distance::<R, T, X>(
-                Immediate::Distance32(imm32.value()),
+            &Inst::jb_d32(jb_d32 { imm32 }) => give_near::<jb_d32, R, T, X>(imm32, Row::jb_d32, to),
+            &Inst::jae_d32(jae_d32 { imm32 }) => give_near::<jae_d32, R, T, X>(
+                imm32,
                 Row::jae_d32,
                 to,
             ),
-            &Inst::je_d32(je_d32 { imm32 }) => give_distance::<R, T, X>(
-                Immediate::Distance32(imm32.value()),
-                Row::je_d32,
-                to,
-            ),
-            &Inst::jne_d32(jne_d32 { imm32 }) => give_distance::<R, T, X>(
-                Immediate::Distance32(imm32.value()),
+            &Inst::je_d32(je_d32 { imm32 }) => give_near::<je_d32, R, T, X>(imm32, Row::je_d32, to),
+            &Inst::jne_d32(jne_d32 { imm32 }) => give_near::<jne_d32, R, T, X>(
+                imm32,
                 Row::jne_d32,
                 to,
             ),
-            &Inst::jbe_d32(jbe_d32 { imm32 }) => give_distance::<R, T, X>(
-                Immediate::Distance32(imm32.value()),
+            &Inst::jbe_d32(jbe_d32 { imm32 }) => give_near::<jbe_d32, R, T, X>(
+                imm32,
                 Row::jbe_d32,
                 to,
             ),
-            &Inst::ja_d32(ja_d32 { imm32 }) => give_distance::<R, T, X>(
-                Immediate::Distance32(imm32.value()),
-                Row::ja_d32,
-                to,
-            ),
-            &Inst::js_d32(js_d32 { imm32 }) => give_distance::<R, T, X>(
-                Immediate::Distance32(imm32.value()),
-                Row::js_d32,
-                to,
-            ),
-            &Inst::jns_d32(jns_d32 { imm32 }) => give_distance::<R, T, X>(
-                Immediate::Distance32(imm32.value()),
+            &Inst::ja_d32(ja_d32 { imm32 }) => give_near::<ja_d32, R, T, X>(imm32, Row::ja_d32, to),
+            &Inst::js_d32(js_d32 { imm32 }) => give_near::<js_d32, R, T, X>(imm32, Row::js_d32, to),
+            &Inst::jns_d32(jns_d32 { imm32 }) => give_near::<jns_d32, R, T, X>(
+                imm32,
                 Row::jns_d32,
                 to,
             ),
-            &Inst::jp_d32(jp_d32 { imm32 }) => give_distance::<R, T, X>(
-                Immediate::Distance32(imm32.value()),
-                Row::jp_d32,
-                to,
-            ),
-            &Inst::jnp_d32(jnp_d32 { imm32 }) => give_distance::<R, T, X>(
-                Immediate::Distance32(imm32.value()),
+            &Inst::jp_d32(jp_d32 { imm32 }) => give_near::<jp_d32, R, T, X>(imm32, Row::jp_d32, to),
+            &Inst::jnp_d32(jnp_d32 { imm32 }) => give_near::<jnp_d32, R, T, X>(
+                imm32,
                 Row::jnp_d32,
                 to,
             ),
-            &Inst::jl_d32(jl_d32 { imm32 }) => give_distance::<R, T, X>(
-                Immediate::Distance32(imm32.value()),
-                Row::jl_d32,
-                to,
-            ),
-            &Inst::jge_d32(jge_d32 { imm32 }) => give_distance::<R, T, X>(
-                Immediate::Distance32(imm32.value()),
+            &Inst::jl_d32(jl_d32 { imm32 }) => give_near::<jl_d32, R, T, X>(imm32, Row::jl_d32, to),
+            &Inst::jge_d32(jge_d32 { imm32 }) => give_near::<jge_d32, R, T, X>(
+                imm32,
                 Row::jge_d32,
                 to,
             ),
-            &Inst::jle_d32(jle_d32 { imm32 }) => give_distance::<R, T, X>(
-                Immediate::Distance32(imm32.value()),
+            &Inst::jle_d32(jle_d32 { imm32 }) => give_near::<jle_d32, R, T, X>(
+                imm32,
                 Row::jle_d32,
                 to,
             ),
-            &Inst::jg_d32(jg_d32 { imm32 }) => give_distance::<R, T, X>(
-                Immediate::Distance32(imm32.value()),
-                Row::jg_d32,
-                to,
-            ),
+            &Inst::jg_d32(jg_d32 { imm32 }) => give_near::<jg_d32, R, T, X>(imm32, Row::jg_d32, to),
         }
     }
 }

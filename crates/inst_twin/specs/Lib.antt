@@ -1,2 +1,4 @@
 -- What the clauses of public functions say.
 pub mod Twin
+-- Steps of the proofs.
+pub mod Shaped

@@ -9,8 +9,8 @@ use Rattle.inst_twin.specs.declared.Twin.TheVariants as twin
 
 unfoldable pub row_of : {R A B C D E F : Type 0} → Twin R A B C D E F → Row
 row_of (twin.nop_1b i) = row.nop_1b
-row_of (twin.lock_xaddb_mr i) = row.lock_xaddb_mr
+row_of (twin.mulxl_twin i) = row.mulxl_rvm
 
 unfoldable pub operands_of : {R A B C D E F : Type 0} → Twin R A B C D E F → Operands R A B C D E F
 operands_of (twin.nop_1b i) = operands_nop_1b i
-operands_of (twin.lock_xaddb_mr i) = i
+operands_of (twin.mulxl_twin i) = i

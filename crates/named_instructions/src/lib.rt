@@ -3,7 +3,11 @@
 
 pub mod address;
 pub mod fields;
+mod lists;
 mod names;
+mod takers;
 mod values;
 
-pub use names::instruction_of;
+pub use lists::{Form, Refusal, take_list};
+pub use names::take_instruction;
+pub use takers::{TakesInstruction, TakesList};

@@ -1,5 +1,4 @@
-//! Instructions from their names and fields, by groups of names. Each group gives any type that is made of its structs:
-//! one that isn't known costs the prover nothing, and the enumeration of all instructions is a large one.
+//! Instructions from their names and fields, by groups of names.
 
 mod arithmetic;
 mod jumps;
@@ -8,75 +7,50 @@ mod nops;
 mod vector;
 
 use crate::fields::Fault;
-use crate::names::arithmetic::{parts, rotations, shifts};
-use crate::names::jumps::{d8, d32, rm};
-use crate::names::locked::{adc, add, and, exchange, or, sbb, sub, xor};
+use crate::names::arithmetic::arithmetic;
+use crate::names::jumps::jump;
+use crate::names::locked::{add_or_adc, sbb_and_sub, xor_exchange};
 use crate::names::nops::nop;
-use crate::names::vector::{avx, sse};
+use crate::names::vector::vector;
+use crate::takers::TakesInstruction;
 use crate::values::Values;
 use cranelift_assembler_x64::{Inst, Numbers};
 
-fn with_lock(name: &str, v: &mut Values<'_>) -> Option<Inst<Numbers>> {
-    if let Some(inst) = add(name, v) {
+fn named(name: &str, v: &mut Values<'_>) -> Option<Inst<Numbers>> {
+    if let Some(inst) = add_or_adc(name, v) {
         return Some(inst);
     }
-    if let Some(inst) = or(name, v) {
+    if let Some(inst) = sbb_and_sub(name, v) {
         return Some(inst);
     }
-    if let Some(inst) = adc(name, v) {
+    if let Some(inst) = xor_exchange(name, v) {
         return Some(inst);
     }
-    if let Some(inst) = sbb(name, v) {
+    if let Some(inst) = arithmetic(name, v) {
         return Some(inst);
     }
-    if let Some(inst) = and(name, v) {
+    if let Some(inst) = vector(name, v) {
         return Some(inst);
     }
-    if let Some(inst) = sub(name, v) {
-        return Some(inst);
-    }
-    if let Some(inst) = xor(name, v) {
-        return Some(inst);
-    }
-    exchange(name, v)
-}
-
-fn without_lock(name: &str, v: &mut Values<'_>) -> Option<Inst<Numbers>> {
-    if let Some(inst) = parts(name, v) {
-        return Some(inst);
-    }
-    if let Some(inst) = rotations(name, v) {
-        return Some(inst);
-    }
-    if let Some(inst) = shifts(name, v) {
-        return Some(inst);
-    }
-    if let Some(inst) = sse(name, v) {
-        return Some(inst);
-    }
-    if let Some(inst) = avx(name, v) {
-        return Some(inst);
-    }
-    if let Some(inst) = rm(name, v) {
-        return Some(inst);
-    }
-    if let Some(inst) = d8(name, v) {
-        return Some(inst);
-    }
-    if let Some(inst) = d32(name, v) {
+    if let Some(inst) = jump(name, v) {
         return Some(inst);
     }
     nop(name)
 }
 
 /// The instruction of a name and its fields; `PassedOver` where there is no such struct.
-pub fn instruction_of(name: &str, fields: &str) -> Result<Inst<Numbers>, Fault> {
+pub(crate) fn instruction_of(name: &str, fields: &str) -> Result<Inst<Numbers>, Fault> {
     let mut values = Values::new(fields);
-    let named = match with_lock(name, &mut values) {
-        Some(inst) => Some(inst),
-        None => without_lock(name, &mut values),
-    };
-    let inst = named.ok_or(Fault::PassedOver)?;
+    let inst = named(name, &mut values).ok_or(Fault::PassedOver)?;
     values.end()?;
     Ok(inst)
+}
+
+/// Does what is to be done with the instruction of a name and its fields; `PassedOver` where there is no such struct.
+pub fn take_instruction<T: TakesInstruction>(
+    name: &str,
+    fields: &str,
+    taker: &mut T,
+) -> Result<T::Answer, Fault> {
+    Ok(taker.take(instruction_of(name, fields)?))
 }

@@ -7,7 +7,7 @@ use cranelift_assembler_x64::{
 };
 use named_instructions::address::target_of;
 use named_instructions::fields::{Fault, Fields, parsed};
-use named_instructions::instruction_of;
+use named_instructions::{TakesInstruction, take_instruction};
 use std::alloc::Global;
 use x64_code_buffer::{BindError, CodeBuffer, FinishError, patched_field};
 
@@ -23,14 +23,18 @@ pub(crate) fn answer_patched(fields: &mut Fields<'_>, came: &mut String) -> Resu
     Ok(())
 }
 
-fn push<I: RowAndOperands<Family = Numbers> + Drop>(
-    buffer: &mut CodeBuffer<Global>,
-    inst: I,
-) -> Result<(), Fault> {
-    if !inst.is_encodable(buffer) {
-        return Err(Fault::Malformed);
+/// The buffer that an instruction is pushed to.
+struct Pushed<'a>(&'a mut CodeBuffer<Global>);
+
+impl TakesInstruction for Pushed<'_> {
+    type Answer = Result<(), Fault>;
+
+    fn take<I: RowAndOperands<Family = Numbers> + Drop>(&mut self, inst: I) -> Result<(), Fault> {
+        if !inst.is_encodable(&*self.0) {
+            return Err(Fault::Malformed);
+        }
+        self.0.push(&inst).map_err(|_| Fault::NoMemory)
     }
-    buffer.push(&inst).map_err(|_| Fault::NoMemory)
 }
 
 fn label_of(text: &str) -> Result<Label, Fault> {
@@ -93,7 +97,7 @@ fn make_call(
         }
         "push" => {
             let (name, values) = argument.split_once(' ').ok_or(Fault::Malformed)?;
-            push(buffer, instruction_of(name, values)?)?;
+            take_instruction(name, values, &mut Pushed(buffer))??;
             write_bound(came, Ok(()))
         }
         _ => {

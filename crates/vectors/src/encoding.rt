@@ -9,7 +9,7 @@ use cranelift_assembler_x64 as assembler;
 use cranelift_assembler_x64::reader::read_inst;
 use cranelift_assembler_x64::{Instruction, Numbers, Recorder, Row, RowAndOperands};
 use named_instructions::fields::{Fault, Fields, parsed};
-use named_instructions::instruction_of;
+use named_instructions::{TakesInstruction, take_instruction};
 use std::alloc::Global;
 
 /// An empty recorder that knows the offsets of a column.
@@ -61,6 +61,10 @@ impl Encoded {
             visits: VisitText::new(alloc),
         })
     }
+}
+
+impl TakesInstruction for Encoded {
+    type Answer = Result<(), Fault>;
 
     fn take<I: RowAndOperands<Family = Numbers> + Drop>(
         &mut self,
@@ -82,7 +86,7 @@ fn encode_line(alloc: Global, fields: &mut Fields<'_>) -> Result<(Encoded, u8, R
     let name = fields.text()?;
     let values = fields.text()?;
     let mut encoded = Encoded::new(alloc, fields.text()?)?;
-    encoded.take(instruction_of(name, values)?)?;
+    take_instruction(name, values, &mut encoded)??;
     let (length, row) = encoded.length_and_row.ok_or(Fault::Malformed)?;
     Ok((encoded, length, row))
 }
@@ -131,7 +135,9 @@ struct Faulty {
     visits: VisitText,
 }
 
-impl Faulty {
+impl TakesInstruction for Faulty {
+    type Answer = ();
+
     fn take<I: RowAndOperands<Family = Numbers> + Drop>(&mut self, mut inst: I) {
         self.fault = inst.first_fault(&self.sink);
         self.is_encodable = inst.is_encodable(&self.sink);
@@ -152,7 +158,7 @@ pub(crate) fn answer_fault(
         is_encodable: false,
         visits: VisitText::new(alloc),
     };
-    faulty.take(instruction_of(name, values)?);
+    take_instruction(name, values, &mut faulty)?;
     write_fault(came, faulty.fault)?;
     if faulty.is_encodable != faulty.fault.is_none() {
         let is_encodable = faulty.is_encodable;

@@ -4,36 +4,15 @@ use crate::columns::{write_bytes, write_notices};
 use crate::encoding::recorder_of;
 use cax64_test_support::RefusingSink;
 use cranelift_assembler_x64::{
-    CodeSink, FixedSink, Inst, Instruction, Numbers, Recorder, all_encodable, encode_each,
-    encode_each_whole,
+    CodeSink, FixedSink, Instruction, Numbers, Recorder, RowAndOperands, all_encodable,
+    encode_each, encode_each_whole,
 };
 use named_instructions::fields::{Fault, Fields, parsed};
-use named_instructions::instruction_of;
+use named_instructions::{Form, TakesList, take_list};
 use std::alloc::Global;
 
 /// The size of the fixed sink.
 const SIZE: usize = 64;
-
-/// For any type, since that is less to prove than for an `Inst`.
-fn push<T: Drop>(list: &mut Vec<T>, item: T) -> Result<(), Fault> {
-    list.push(item).map_err(|_| Fault::NoMemory)
-}
-
-fn push_named(insts: &mut Vec<Inst<Numbers>>, listed: &str) -> Result<(), Fault> {
-    let (name, values) = listed.split_once(' ').ok_or(Fault::Malformed)?;
-    push(insts, instruction_of(name, values)?)
-}
-
-/// The instructions of a list, with ` | ` between them. The empty list is `-`.
-fn insts_of(alloc: Global, list: &str) -> Result<Vec<Inst<Numbers>>, Fault> {
-    let mut insts = Vec::new(alloc);
-    if list != "-" {
-        for listed in list.split(" | ") {
-            push_named(&mut insts, listed)?;
-        }
-    }
-    Ok(insts)
-}
 
 /// Encodes a list, which has to be encodable, and writes whether the sink took it.
 fn write_outcome<I: Instruction, S: CodeSink>(
@@ -98,20 +77,39 @@ fn write_whole<I: Instruction>(
     write_notices(came, recorder.notices())
 }
 
-fn write_refusal<I: Instruction>(
-    came: &mut String,
-    insts: &[I],
-    recorder: Recorder<Global>,
-    limit: &str,
+/// A sink that knows these offsets and refuses at some limit, and what came of a list in it.
+struct Refusing<'a> {
+    alloc: Global,
+    offsets: &'a str,
+    limit: &'a str,
     number: usize,
-) -> Result<(), Fault> {
-    match limit {
-        "room" if number <= SIZE => write_room(came, insts, number),
-        "call" if number > 0 => write_refused_call(came, insts, recorder, number - 1),
-        "whole" => write_whole(came, insts, recorder),
-        _ => Err(Fault::Malformed),
+    came: &'a mut String,
+}
+
+impl TakesList for Refusing<'_> {
+    type Answer = Result<(), Fault>;
+
+    fn take<I: RowAndOperands<Family = Numbers> + Drop>(
+        &mut self,
+        insts: &[I],
+    ) -> Result<(), Fault> {
+        let recorder = recorder_of(self.alloc, self.offsets)?;
+        match self.limit {
+            "room" if self.number <= SIZE => write_room(self.came, insts, self.number),
+            "call" if self.number > 0 => {
+                write_refused_call(self.came, insts, recorder, self.number - 1)
+            }
+            "whole" => write_whole(self.came, insts, recorder),
+            _ => Err(Fault::Malformed),
+        }
     }
 }
+
+/// How a list is written in a file of cases.
+const FORM: Form = Form {
+    between: " | ",
+    behind_name: ' ',
+};
 
 /// The instructions whose digit asked for a REX byte in the first of two stages, and doesn't now.
 const CHANGED: [&str; 3] = ["shlb_m1", "shrb_m1", "sarb_m1"];
@@ -128,12 +126,19 @@ pub(crate) fn answer_refusal(
     came: &mut String,
 ) -> Result<(), Fault> {
     let list = fields.text()?;
-    let recorder = recorder_of(alloc, fields.text()?)?;
+    let offsets = fields.text()?;
     if fields.text()? == "1" && has_changed(list) {
         return Err(Fault::PassedOver);
     }
     let limit = fields.text()?;
     let number: usize = parsed(fields.text()?)?;
-    let insts = insts_of(alloc, list)?;
-    write_refusal(came, insts.as_slice(), recorder, limit, number)
+    let mut refusing = Refusing {
+        alloc,
+        offsets,
+        limit,
+        number,
+        came,
+    };
+    let list = if list == "-" { "" } else { list };
+    take_list(alloc, list, FORM, &mut refusing).map_err(|refusal| refusal.fault)?
 }

@@ -7,52 +7,16 @@
 mod timing;
 
 use crate::timing::{CALLS, best_time, first_unfit};
-use cranelift_assembler_x64::{Inst, Numbers, RowAndOperands};
+use cranelift_assembler_x64::{Numbers, RowAndOperands};
 use named_instructions::fields::Fault;
-use named_instructions::instruction_of;
-use std::alloc::{AllocError, Global};
+use named_instructions::{Form, Refusal, TakesList, take_list};
 use std::io::ErrorKind;
 use std::process::ExitCode;
 use std::time::Duration;
 use std::{fs, io};
 
-/// The number of a line that isn't an instruction, from 1 on, and why.
-#[derive(Clone, Copy)]
-pub struct Refusal {
-    pub line: usize,
-    pub fault: Fault,
-}
-
-/// For any type, since that is less to prove than for an `Inst`.
-fn push<T: Drop>(list: &mut Vec<T>, item: T) -> Result<(), AllocError> {
-    list.push(item)?;
-    Ok(())
-}
-
-fn push_line(insts: &mut Vec<Inst<Numbers>>, line: &str) -> Result<(), Fault> {
-    let (name, fields) = line.split_once('\t').ok_or(Fault::Malformed)?;
-    push(insts, instruction_of(name, fields)?)?;
-    Ok(())
-}
-
-/// The instructions of all lines.
-fn read_list(alloc: Global, text: &str) -> Result<Vec<Inst<Numbers>>, Refusal> {
-    let mut insts = Vec::new(alloc);
-    let mut number = 0usize;
-    for line in text.lines() {
-        number = number.saturating_add(1);
-        if let Err(fault) = push_line(&mut insts, line) {
-            return Err(Refusal {
-                line: number,
-                fault,
-            });
-        }
-    }
-    Ok(insts)
-}
-
 fn refuse(rt: &impl Print, refusal: Refusal) -> io::Result<ExitCode> {
-    let line = refusal.line;
+    let line = refusal.number;
     let message = match refusal.fault {
         Fault::Malformed => "malformed",
         Fault::PassedOver => "no such instruction",
@@ -86,9 +50,9 @@ fn time_list<I: RowAndOperands>(rt: &HostRuntime, insts: &[I]) -> io::Result<Exi
     let mut code: Vec<u8> = Vec::new(rt.alloc());
     code.reserve(count.saturating_mul(16))?;
     if let Some(place) = first_unfit(insts, &code) {
-        let line = place.saturating_add(1);
+        let number = place.saturating_add(1);
         let fault = Fault::Malformed;
-        return refuse(rt, Refusal { line, fault });
+        return refuse(rt, Refusal { number, fault });
     }
     for call in CALLS {
         let best = best_time(rt, call, insts, &mut code)?;
@@ -96,6 +60,26 @@ fn time_list<I: RowAndOperands>(rt: &HostRuntime, insts: &[I]) -> io::Result<Exi
     }
     Ok(ExitCode::SUCCESS)
 }
+
+/// The program, which times what is in a list.
+struct Timing<'a>(&'a HostRuntime);
+
+impl TakesList for Timing<'_> {
+    type Answer = io::Result<ExitCode>;
+
+    fn take<I: RowAndOperands<Family = Numbers> + Drop>(
+        &mut self,
+        insts: &[I],
+    ) -> io::Result<ExitCode> {
+        time_list(self.0, insts)
+    }
+}
+
+/// How the file is written.
+const FORM: Form = Form {
+    between: "\n",
+    behind_name: '\t',
+};
 
 fn main(rt: HostRuntime) -> io::Result<ExitCode> {
     let text = match fs::read_to_string(&rt, "bench.tsv") {
@@ -106,8 +90,10 @@ fn main(rt: HostRuntime) -> io::Result<ExitCode> {
         }
         Err(error) => return Err(error),
     };
-    match read_list(rt.alloc(), text.as_str()) {
-        Ok(insts) => time_list(&rt, insts.as_slice()),
+    let text = text.as_str();
+    let lines = text.strip_suffix('\n').unwrap_or(text);
+    match take_list(rt.alloc(), lines, FORM, &mut Timing(&rt)) {
+        Ok(ended) => ended,
         Err(refusal) => refuse(&rt, refusal),
     }
 }

@@ -8,7 +8,7 @@ use cranelift_assembler_x64::inst::{
 };
 use cranelift_assembler_x64::{Inst, Numbers};
 
-pub(crate) fn parts(name: &str, v: &mut Values<'_>) -> Option<Inst<Numbers>> {
+pub(crate) fn arithmetic(name: &str, v: &mut Values<'_>) -> Option<Inst<Numbers>> {
     match name {
         "andb_i" => Some(Inst::andb_i(andb_i::new(v.fixed("al"), v.imm8("imm8")))),
         "mulxl_rvm" => Some(Inst::mulxl_rvm(mulxl_rvm::new(
@@ -27,12 +27,6 @@ pub(crate) fn parts(name: &str, v: &mut Values<'_>) -> Option<Inst<Numbers>> {
         "xchgw_rm" => Some(Inst::xchgw_rm(xchgw_rm::new(v.gpr("r16"), v.amode("m16")))),
         "xchgl_rm" => Some(Inst::xchgl_rm(xchgl_rm::new(v.gpr("r32"), v.amode("m32")))),
         "xchgq_rm" => Some(Inst::xchgq_rm(xchgq_rm::new(v.gpr("r64"), v.amode("m64")))),
-        _ => None,
-    }
-}
-
-pub(crate) fn rotations(name: &str, v: &mut Values<'_>) -> Option<Inst<Numbers>> {
-    match name {
         "rolb_m1" => Some(Inst::rolb_m1(rolb_m1::new(v.gpr_mem("rm8")))),
         "rolw_m1" => Some(Inst::rolw_m1(rolw_m1::new(v.gpr_mem("rm16")))),
         "roll_m1" => Some(Inst::roll_m1(roll_m1::new(v.gpr_mem("rm32")))),
@@ -41,12 +35,6 @@ pub(crate) fn rotations(name: &str, v: &mut Values<'_>) -> Option<Inst<Numbers>>
         "rorw_m1" => Some(Inst::rorw_m1(rorw_m1::new(v.gpr_mem("rm16")))),
         "rorl_m1" => Some(Inst::rorl_m1(rorl_m1::new(v.gpr_mem("rm32")))),
         "rorq_m1" => Some(Inst::rorq_m1(rorq_m1::new(v.gpr_mem("rm64")))),
-        _ => None,
-    }
-}
-
-pub(crate) fn shifts(name: &str, v: &mut Values<'_>) -> Option<Inst<Numbers>> {
-    match name {
         "sarb_m1" => Some(Inst::sarb_m1(sarb_m1::new(v.gpr_mem("rm8")))),
         "sarw_m1" => Some(Inst::sarw_m1(sarw_m1::new(v.gpr_mem("rm16")))),
         "sarl_m1" => Some(Inst::sarl_m1(sarl_m1::new(v.gpr_mem("rm32")))),

@@ -9,16 +9,10 @@ use cranelift_assembler_x64::inst::{
 };
 use cranelift_assembler_x64::{Inst, Numbers};
 
-pub(crate) fn rm(name: &str, v: &mut Values<'_>) -> Option<Inst<Numbers>> {
+pub(crate) fn jump(name: &str, v: &mut Values<'_>) -> Option<Inst<Numbers>> {
     match name {
         "callq_m" => Some(Inst::callq_m(callq_m::new(v.gpr_mem("rm64")))),
         "jmpq_m" => Some(Inst::jmpq_m(jmpq_m::new(v.gpr_mem("rm64")))),
-        _ => None,
-    }
-}
-
-pub(crate) fn d8(name: &str, v: &mut Values<'_>) -> Option<Inst<Numbers>> {
-    match name {
         "jmp_d8" => Some(Inst::from(jmp_d8::new(v.simm8("imm8")))),
         "jo_d8" => Some(Inst::from(jo_d8::new(v.simm8("imm8")))),
         "jno_d8" => Some(Inst::from(jno_d8::new(v.simm8("imm8")))),
@@ -36,12 +30,6 @@ pub(crate) fn d8(name: &str, v: &mut Values<'_>) -> Option<Inst<Numbers>> {
         "jge_d8" => Some(Inst::from(jge_d8::new(v.simm8("imm8")))),
         "jle_d8" => Some(Inst::from(jle_d8::new(v.simm8("imm8")))),
         "jg_d8" => Some(Inst::from(jg_d8::new(v.simm8("imm8")))),
-        _ => None,
-    }
-}
-
-pub(crate) fn d32(name: &str, v: &mut Values<'_>) -> Option<Inst<Numbers>> {
-    match name {
         "callq_d" => Some(Inst::from(callq_d::new(v.simm32("imm32")))),
         "jmp_d32" => Some(Inst::from(jmp_d32::new(v.simm32("imm32")))),
         "jo_d32" => Some(Inst::from(jo_d32::new(v.simm32("imm32")))),

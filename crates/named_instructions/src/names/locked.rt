@@ -19,7 +19,7 @@ use cranelift_assembler_x64::inst::{
 };
 use cranelift_assembler_x64::{Inst, Numbers};
 
-pub(crate) fn add(name: &str, v: &mut Values<'_>) -> Option<Inst<Numbers>> {
+pub(crate) fn add_or_adc(name: &str, v: &mut Values<'_>) -> Option<Inst<Numbers>> {
     match name {
         "lock_addb_mi" => Some(Inst::lock_addb_mi(lock_addb_mi::new(
             v.amode("m8"),
@@ -49,12 +49,6 @@ pub(crate) fn add(name: &str, v: &mut Values<'_>) -> Option<Inst<Numbers>> {
         "lock_addw_mr" => Some(Inst::lock_addw_mr(lock_addw_mr::new(v.amode("m16"), v.gpr("r16")))),
         "lock_addl_mr" => Some(Inst::lock_addl_mr(lock_addl_mr::new(v.amode("m32"), v.gpr("r32")))),
         "lock_addq_mr" => Some(Inst::lock_addq_mr(lock_addq_mr::new(v.amode("m64"), v.gpr("r64")))),
-        _ => None,
-    }
-}
-
-pub(crate) fn or(name: &str, v: &mut Values<'_>) -> Option<Inst<Numbers>> {
-    match name {
         "lock_orb_mi" => Some(Inst::lock_orb_mi(lock_orb_mi::new(v.amode("m8"), v.imm8("imm8")))),
         "lock_orw_mi" => Some(Inst::lock_orw_mi(lock_orw_mi::new(
             v.amode("m16"),
@@ -80,12 +74,6 @@ pub(crate) fn or(name: &str, v: &mut Values<'_>) -> Option<Inst<Numbers>> {
         "lock_orw_mr" => Some(Inst::lock_orw_mr(lock_orw_mr::new(v.amode("m16"), v.gpr("r16")))),
         "lock_orl_mr" => Some(Inst::lock_orl_mr(lock_orl_mr::new(v.amode("m32"), v.gpr("r32")))),
         "lock_orq_mr" => Some(Inst::lock_orq_mr(lock_orq_mr::new(v.amode("m64"), v.gpr("r64")))),
-        _ => None,
-    }
-}
-
-pub(crate) fn adc(name: &str, v: &mut Values<'_>) -> Option<Inst<Numbers>> {
-    match name {
         "lock_adcb_mi" => Some(Inst::lock_adcb_mi(lock_adcb_mi::new(
             v.amode("m8"),
             v.imm8("imm8"),
@@ -118,7 +106,7 @@ pub(crate) fn adc(name: &str, v: &mut Values<'_>) -> Option<Inst<Numbers>> {
     }
 }
 
-pub(crate) fn sbb(name: &str, v: &mut Values<'_>) -> Option<Inst<Numbers>> {
+pub(crate) fn sbb_and_sub(name: &str, v: &mut Values<'_>) -> Option<Inst<Numbers>> {
     match name {
         "lock_sbbb_mi" => Some(Inst::lock_sbbb_mi(lock_sbbb_mi::new(
             v.amode("m8"),
@@ -148,12 +136,6 @@ pub(crate) fn sbb(name: &str, v: &mut Values<'_>) -> Option<Inst<Numbers>> {
         "lock_sbbw_mr" => Some(Inst::lock_sbbw_mr(lock_sbbw_mr::new(v.amode("m16"), v.gpr("r16")))),
         "lock_sbbl_mr" => Some(Inst::lock_sbbl_mr(lock_sbbl_mr::new(v.amode("m32"), v.gpr("r32")))),
         "lock_sbbq_mr" => Some(Inst::lock_sbbq_mr(lock_sbbq_mr::new(v.amode("m64"), v.gpr("r64")))),
-        _ => None,
-    }
-}
-
-pub(crate) fn and(name: &str, v: &mut Values<'_>) -> Option<Inst<Numbers>> {
-    match name {
         "lock_andb_mi" => Some(Inst::lock_andb_mi(lock_andb_mi::new(
             v.amode("m8"),
             v.imm8("imm8"),
@@ -182,12 +164,6 @@ pub(crate) fn and(name: &str, v: &mut Values<'_>) -> Option<Inst<Numbers>> {
         "lock_andw_mr" => Some(Inst::lock_andw_mr(lock_andw_mr::new(v.amode("m16"), v.gpr("r16")))),
         "lock_andl_mr" => Some(Inst::lock_andl_mr(lock_andl_mr::new(v.amode("m32"), v.gpr("r32")))),
         "lock_andq_mr" => Some(Inst::lock_andq_mr(lock_andq_mr::new(v.amode("m64"), v.gpr("r64")))),
-        _ => None,
-    }
-}
-
-pub(crate) fn sub(name: &str, v: &mut Values<'_>) -> Option<Inst<Numbers>> {
-    match name {
         "lock_subb_mi" => Some(Inst::lock_subb_mi(lock_subb_mi::new(
             v.amode("m8"),
             v.imm8("imm8"),
@@ -220,7 +196,7 @@ pub(crate) fn sub(name: &str, v: &mut Values<'_>) -> Option<Inst<Numbers>> {
     }
 }
 
-pub(crate) fn xor(name: &str, v: &mut Values<'_>) -> Option<Inst<Numbers>> {
+pub(crate) fn xor_exchange(name: &str, v: &mut Values<'_>) -> Option<Inst<Numbers>> {
     match name {
         "lock_xorb_mi" => Some(Inst::lock_xorb_mi(lock_xorb_mi::new(
             v.amode("m8"),
@@ -250,12 +226,6 @@ pub(crate) fn xor(name: &str, v: &mut Values<'_>) -> Option<Inst<Numbers>> {
         "lock_xorw_mr" => Some(Inst::lock_xorw_mr(lock_xorw_mr::new(v.amode("m16"), v.gpr("r16")))),
         "lock_xorl_mr" => Some(Inst::lock_xorl_mr(lock_xorl_mr::new(v.amode("m32"), v.gpr("r32")))),
         "lock_xorq_mr" => Some(Inst::lock_xorq_mr(lock_xorq_mr::new(v.amode("m64"), v.gpr("r64")))),
-        _ => None,
-    }
-}
-
-pub(crate) fn exchange(name: &str, v: &mut Values<'_>) -> Option<Inst<Numbers>> {
-    match name {
         "lock_cmpxchgb_mr" => Some(Inst::lock_cmpxchgb_mr(lock_cmpxchgb_mr::new(
             v.amode("m8"),
             v.gpr("r8"),

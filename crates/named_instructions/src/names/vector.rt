@@ -7,7 +7,7 @@ use cranelift_assembler_x64::inst::{
 };
 use cranelift_assembler_x64::{Inst, Numbers};
 
-pub(crate) fn sse(name: &str, v: &mut Values<'_>) -> Option<Inst<Numbers>> {
+pub(crate) fn vector(name: &str, v: &mut Values<'_>) -> Option<Inst<Numbers>> {
     match name {
         "andps_a" => Some(Inst::andps_a(andps_a::new(v.xmm("xmm1"), v.xmm_mem("xmm_m128")))),
         "cmpps_a" => Some(Inst::cmpps_a(cmpps_a::new(
@@ -30,12 +30,6 @@ pub(crate) fn sse(name: &str, v: &mut Values<'_>) -> Option<Inst<Numbers>> {
             v.xmm_mem("xmm_m64"),
             v.imm8("imm8"),
         ))),
-        _ => None,
-    }
-}
-
-pub(crate) fn avx(name: &str, v: &mut Values<'_>) -> Option<Inst<Numbers>> {
-    match name {
         "vcmpps_b" => Some(Inst::vcmpps_b(vcmpps_b::new(
             v.xmm("xmm1"),
             v.xmm("xmm2"),
