@@ -7,12 +7,10 @@ ghost use Rattle.cax64_inst.specs.Shaped.{Shaped};
 ghost use Rattle.cax64_operand.specs.Fold.{fold};
 ghost use Rattle.cax64_operand.specs.NopRow.{nop_row};
 ghost use Rattle.cax64_operand.specs.Shape.{HasShape};
-ghost use Rattle.cax64_operand.specs.declared.immediate.Immediate.TheVariants as immediate;
 ghost use Rattle.cax64_operand.specs.declared.operand.Operand.TheVariants as operand;
 ghost use Rattle.cax64_operand.specs.declared.operand.Operands.TheVariants as operands;
 
 use crate::Inst;
-use cax64_immediate::{Simm8, Simm32};
 use cax64_machine_code::row::Row;
 use cax64_operand::{FromOperands, Immediate, Nop, Operand, RowAndOperands, Task, of_one};
 use cax64_register::Registers;
@@ -47,35 +45,18 @@ fn give_nop<Kind, R: Registers, T: Task<R, X>, X>(nop: Nop, row: Row, to: &mut X
     T::take(T::nop(nop), row, to)
 }
 
-/// Hands on a jump by a distance of one byte.
+/// Hands on a jump or a call by a distance, in a function of its own for each kind too.
 #[tactic(auto, unfolding(crate::specs::Shaped::Shaped))]
 #[inline(never)]
-fn give_short<Kind, R: Registers, T: Task<R, X>, X>(
-    distance: Simm8,
+fn give_distance<Kind, R: Registers, T: Task<R, X>, X>(
+    distance: Immediate,
     row: Row,
     to: &mut X,
 ) -> T::Answer
-    requires shape { HasShape {R = R} {A = R.ReadGpr} {B = R.ReadWriteGpr} {C = R.WriteGpr} {D = R.ReadXmm} {E = R.ReadWriteXmm} {F = R.WriteXmm} row (operands.One (operand.Imm (immediate.Distance8 distance))) }
-    requires asks { Shaped {R = R} {A = R.ReadGpr} {B = R.ReadWriteGpr} {C = R.WriteGpr} {D = R.ReadXmm} {E = R.ReadWriteXmm} {F = R.WriteXmm} row (operands.One (operand.Imm (immediate.Distance8 distance))) → T.asks row (fold T.made_of_none T.made_with T.made_of_nop (operands.One (operand.Imm (immediate.Distance8 distance)))) to.old }
-    ensures answers { T.answers row (fold T.made_of_none T.made_with T.made_of_nop (operands.One (operand.Imm (immediate.Distance8 distance)))) to.old to.new result }
+    requires shape { HasShape {R = R} {A = R.ReadGpr} {B = R.ReadWriteGpr} {C = R.WriteGpr} {D = R.ReadXmm} {E = R.ReadWriteXmm} {F = R.WriteXmm} row (operands.One (operand.Imm distance)) }
+    requires asks { Shaped {R = R} {A = R.ReadGpr} {B = R.ReadWriteGpr} {C = R.WriteGpr} {D = R.ReadXmm} {E = R.ReadWriteXmm} {F = R.WriteXmm} row (operands.One (operand.Imm distance)) → T.asks row (fold T.made_of_none T.made_with T.made_of_nop (operands.One (operand.Imm distance))) to.old }
+    ensures answers { T.answers row (fold T.made_of_none T.made_with T.made_of_nop (operands.One (operand.Imm distance))) to.old to.new result }
 {
-    let distance = Immediate::Distance8(distance.value());
-    T::take(of_one(Operand::Imm(distance)), row, to)
-}
-
-/// Hands on a jump or a call by a distance of four bytes.
-#[tactic(auto, unfolding(crate::specs::Shaped::Shaped))]
-#[inline(never)]
-fn give_near<Kind, R: Registers, T: Task<R, X>, X>(
-    distance: Simm32,
-    row: Row,
-    to: &mut X,
-) -> T::Answer
-    requires shape { HasShape {R = R} {A = R.ReadGpr} {B = R.ReadWriteGpr} {C = R.WriteGpr} {D = R.ReadXmm} {E = R.ReadWriteXmm} {F = R.WriteXmm} row (operands.One (operand.Imm (immediate.Distance32 distance))) }
-    requires asks { Shaped {R = R} {A = R.ReadGpr} {B = R.ReadWriteGpr} {C = R.WriteGpr} {D = R.ReadXmm} {E = R.ReadWriteXmm} {F = R.WriteXmm} row (operands.One (operand.Imm (immediate.Distance32 distance))) → T.asks row (fold T.made_of_none T.made_with T.made_of_nop (operands.One (operand.Imm (immediate.Distance32 distance)))) to.old }
-    ensures answers { T.answers row (fold T.made_of_none T.made_with T.made_of_nop (operands.One (operand.Imm (immediate.Distance32 distance)))) to.old to.new result }
-{
-    let distance = Immediate::Distance32(distance.value());
     T::take(of_one(Operand::Imm(distance)), row, to)
 }
 
@@ -217,81 +198,181 @@ impl<R: Registers> Inst<R> {
             Inst::nop_7b(_) => give_nop::<nop_7b, R, T, X>(Nop::Seven, Row::nopl_rm, to),
             Inst::nop_8b(_) => give_nop::<nop_8b, R, T, X>(Nop::Eight, Row::nopl_rm, to),
             Inst::nop_9b(_) => give_nop::<nop_9b, R, T, X>(Nop::Nine, Row::nopw_rm, to),
-            &Inst::jmp_d8(jmp_d8 { imm8 }) => give_short::<jmp_d8, R, T, X>(imm8, Row::jmp_d8, to),
-            &Inst::jo_d8(jo_d8 { imm8 }) => give_short::<jo_d8, R, T, X>(imm8, Row::jo_d8, to),
-            &Inst::jno_d8(jno_d8 { imm8 }) => give_short::<jno_d8, R, T, X>(imm8, Row::jno_d8, to),
-            &Inst::jb_d8(jb_d8 { imm8 }) => give_short::<jb_d8, R, T, X>(imm8, Row::jb_d8, to),
-            &Inst::jae_d8(jae_d8 { imm8 }) => give_short::<jae_d8, R, T, X>(imm8, Row::jae_d8, to),
-            &Inst::je_d8(je_d8 { imm8 }) => give_short::<je_d8, R, T, X>(imm8, Row::je_d8, to),
-            &Inst::jne_d8(jne_d8 { imm8 }) => give_short::<jne_d8, R, T, X>(imm8, Row::jne_d8, to),
-            &Inst::jbe_d8(jbe_d8 { imm8 }) => give_short::<jbe_d8, R, T, X>(imm8, Row::jbe_d8, to),
-            &Inst::ja_d8(ja_d8 { imm8 }) => give_short::<ja_d8, R, T, X>(imm8, Row::ja_d8, to),
-            &Inst::js_d8(js_d8 { imm8 }) => give_short::<js_d8, R, T, X>(imm8, Row::js_d8, to),
-            &Inst::jns_d8(jns_d8 { imm8 }) => give_short::<jns_d8, R, T, X>(imm8, Row::jns_d8, to),
-            &Inst::jp_d8(jp_d8 { imm8 }) => give_short::<jp_d8, R, T, X>(imm8, Row::jp_d8, to),
-            &Inst::jnp_d8(jnp_d8 { imm8 }) => give_short::<jnp_d8, R, T, X>(imm8, Row::jnp_d8, to),
-            &Inst::jl_d8(jl_d8 { imm8 }) => give_short::<jl_d8, R, T, X>(imm8, Row::jl_d8, to),
-            &Inst::jge_d8(jge_d8 { imm8 }) => give_short::<jge_d8, R, T, X>(imm8, Row::jge_d8, to),
-            &Inst::jle_d8(jle_d8 { imm8 }) => give_short::<jle_d8, R, T, X>(imm8, Row::jle_d8, to),
-            &Inst::jg_d8(jg_d8 { imm8 }) => give_short::<jg_d8, R, T, X>(imm8, Row::jg_d8, to),
-            &Inst::callq_d(callq_d { imm32 }) => give_near::<callq_d, R, T, X>(
-                imm32,
+            &Inst::jmp_d8(jmp_d8 { imm8 }) => give_distance::<jmp_d8, R, T, X>(
+                Immediate::Distance8(imm8.value()),
+                Row::jmp_d8,
+                to,
+            ),
+            &Inst::jo_d8(jo_d8 { imm8 }) => give_distance::<jo_d8, R, T, X>(
+                Immediate::Distance8(imm8.value()),
+                Row::jo_d8,
+                to,
+            ),
+            &Inst::jno_d8(jno_d8 { imm8 }) => give_distance::<jno_d8, R, T, X>(
+                Immediate::Distance8(imm8.value()),
+                Row::jno_d8,
+                to,
+            ),
+            &Inst::jb_d8(jb_d8 { imm8 }) => give_distance::<jb_d8, R, T, X>(
+                Immediate::Distance8(imm8.value()),
+                Row::jb_d8,
+                to,
+            ),
+            &Inst::jae_d8(jae_d8 { imm8 }) => give_distance::<jae_d8, R, T, X>(
+                Immediate::Distance8(imm8.value()),
+                Row::jae_d8,
+                to,
+            ),
+            &Inst::je_d8(je_d8 { imm8 }) => give_distance::<je_d8, R, T, X>(
+                Immediate::Distance8(imm8.value()),
+                Row::je_d8,
+                to,
+            ),
+            &Inst::jne_d8(jne_d8 { imm8 }) => give_distance::<jne_d8, R, T, X>(
+                Immediate::Distance8(imm8.value()),
+                Row::jne_d8,
+                to,
+            ),
+            &Inst::jbe_d8(jbe_d8 { imm8 }) => give_distance::<jbe_d8, R, T, X>(
+                Immediate::Distance8(imm8.value()),
+                Row::jbe_d8,
+                to,
+            ),
+            &Inst::ja_d8(ja_d8 { imm8 }) => give_distance::<ja_d8, R, T, X>(
+                Immediate::Distance8(imm8.value()),
+                Row::ja_d8,
+                to,
+            ),
+            &Inst::js_d8(js_d8 { imm8 }) => give_distance::<js_d8, R, T, X>(
+                Immediate::Distance8(imm8.value()),
+                Row::js_d8,
+                to,
+            ),
+            &Inst::jns_d8(jns_d8 { imm8 }) => give_distance::<jns_d8, R, T, X>(
+                Immediate::Distance8(imm8.value()),
+                Row::jns_d8,
+                to,
+            ),
+            &Inst::jp_d8(jp_d8 { imm8 }) => give_distance::<jp_d8, R, T, X>(
+                Immediate::Distance8(imm8.value()),
+                Row::jp_d8,
+                to,
+            ),
+            &Inst::jnp_d8(jnp_d8 { imm8 }) => give_distance::<jnp_d8, R, T, X>(
+                Immediate::Distance8(imm8.value()),
+                Row::jnp_d8,
+                to,
+            ),
+            &Inst::jl_d8(jl_d8 { imm8 }) => give_distance::<jl_d8, R, T, X>(
+                Immediate::Distance8(imm8.value()),
+                Row::jl_d8,
+                to,
+            ),
+            &Inst::jge_d8(jge_d8 { imm8 }) => give_distance::<jge_d8, R, T, X>(
+                Immediate::Distance8(imm8.value()),
+                Row::jge_d8,
+                to,
+            ),
+            &Inst::jle_d8(jle_d8 { imm8 }) => give_distance::<jle_d8, R, T, X>(
+                Immediate::Distance8(imm8.value()),
+                Row::jle_d8,
+                to,
+            ),
+            &Inst::jg_d8(jg_d8 { imm8 }) => give_distance::<jg_d8, R, T, X>(
+                Immediate::Distance8(imm8.value()),
+                Row::jg_d8,
+                to,
+            ),
+            &Inst::callq_d(callq_d { imm32 }) => give_distance::<callq_d, R, T, X>(
+                Immediate::Distance32(imm32.value()),
                 Row::callq_d,
                 to,
             ),
-            &Inst::jmp_d32(jmp_d32 { imm32 }) => give_near::<jmp_d32, R, T, X>(
-                imm32,
+            &Inst::jmp_d32(jmp_d32 { imm32 }) => give_distance::<jmp_d32, R, T, X>(
+                Immediate::Distance32(imm32.value()),
                 Row::jmp_d32,
                 to,
             ),
-            &Inst::jo_d32(jo_d32 { imm32 }) => give_near::<jo_d32, R, T, X>(imm32, Row::jo_d32, to),
-            &Inst::jno_d32(jno_d32 { imm32 }) => give_near::<jno_d32, R, T, X>(
-                imm32,
+            &Inst::jo_d32(jo_d32 { imm32 }) => give_distance::<jo_d32, R, T, X>(
+                Immediate::Distance32(imm32.value()),
+                Row::jo_d32,
+                to,
+            ),
+            &Inst::jno_d32(jno_d32 { imm32 }) => give_distance::<jno_d32, R, T, X>(
+                Immediate::Distance32(imm32.value()),
                 Row::jno_d32,
                 to,
             ),
-            &Inst::jb_d32(jb_d32 { imm32 }) => give_near::<jb_d32, R, T, X>(imm32, Row::jb_d32, to),
-            &Inst::jae_d32(jae_d32 { imm32 }) => give_near::<jae_d32, R, T, X>(
-                imm32,
+            &Inst::jb_d32(jb_d32 { imm32 }) => give_distance::<jb_d32, R, T, X>(
+                Immediate::Distance32(imm32.value()),
+                Row::jb_d32,
+                to,
+            ),
+            &Inst::jae_d32(jae_d32 { imm32 }) => give_distance::<jae_d32, R, T, X>(
+                Immediate::Distance32(imm32.value()),
                 Row::jae_d32,
                 to,
             ),
-            &Inst::je_d32(je_d32 { imm32 }) => give_near::<je_d32, R, T, X>(imm32, Row::je_d32, to),
-            &Inst::jne_d32(jne_d32 { imm32 }) => give_near::<jne_d32, R, T, X>(
-                imm32,
+            &Inst::je_d32(je_d32 { imm32 }) => give_distance::<je_d32, R, T, X>(
+                Immediate::Distance32(imm32.value()),
+                Row::je_d32,
+                to,
+            ),
+            &Inst::jne_d32(jne_d32 { imm32 }) => give_distance::<jne_d32, R, T, X>(
+                Immediate::Distance32(imm32.value()),
                 Row::jne_d32,
                 to,
             ),
-            &Inst::jbe_d32(jbe_d32 { imm32 }) => give_near::<jbe_d32, R, T, X>(
-                imm32,
+            &Inst::jbe_d32(jbe_d32 { imm32 }) => give_distance::<jbe_d32, R, T, X>(
+                Immediate::Distance32(imm32.value()),
                 Row::jbe_d32,
                 to,
             ),
-            &Inst::ja_d32(ja_d32 { imm32 }) => give_near::<ja_d32, R, T, X>(imm32, Row::ja_d32, to),
-            &Inst::js_d32(js_d32 { imm32 }) => give_near::<js_d32, R, T, X>(imm32, Row::js_d32, to),
-            &Inst::jns_d32(jns_d32 { imm32 }) => give_near::<jns_d32, R, T, X>(
-                imm32,
+            &Inst::ja_d32(ja_d32 { imm32 }) => give_distance::<ja_d32, R, T, X>(
+                Immediate::Distance32(imm32.value()),
+                Row::ja_d32,
+                to,
+            ),
+            &Inst::js_d32(js_d32 { imm32 }) => give_distance::<js_d32, R, T, X>(
+                Immediate::Distance32(imm32.value()),
+                Row::js_d32,
+                to,
+            ),
+            &Inst::jns_d32(jns_d32 { imm32 }) => give_distance::<jns_d32, R, T, X>(
+                Immediate::Distance32(imm32.value()),
                 Row::jns_d32,
                 to,
             ),
-            &Inst::jp_d32(jp_d32 { imm32 }) => give_near::<jp_d32, R, T, X>(imm32, Row::jp_d32, to),
-            &Inst::jnp_d32(jnp_d32 { imm32 }) => give_near::<jnp_d32, R, T, X>(
-                imm32,
+            &Inst::jp_d32(jp_d32 { imm32 }) => give_distance::<jp_d32, R, T, X>(
+                Immediate::Distance32(imm32.value()),
+                Row::jp_d32,
+                to,
+            ),
+            &Inst::jnp_d32(jnp_d32 { imm32 }) => give_distance::<jnp_d32, R, T, X>(
+                Immediate::Distance32(imm32.value()),
                 Row::jnp_d32,
                 to,
             ),
-            &Inst::jl_d32(jl_d32 { imm32 }) => give_near::<jl_d32, R, T, X>(imm32, Row::jl_d32, to),
-            &Inst::jge_d32(jge_d32 { imm32 }) => give_near::<jge_d32, R, T, X>(
-                imm32,
+            &Inst::jl_d32(jl_d32 { imm32 }) => give_distance::<jl_d32, R, T, X>(
+                Immediate::Distance32(imm32.value()),
+                Row::jl_d32,
+                to,
+            ),
+            &Inst::jge_d32(jge_d32 { imm32 }) => give_distance::<jge_d32, R, T, X>(
+                Immediate::Distance32(imm32.value()),
                 Row::jge_d32,
                 to,
             ),
-            &Inst::jle_d32(jle_d32 { imm32 }) => give_near::<jle_d32, R, T, X>(
-                imm32,
+            &Inst::jle_d32(jle_d32 { imm32 }) => give_distance::<jle_d32, R, T, X>(
+                Immediate::Distance32(imm32.value()),
                 Row::jle_d32,
                 to,
             ),
-            &Inst::jg_d32(jg_d32 { imm32 }) => give_near::<jg_d32, R, T, X>(imm32, Row::jg_d32, to),
+            &Inst::jg_d32(jg_d32 { imm32 }) => give_distance::<jg_d32, R, T, X>(
+                Immediate::Distance32(imm32.value()),
+                Row::jg_d32,
+                to,
+            ),
         }
     }
 }

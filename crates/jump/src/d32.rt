@@ -2,16 +2,12 @@
 
 ghost use Rattle.std.specs.Prelude.{◌≡◌};
 ghost use Rattle.cax64_machine_code.specs.declared.row.Row.TheVariants as row;
-ghost use Rattle.cax64_operand.specs.Fold.{fold};
-ghost use Rattle.cax64_operand.specs.Shape.{HasShape};
 ghost use Rattle.cax64_operand.specs.Visit.{OperandsRun};
 ghost use Rattle.jump.specs.Operands.{operands_callq_d, operands_jmp_d32, operands_jo_d32, operands_jno_d32, operands_jb_d32, operands_jae_d32, operands_je_d32, operands_jne_d32, operands_jbe_d32, operands_ja_d32, operands_js_d32, operands_jns_d32, operands_jp_d32, operands_jnp_d32, operands_jl_d32, operands_jge_d32, operands_jle_d32, operands_jg_d32};
 
 use cax64_immediate::Simm32;
 use cax64_machine_code::row::Row;
-use cax64_operand::{
-    FromOperands, Immediate, Numbers, Operand, RegisterVisitor, RowAndOperands, Task, of_one,
-};
+use cax64_operand::{Immediate, Numbers, Operand, RegisterVisitor, RowAndOperands, Task, of_one};
 use cax64_register::Registers;
 
 /// Call near, relative, by a 32-bit displacement from the next instruction.
@@ -27,16 +23,6 @@ impl callq_d {
         callq_d { imm32 }
     }
 
-    /// What is made of the operands, for any family.
-    #[tactic(auto, unfolding(cax64_machine_code::specs::Rows::line_of))]
-    #[inline(always)]
-    pub fn fold_operands<R: Registers, T: FromOperands<R>>(&self) -> T
-        ensures value { result ≡ fold T.made_of_none T.made_with T.made_of_nop (operands_callq_d {R = R} self.now) }
-        ensures shape { HasShape {F = R.WriteXmm} row.callq_d (operands_callq_d {R = R} {A = R.ReadGpr} {B = R.ReadWriteGpr} {C = R.WriteGpr} {D = R.ReadXmm} {E = R.ReadWriteXmm} self.now) }
-    {
-        of_one(Operand::Imm(Immediate::Distance32(self.imm32.value())))
-    }
-
     /// It has no registers; the visitor stays as it is.
     pub fn visit<R: Registers, V: RegisterVisitor<R>>(&mut self, visitor: &mut V)
         ensures { OperandsRun R.WriteGpr.eq V.steps visitor.old (operands_callq_d {R = R} self.old) (operands_callq_d {R = R} self.new) visitor.new }
@@ -50,9 +36,14 @@ impl RowAndOperands for callq_d {
 
     ghost operands_of = { operands_callq_d };
 
+    #[tactic(auto, unfolding(cax64_machine_code::specs::Rows::line_of))]
     #[inline(always)]
     fn hand_to<T: Task<Numbers, X>, X>(&self, to: &mut X) -> T::Answer {
-        T::take(callq_d::fold_operands(self), Row::callq_d, to)
+        T::take(
+            of_one(Operand::Imm(Immediate::Distance32(self.imm32.value()))),
+            Row::callq_d,
+            to,
+        )
     }
 
     fn visit<V: RegisterVisitor<Numbers>>(&mut self, visitor: &mut V) {
@@ -73,16 +64,6 @@ impl jmp_d32 {
         jmp_d32 { imm32 }
     }
 
-    /// What is made of the operands, for any family.
-    #[tactic(auto, unfolding(cax64_machine_code::specs::Rows::line_of))]
-    #[inline(always)]
-    pub fn fold_operands<R: Registers, T: FromOperands<R>>(&self) -> T
-        ensures value { result ≡ fold T.made_of_none T.made_with T.made_of_nop (operands_jmp_d32 {R = R} self.now) }
-        ensures shape { HasShape {F = R.WriteXmm} row.jmp_d32 (operands_jmp_d32 {R = R} {A = R.ReadGpr} {B = R.ReadWriteGpr} {C = R.WriteGpr} {D = R.ReadXmm} {E = R.ReadWriteXmm} self.now) }
-    {
-        of_one(Operand::Imm(Immediate::Distance32(self.imm32.value())))
-    }
-
     /// It has no registers; the visitor stays as it is.
     pub fn visit<R: Registers, V: RegisterVisitor<R>>(&mut self, visitor: &mut V)
         ensures { OperandsRun R.WriteGpr.eq V.steps visitor.old (operands_jmp_d32 {R = R} self.old) (operands_jmp_d32 {R = R} self.new) visitor.new }
@@ -96,9 +77,14 @@ impl RowAndOperands for jmp_d32 {
 
     ghost operands_of = { operands_jmp_d32 };
 
+    #[tactic(auto, unfolding(cax64_machine_code::specs::Rows::line_of))]
     #[inline(always)]
     fn hand_to<T: Task<Numbers, X>, X>(&self, to: &mut X) -> T::Answer {
-        T::take(jmp_d32::fold_operands(self), Row::jmp_d32, to)
+        T::take(
+            of_one(Operand::Imm(Immediate::Distance32(self.imm32.value()))),
+            Row::jmp_d32,
+            to,
+        )
     }
 
     fn visit<V: RegisterVisitor<Numbers>>(&mut self, visitor: &mut V) {
@@ -119,16 +105,6 @@ impl jo_d32 {
         jo_d32 { imm32 }
     }
 
-    /// What is made of the operands, for any family.
-    #[tactic(auto, unfolding(cax64_machine_code::specs::Rows::line_of))]
-    #[inline(always)]
-    pub fn fold_operands<R: Registers, T: FromOperands<R>>(&self) -> T
-        ensures value { result ≡ fold T.made_of_none T.made_with T.made_of_nop (operands_jo_d32 {R = R} self.now) }
-        ensures shape { HasShape {F = R.WriteXmm} row.jo_d32 (operands_jo_d32 {R = R} {A = R.ReadGpr} {B = R.ReadWriteGpr} {C = R.WriteGpr} {D = R.ReadXmm} {E = R.ReadWriteXmm} self.now) }
-    {
-        of_one(Operand::Imm(Immediate::Distance32(self.imm32.value())))
-    }
-
     /// It has no registers; the visitor stays as it is.
     pub fn visit<R: Registers, V: RegisterVisitor<R>>(&mut self, visitor: &mut V)
         ensures { OperandsRun R.WriteGpr.eq V.steps visitor.old (operands_jo_d32 {R = R} self.old) (operands_jo_d32 {R = R} self.new) visitor.new }
@@ -142,9 +118,14 @@ impl RowAndOperands for jo_d32 {
 
     ghost operands_of = { operands_jo_d32 };
 
+    #[tactic(auto, unfolding(cax64_machine_code::specs::Rows::line_of))]
     #[inline(always)]
     fn hand_to<T: Task<Numbers, X>, X>(&self, to: &mut X) -> T::Answer {
-        T::take(jo_d32::fold_operands(self), Row::jo_d32, to)
+        T::take(
+            of_one(Operand::Imm(Immediate::Distance32(self.imm32.value()))),
+            Row::jo_d32,
+            to,
+        )
     }
 
     fn visit<V: RegisterVisitor<Numbers>>(&mut self, visitor: &mut V) {
@@ -165,16 +146,6 @@ impl jno_d32 {
         jno_d32 { imm32 }
     }
 
-    /// What is made of the operands, for any family.
-    #[tactic(auto, unfolding(cax64_machine_code::specs::Rows::line_of))]
-    #[inline(always)]
-    pub fn fold_operands<R: Registers, T: FromOperands<R>>(&self) -> T
-        ensures value { result ≡ fold T.made_of_none T.made_with T.made_of_nop (operands_jno_d32 {R = R} self.now) }
-        ensures shape { HasShape {F = R.WriteXmm} row.jno_d32 (operands_jno_d32 {R = R} {A = R.ReadGpr} {B = R.ReadWriteGpr} {C = R.WriteGpr} {D = R.ReadXmm} {E = R.ReadWriteXmm} self.now) }
-    {
-        of_one(Operand::Imm(Immediate::Distance32(self.imm32.value())))
-    }
-
     /// It has no registers; the visitor stays as it is.
     pub fn visit<R: Registers, V: RegisterVisitor<R>>(&mut self, visitor: &mut V)
         ensures { OperandsRun R.WriteGpr.eq V.steps visitor.old (operands_jno_d32 {R = R} self.old) (operands_jno_d32 {R = R} self.new) visitor.new }
@@ -188,9 +159,14 @@ impl RowAndOperands for jno_d32 {
 
     ghost operands_of = { operands_jno_d32 };
 
+    #[tactic(auto, unfolding(cax64_machine_code::specs::Rows::line_of))]
     #[inline(always)]
     fn hand_to<T: Task<Numbers, X>, X>(&self, to: &mut X) -> T::Answer {
-        T::take(jno_d32::fold_operands(self), Row::jno_d32, to)
+        T::take(
+            of_one(Operand::Imm(Immediate::Distance32(self.imm32.value()))),
+            Row::jno_d32,
+            to,
+        )
     }
 
     fn visit<V: RegisterVisitor<Numbers>>(&mut self, visitor: &mut V) {
@@ -211,16 +187,6 @@ impl jb_d32 {
         jb_d32 { imm32 }
     }
 
-    /// What is made of the operands, for any family.
-    #[tactic(auto, unfolding(cax64_machine_code::specs::Rows::line_of))]
-    #[inline(always)]
-    pub fn fold_operands<R: Registers, T: FromOperands<R>>(&self) -> T
-        ensures value { result ≡ fold T.made_of_none T.made_with T.made_of_nop (operands_jb_d32 {R = R} self.now) }
-        ensures shape { HasShape {F = R.WriteXmm} row.jb_d32 (operands_jb_d32 {R = R} {A = R.ReadGpr} {B = R.ReadWriteGpr} {C = R.WriteGpr} {D = R.ReadXmm} {E = R.ReadWriteXmm} self.now) }
-    {
-        of_one(Operand::Imm(Immediate::Distance32(self.imm32.value())))
-    }
-
     /// It has no registers; the visitor stays as it is.
     pub fn visit<R: Registers, V: RegisterVisitor<R>>(&mut self, visitor: &mut V)
         ensures { OperandsRun R.WriteGpr.eq V.steps visitor.old (operands_jb_d32 {R = R} self.old) (operands_jb_d32 {R = R} self.new) visitor.new }
@@ -234,9 +200,14 @@ impl RowAndOperands for jb_d32 {
 
     ghost operands_of = { operands_jb_d32 };
 
+    #[tactic(auto, unfolding(cax64_machine_code::specs::Rows::line_of))]
     #[inline(always)]
     fn hand_to<T: Task<Numbers, X>, X>(&self, to: &mut X) -> T::Answer {
-        T::take(jb_d32::fold_operands(self), Row::jb_d32, to)
+        T::take(
+            of_one(Operand::Imm(Immediate::Distance32(self.imm32.value()))),
+            Row::jb_d32,
+            to,
+        )
     }
 
     fn visit<V: RegisterVisitor<Numbers>>(&mut self, visitor: &mut V) {
@@ -257,16 +228,6 @@ impl jae_d32 {
         jae_d32 { imm32 }
     }
 
-    /// What is made of the operands, for any family.
-    #[tactic(auto, unfolding(cax64_machine_code::specs::Rows::line_of))]
-    #[inline(always)]
-    pub fn fold_operands<R: Registers, T: FromOperands<R>>(&self) -> T
-        ensures value { result ≡ fold T.made_of_none T.made_with T.made_of_nop (operands_jae_d32 {R = R} self.now) }
-        ensures shape { HasShape {F = R.WriteXmm} row.jae_d32 (operands_jae_d32 {R = R} {A = R.ReadGpr} {B = R.ReadWriteGpr} {C = R.WriteGpr} {D = R.ReadXmm} {E = R.ReadWriteXmm} self.now) }
-    {
-        of_one(Operand::Imm(Immediate::Distance32(self.imm32.value())))
-    }
-
     /// It has no registers; the visitor stays as it is.
     pub fn visit<R: Registers, V: RegisterVisitor<R>>(&mut self, visitor: &mut V)
         ensures { OperandsRun R.WriteGpr.eq V.steps visitor.old (operands_jae_d32 {R = R} self.old) (operands_jae_d32 {R = R} self.new) visitor.new }
@@ -280,9 +241,14 @@ impl RowAndOperands for jae_d32 {
 
     ghost operands_of = { operands_jae_d32 };
 
+    #[tactic(auto, unfolding(cax64_machine_code::specs::Rows::line_of))]
     #[inline(always)]
     fn hand_to<T: Task<Numbers, X>, X>(&self, to: &mut X) -> T::Answer {
-        T::take(jae_d32::fold_operands(self), Row::jae_d32, to)
+        T::take(
+            of_one(Operand::Imm(Immediate::Distance32(self.imm32.value()))),
+            Row::jae_d32,
+            to,
+        )
     }
 
     fn visit<V: RegisterVisitor<Numbers>>(&mut self, visitor: &mut V) {
@@ -303,16 +269,6 @@ impl je_d32 {
         je_d32 { imm32 }
     }
 
-    /// What is made of the operands, for any family.
-    #[tactic(auto, unfolding(cax64_machine_code::specs::Rows::line_of))]
-    #[inline(always)]
-    pub fn fold_operands<R: Registers, T: FromOperands<R>>(&self) -> T
-        ensures value { result ≡ fold T.made_of_none T.made_with T.made_of_nop (operands_je_d32 {R = R} self.now) }
-        ensures shape { HasShape {F = R.WriteXmm} row.je_d32 (operands_je_d32 {R = R} {A = R.ReadGpr} {B = R.ReadWriteGpr} {C = R.WriteGpr} {D = R.ReadXmm} {E = R.ReadWriteXmm} self.now) }
-    {
-        of_one(Operand::Imm(Immediate::Distance32(self.imm32.value())))
-    }
-
     /// It has no registers; the visitor stays as it is.
     pub fn visit<R: Registers, V: RegisterVisitor<R>>(&mut self, visitor: &mut V)
         ensures { OperandsRun R.WriteGpr.eq V.steps visitor.old (operands_je_d32 {R = R} self.old) (operands_je_d32 {R = R} self.new) visitor.new }
@@ -326,9 +282,14 @@ impl RowAndOperands for je_d32 {
 
     ghost operands_of = { operands_je_d32 };
 
+    #[tactic(auto, unfolding(cax64_machine_code::specs::Rows::line_of))]
     #[inline(always)]
     fn hand_to<T: Task<Numbers, X>, X>(&self, to: &mut X) -> T::Answer {
-        T::take(je_d32::fold_operands(self), Row::je_d32, to)
+        T::take(
+            of_one(Operand::Imm(Immediate::Distance32(self.imm32.value()))),
+            Row::je_d32,
+            to,
+        )
     }
 
     fn visit<V: RegisterVisitor<Numbers>>(&mut self, visitor: &mut V) {
@@ -349,16 +310,6 @@ impl jne_d32 {
         jne_d32 { imm32 }
     }
 
-    /// What is made of the operands, for any family.
-    #[tactic(auto, unfolding(cax64_machine_code::specs::Rows::line_of))]
-    #[inline(always)]
-    pub fn fold_operands<R: Registers, T: FromOperands<R>>(&self) -> T
-        ensures value { result ≡ fold T.made_of_none T.made_with T.made_of_nop (operands_jne_d32 {R = R} self.now) }
-        ensures shape { HasShape {F = R.WriteXmm} row.jne_d32 (operands_jne_d32 {R = R} {A = R.ReadGpr} {B = R.ReadWriteGpr} {C = R.WriteGpr} {D = R.ReadXmm} {E = R.ReadWriteXmm} self.now) }
-    {
-        of_one(Operand::Imm(Immediate::Distance32(self.imm32.value())))
-    }
-
     /// It has no registers; the visitor stays as it is.
     pub fn visit<R: Registers, V: RegisterVisitor<R>>(&mut self, visitor: &mut V)
         ensures { OperandsRun R.WriteGpr.eq V.steps visitor.old (operands_jne_d32 {R = R} self.old) (operands_jne_d32 {R = R} self.new) visitor.new }
@@ -372,9 +323,14 @@ impl RowAndOperands for jne_d32 {
 
     ghost operands_of = { operands_jne_d32 };
 
+    #[tactic(auto, unfolding(cax64_machine_code::specs::Rows::line_of))]
     #[inline(always)]
     fn hand_to<T: Task<Numbers, X>, X>(&self, to: &mut X) -> T::Answer {
-        T::take(jne_d32::fold_operands(self), Row::jne_d32, to)
+        T::take(
+            of_one(Operand::Imm(Immediate::Distance32(self.imm32.value()))),
+            Row::jne_d32,
+            to,
+        )
     }
 
     fn visit<V: RegisterVisitor<Numbers>>(&mut self, visitor: &mut V) {
@@ -395,16 +351,6 @@ impl jbe_d32 {
         jbe_d32 { imm32 }
     }
 
-    /// What is made of the operands, for any family.
-    #[tactic(auto, unfolding(cax64_machine_code::specs::Rows::line_of))]
-    #[inline(always)]
-    pub fn fold_operands<R: Registers, T: FromOperands<R>>(&self) -> T
-        ensures value { result ≡ fold T.made_of_none T.made_with T.made_of_nop (operands_jbe_d32 {R = R} self.now) }
-        ensures shape { HasShape {F = R.WriteXmm} row.jbe_d32 (operands_jbe_d32 {R = R} {A = R.ReadGpr} {B = R.ReadWriteGpr} {C = R.WriteGpr} {D = R.ReadXmm} {E = R.ReadWriteXmm} self.now) }
-    {
-        of_one(Operand::Imm(Immediate::Distance32(self.imm32.value())))
-    }
-
     /// It has no registers; the visitor stays as it is.
     pub fn visit<R: Registers, V: RegisterVisitor<R>>(&mut self, visitor: &mut V)
         ensures { OperandsRun R.WriteGpr.eq V.steps visitor.old (operands_jbe_d32 {R = R} self.old) (operands_jbe_d32 {R = R} self.new) visitor.new }
@@ -418,9 +364,14 @@ impl RowAndOperands for jbe_d32 {
 
     ghost operands_of = { operands_jbe_d32 };
 
+    #[tactic(auto, unfolding(cax64_machine_code::specs::Rows::line_of))]
     #[inline(always)]
     fn hand_to<T: Task<Numbers, X>, X>(&self, to: &mut X) -> T::Answer {
-        T::take(jbe_d32::fold_operands(self), Row::jbe_d32, to)
+        T::take(
+            of_one(Operand::Imm(Immediate::Distance32(self.imm32.value()))),
+            Row::jbe_d32,
+            to,
+        )
     }
 
     fn visit<V: RegisterVisitor<Numbers>>(&mut self, visitor: &mut V) {
@@ -441,16 +392,6 @@ impl ja_d32 {
         ja_d32 { imm32 }
     }
 
-    /// What is made of the operands, for any family.
-    #[tactic(auto, unfolding(cax64_machine_code::specs::Rows::line_of))]
-    #[inline(always)]
-    pub fn fold_operands<R: Registers, T: FromOperands<R>>(&self) -> T
-        ensures value { result ≡ fold T.made_of_none T.made_with T.made_of_nop (operands_ja_d32 {R = R} self.now) }
-        ensures shape { HasShape {F = R.WriteXmm} row.ja_d32 (operands_ja_d32 {R = R} {A = R.ReadGpr} {B = R.ReadWriteGpr} {C = R.WriteGpr} {D = R.ReadXmm} {E = R.ReadWriteXmm} self.now) }
-    {
-        of_one(Operand::Imm(Immediate::Distance32(self.imm32.value())))
-    }
-
     /// It has no registers; the visitor stays as it is.
     pub fn visit<R: Registers, V: RegisterVisitor<R>>(&mut self, visitor: &mut V)
         ensures { OperandsRun R.WriteGpr.eq V.steps visitor.old (operands_ja_d32 {R = R} self.old) (operands_ja_d32 {R = R} self.new) visitor.new }
@@ -464,9 +405,14 @@ impl RowAndOperands for ja_d32 {
 
     ghost operands_of = { operands_ja_d32 };
 
+    #[tactic(auto, unfolding(cax64_machine_code::specs::Rows::line_of))]
     #[inline(always)]
     fn hand_to<T: Task<Numbers, X>, X>(&self, to: &mut X) -> T::Answer {
-        T::take(ja_d32::fold_operands(self), Row::ja_d32, to)
+        T::take(
+            of_one(Operand::Imm(Immediate::Distance32(self.imm32.value()))),
+            Row::ja_d32,
+            to,
+        )
     }
 
     fn visit<V: RegisterVisitor<Numbers>>(&mut self, visitor: &mut V) {
@@ -487,16 +433,6 @@ impl js_d32 {
         js_d32 { imm32 }
     }
 
-    /// What is made of the operands, for any family.
-    #[tactic(auto, unfolding(cax64_machine_code::specs::Rows::line_of))]
-    #[inline(always)]
-    pub fn fold_operands<R: Registers, T: FromOperands<R>>(&self) -> T
-        ensures value { result ≡ fold T.made_of_none T.made_with T.made_of_nop (operands_js_d32 {R = R} self.now) }
-        ensures shape { HasShape {F = R.WriteXmm} row.js_d32 (operands_js_d32 {R = R} {A = R.ReadGpr} {B = R.ReadWriteGpr} {C = R.WriteGpr} {D = R.ReadXmm} {E = R.ReadWriteXmm} self.now) }
-    {
-        of_one(Operand::Imm(Immediate::Distance32(self.imm32.value())))
-    }
-
     /// It has no registers; the visitor stays as it is.
     pub fn visit<R: Registers, V: RegisterVisitor<R>>(&mut self, visitor: &mut V)
         ensures { OperandsRun R.WriteGpr.eq V.steps visitor.old (operands_js_d32 {R = R} self.old) (operands_js_d32 {R = R} self.new) visitor.new }
@@ -510,9 +446,14 @@ impl RowAndOperands for js_d32 {
 
     ghost operands_of = { operands_js_d32 };
 
+    #[tactic(auto, unfolding(cax64_machine_code::specs::Rows::line_of))]
     #[inline(always)]
     fn hand_to<T: Task<Numbers, X>, X>(&self, to: &mut X) -> T::Answer {
-        T::take(js_d32::fold_operands(self), Row::js_d32, to)
+        T::take(
+            of_one(Operand::Imm(Immediate::Distance32(self.imm32.value()))),
+            Row::js_d32,
+            to,
+        )
     }
 
     fn visit<V: RegisterVisitor<Numbers>>(&mut self, visitor: &mut V) {
@@ -533,16 +474,6 @@ impl jns_d32 {
         jns_d32 { imm32 }
     }
 
-    /// What is made of the operands, for any family.
-    #[tactic(auto, unfolding(cax64_machine_code::specs::Rows::line_of))]
-    #[inline(always)]
-    pub fn fold_operands<R: Registers, T: FromOperands<R>>(&self) -> T
-        ensures value { result ≡ fold T.made_of_none T.made_with T.made_of_nop (operands_jns_d32 {R = R} self.now) }
-        ensures shape { HasShape {F = R.WriteXmm} row.jns_d32 (operands_jns_d32 {R = R} {A = R.ReadGpr} {B = R.ReadWriteGpr} {C = R.WriteGpr} {D = R.ReadXmm} {E = R.ReadWriteXmm} self.now) }
-    {
-        of_one(Operand::Imm(Immediate::Distance32(self.imm32.value())))
-    }
-
     /// It has no registers; the visitor stays as it is.
     pub fn visit<R: Registers, V: RegisterVisitor<R>>(&mut self, visitor: &mut V)
         ensures { OperandsRun R.WriteGpr.eq V.steps visitor.old (operands_jns_d32 {R = R} self.old) (operands_jns_d32 {R = R} self.new) visitor.new }
@@ -556,9 +487,14 @@ impl RowAndOperands for jns_d32 {
 
     ghost operands_of = { operands_jns_d32 };
 
+    #[tactic(auto, unfolding(cax64_machine_code::specs::Rows::line_of))]
     #[inline(always)]
     fn hand_to<T: Task<Numbers, X>, X>(&self, to: &mut X) -> T::Answer {
-        T::take(jns_d32::fold_operands(self), Row::jns_d32, to)
+        T::take(
+            of_one(Operand::Imm(Immediate::Distance32(self.imm32.value()))),
+            Row::jns_d32,
+            to,
+        )
     }
 
     fn visit<V: RegisterVisitor<Numbers>>(&mut self, visitor: &mut V) {
@@ -579,16 +515,6 @@ impl jp_d32 {
         jp_d32 { imm32 }
     }
 
-    /// What is made of the operands, for any family.
-    #[tactic(auto, unfolding(cax64_machine_code::specs::Rows::line_of))]
-    #[inline(always)]
-    pub fn fold_operands<R: Registers, T: FromOperands<R>>(&self) -> T
-        ensures value { result ≡ fold T.made_of_none T.made_with T.made_of_nop (operands_jp_d32 {R = R} self.now) }
-        ensures shape { HasShape {F = R.WriteXmm} row.jp_d32 (operands_jp_d32 {R = R} {A = R.ReadGpr} {B = R.ReadWriteGpr} {C = R.WriteGpr} {D = R.ReadXmm} {E = R.ReadWriteXmm} self.now) }
-    {
-        of_one(Operand::Imm(Immediate::Distance32(self.imm32.value())))
-    }
-
     /// It has no registers; the visitor stays as it is.
     pub fn visit<R: Registers, V: RegisterVisitor<R>>(&mut self, visitor: &mut V)
         ensures { OperandsRun R.WriteGpr.eq V.steps visitor.old (operands_jp_d32 {R = R} self.old) (operands_jp_d32 {R = R} self.new) visitor.new }
@@ -602,9 +528,14 @@ impl RowAndOperands for jp_d32 {
 
     ghost operands_of = { operands_jp_d32 };
 
+    #[tactic(auto, unfolding(cax64_machine_code::specs::Rows::line_of))]
     #[inline(always)]
     fn hand_to<T: Task<Numbers, X>, X>(&self, to: &mut X) -> T::Answer {
-        T::take(jp_d32::fold_operands(self), Row::jp_d32, to)
+        T::take(
+            of_one(Operand::Imm(Immediate::Distance32(self.imm32.value()))),
+            Row::jp_d32,
+            to,
+        )
     }
 
     fn visit<V: RegisterVisitor<Numbers>>(&mut self, visitor: &mut V) {
@@ -625,16 +556,6 @@ impl jnp_d32 {
         jnp_d32 { imm32 }
     }
 
-    /// What is made of the operands, for any family.
-    #[tactic(auto, unfolding(cax64_machine_code::specs::Rows::line_of))]
-    #[inline(always)]
-    pub fn fold_operands<R: Registers, T: FromOperands<R>>(&self) -> T
-        ensures value { result ≡ fold T.made_of_none T.made_with T.made_of_nop (operands_jnp_d32 {R = R} self.now) }
-        ensures shape { HasShape {F = R.WriteXmm} row.jnp_d32 (operands_jnp_d32 {R = R} {A = R.ReadGpr} {B = R.ReadWriteGpr} {C = R.WriteGpr} {D = R.ReadXmm} {E = R.ReadWriteXmm} self.now) }
-    {
-        of_one(Operand::Imm(Immediate::Distance32(self.imm32.value())))
-    }
-
     /// It has no registers; the visitor stays as it is.
     pub fn visit<R: Registers, V: RegisterVisitor<R>>(&mut self, visitor: &mut V)
         ensures { OperandsRun R.WriteGpr.eq V.steps visitor.old (operands_jnp_d32 {R = R} self.old) (operands_jnp_d32 {R = R} self.new) visitor.new }
@@ -648,9 +569,14 @@ impl RowAndOperands for jnp_d32 {
 
     ghost operands_of = { operands_jnp_d32 };
 
+    #[tactic(auto, unfolding(cax64_machine_code::specs::Rows::line_of))]
     #[inline(always)]
     fn hand_to<T: Task<Numbers, X>, X>(&self, to: &mut X) -> T::Answer {
-        T::take(jnp_d32::fold_operands(self), Row::jnp_d32, to)
+        T::take(
+            of_one(Operand::Imm(Immediate::Distance32(self.imm32.value()))),
+            Row::jnp_d32,
+            to,
+        )
     }
 
     fn visit<V: RegisterVisitor<Numbers>>(&mut self, visitor: &mut V) {
@@ -671,16 +597,6 @@ impl jl_d32 {
         jl_d32 { imm32 }
     }
 
-    /// What is made of the operands, for any family.
-    #[tactic(auto, unfolding(cax64_machine_code::specs::Rows::line_of))]
-    #[inline(always)]
-    pub fn fold_operands<R: Registers, T: FromOperands<R>>(&self) -> T
-        ensures value { result ≡ fold T.made_of_none T.made_with T.made_of_nop (operands_jl_d32 {R = R} self.now) }
-        ensures shape { HasShape {F = R.WriteXmm} row.jl_d32 (operands_jl_d32 {R = R} {A = R.ReadGpr} {B = R.ReadWriteGpr} {C = R.WriteGpr} {D = R.ReadXmm} {E = R.ReadWriteXmm} self.now) }
-    {
-        of_one(Operand::Imm(Immediate::Distance32(self.imm32.value())))
-    }
-
     /// It has no registers; the visitor stays as it is.
     pub fn visit<R: Registers, V: RegisterVisitor<R>>(&mut self, visitor: &mut V)
         ensures { OperandsRun R.WriteGpr.eq V.steps visitor.old (operands_jl_d32 {R = R} self.old) (operands_jl_d32 {R = R} self.new) visitor.new }
@@ -694,9 +610,14 @@ impl RowAndOperands for jl_d32 {
 
     ghost operands_of = { operands_jl_d32 };
 
+    #[tactic(auto, unfolding(cax64_machine_code::specs::Rows::line_of))]
     #[inline(always)]
     fn hand_to<T: Task<Numbers, X>, X>(&self, to: &mut X) -> T::Answer {
-        T::take(jl_d32::fold_operands(self), Row::jl_d32, to)
+        T::take(
+            of_one(Operand::Imm(Immediate::Distance32(self.imm32.value()))),
+            Row::jl_d32,
+            to,
+        )
     }
 
     fn visit<V: RegisterVisitor<Numbers>>(&mut self, visitor: &mut V) {
@@ -717,16 +638,6 @@ impl jge_d32 {
         jge_d32 { imm32 }
     }
 
-    /// What is made of the operands, for any family.
-    #[tactic(auto, unfolding(cax64_machine_code::specs::Rows::line_of))]
-    #[inline(always)]
-    pub fn fold_operands<R: Registers, T: FromOperands<R>>(&self) -> T
-        ensures value { result ≡ fold T.made_of_none T.made_with T.made_of_nop (operands_jge_d32 {R = R} self.now) }
-        ensures shape { HasShape {F = R.WriteXmm} row.jge_d32 (operands_jge_d32 {R = R} {A = R.ReadGpr} {B = R.ReadWriteGpr} {C = R.WriteGpr} {D = R.ReadXmm} {E = R.ReadWriteXmm} self.now) }
-    {
-        of_one(Operand::Imm(Immediate::Distance32(self.imm32.value())))
-    }
-
     /// It has no registers; the visitor stays as it is.
     pub fn visit<R: Registers, V: RegisterVisitor<R>>(&mut self, visitor: &mut V)
         ensures { OperandsRun R.WriteGpr.eq V.steps visitor.old (operands_jge_d32 {R = R} self.old) (operands_jge_d32 {R = R} self.new) visitor.new }
@@ -740,9 +651,14 @@ impl RowAndOperands for jge_d32 {
 
     ghost operands_of = { operands_jge_d32 };
 
+    #[tactic(auto, unfolding(cax64_machine_code::specs::Rows::line_of))]
     #[inline(always)]
     fn hand_to<T: Task<Numbers, X>, X>(&self, to: &mut X) -> T::Answer {
-        T::take(jge_d32::fold_operands(self), Row::jge_d32, to)
+        T::take(
+            of_one(Operand::Imm(Immediate::Distance32(self.imm32.value()))),
+            Row::jge_d32,
+            to,
+        )
     }
 
     fn visit<V: RegisterVisitor<Numbers>>(&mut self, visitor: &mut V) {
@@ -763,16 +679,6 @@ impl jle_d32 {
         jle_d32 { imm32 }
     }
 
-    /// What is made of the operands, for any family.
-    #[tactic(auto, unfolding(cax64_machine_code::specs::Rows::line_of))]
-    #[inline(always)]
-    pub fn fold_operands<R: Registers, T: FromOperands<R>>(&self) -> T
-        ensures value { result ≡ fold T.made_of_none T.made_with T.made_of_nop (operands_jle_d32 {R = R} self.now) }
-        ensures shape { HasShape {F = R.WriteXmm} row.jle_d32 (operands_jle_d32 {R = R} {A = R.ReadGpr} {B = R.ReadWriteGpr} {C = R.WriteGpr} {D = R.ReadXmm} {E = R.ReadWriteXmm} self.now) }
-    {
-        of_one(Operand::Imm(Immediate::Distance32(self.imm32.value())))
-    }
-
     /// It has no registers; the visitor stays as it is.
     pub fn visit<R: Registers, V: RegisterVisitor<R>>(&mut self, visitor: &mut V)
         ensures { OperandsRun R.WriteGpr.eq V.steps visitor.old (operands_jle_d32 {R = R} self.old) (operands_jle_d32 {R = R} self.new) visitor.new }
@@ -786,9 +692,14 @@ impl RowAndOperands for jle_d32 {
 
     ghost operands_of = { operands_jle_d32 };
 
+    #[tactic(auto, unfolding(cax64_machine_code::specs::Rows::line_of))]
     #[inline(always)]
     fn hand_to<T: Task<Numbers, X>, X>(&self, to: &mut X) -> T::Answer {
-        T::take(jle_d32::fold_operands(self), Row::jle_d32, to)
+        T::take(
+            of_one(Operand::Imm(Immediate::Distance32(self.imm32.value()))),
+            Row::jle_d32,
+            to,
+        )
     }
 
     fn visit<V: RegisterVisitor<Numbers>>(&mut self, visitor: &mut V) {
@@ -809,16 +720,6 @@ impl jg_d32 {
         jg_d32 { imm32 }
     }
 
-    /// What is made of the operands, for any family.
-    #[tactic(auto, unfolding(cax64_machine_code::specs::Rows::line_of))]
-    #[inline(always)]
-    pub fn fold_operands<R: Registers, T: FromOperands<R>>(&self) -> T
-        ensures value { result ≡ fold T.made_of_none T.made_with T.made_of_nop (operands_jg_d32 {R = R} self.now) }
-        ensures shape { HasShape {F = R.WriteXmm} row.jg_d32 (operands_jg_d32 {R = R} {A = R.ReadGpr} {B = R.ReadWriteGpr} {C = R.WriteGpr} {D = R.ReadXmm} {E = R.ReadWriteXmm} self.now) }
-    {
-        of_one(Operand::Imm(Immediate::Distance32(self.imm32.value())))
-    }
-
     /// It has no registers; the visitor stays as it is.
     pub fn visit<R: Registers, V: RegisterVisitor<R>>(&mut self, visitor: &mut V)
         ensures { OperandsRun R.WriteGpr.eq V.steps visitor.old (operands_jg_d32 {R = R} self.old) (operands_jg_d32 {R = R} self.new) visitor.new }
@@ -832,9 +733,14 @@ impl RowAndOperands for jg_d32 {
 
     ghost operands_of = { operands_jg_d32 };
 
+    #[tactic(auto, unfolding(cax64_machine_code::specs::Rows::line_of))]
     #[inline(always)]
     fn hand_to<T: Task<Numbers, X>, X>(&self, to: &mut X) -> T::Answer {
-        T::take(jg_d32::fold_operands(self), Row::jg_d32, to)
+        T::take(
+            of_one(Operand::Imm(Immediate::Distance32(self.imm32.value()))),
+            Row::jg_d32,
+            to,
+        )
     }
 
     fn visit<V: RegisterVisitor<Numbers>>(&mut self, visitor: &mut V) {

@@ -2,13 +2,11 @@
 
 ghost use Rattle.std.specs.Prelude.{◌≡◌};
 ghost use Rattle.cax64_machine_code.specs.declared.row.Row.TheVariants as row;
-ghost use Rattle.cax64_operand.specs.Fold.{fold};
-ghost use Rattle.cax64_operand.specs.Shape.{HasShape};
 ghost use Rattle.cax64_operand.specs.Visit.{OperandsRun};
 ghost use Rattle.nop.specs.Operands.{operands_nop_1b, operands_nop_2b, operands_nop_3b, operands_nop_4b, operands_nop_5b, operands_nop_6b, operands_nop_7b, operands_nop_8b, operands_nop_9b};
 
 use cax64_machine_code::row::Row;
-use cax64_operand::{FromOperands, Nop, Numbers, RegisterVisitor, RowAndOperands, Task};
+use cax64_operand::{Nop, Numbers, RegisterVisitor, RowAndOperands, Task};
 use cax64_register::Registers;
 
 /// No operation, in one byte.
@@ -18,15 +16,6 @@ pub struct nop_1b;
 impl nop_1b {
     pub fn new() -> Self {
         nop_1b
-    }
-
-    /// What is made of the operands, for any family.
-    #[inline(always)]
-    pub fn fold_operands<R: Registers, T: FromOperands<R>>(&self) -> T
-        ensures value { result ≡ fold T.made_of_none T.made_with T.made_of_nop (operands_nop_1b {R = R} self.now) }
-        ensures shape { HasShape {F = R.WriteXmm} row.nop_1b (operands_nop_1b {R = R} {A = R.ReadGpr} {B = R.ReadWriteGpr} {C = R.WriteGpr} {D = R.ReadXmm} {E = R.ReadWriteXmm} self.now) }
-    {
-        T::nop(Nop::One)
     }
 
     /// It has no registers; the visitor stays as it is.
@@ -44,7 +33,7 @@ impl RowAndOperands for nop_1b {
 
     #[inline(always)]
     fn hand_to<T: Task<Numbers, X>, X>(&self, to: &mut X) -> T::Answer {
-        T::take(nop_1b::fold_operands(self), Row::nop_1b, to)
+        T::take(T::nop(Nop::One), Row::nop_1b, to)
     }
 
     fn visit<V: RegisterVisitor<Numbers>>(&mut self, visitor: &mut V) {
@@ -59,15 +48,6 @@ pub struct nop_2b;
 impl nop_2b {
     pub fn new() -> Self {
         nop_2b
-    }
-
-    /// What is made of the operands, for any family.
-    #[inline(always)]
-    pub fn fold_operands<R: Registers, T: FromOperands<R>>(&self) -> T
-        ensures value { result ≡ fold T.made_of_none T.made_with T.made_of_nop (operands_nop_2b {R = R} self.now) }
-        ensures shape { HasShape {F = R.WriteXmm} row.nop_2b (operands_nop_2b {R = R} {A = R.ReadGpr} {B = R.ReadWriteGpr} {C = R.WriteGpr} {D = R.ReadXmm} {E = R.ReadWriteXmm} self.now) }
-    {
-        T::nop(Nop::Two)
     }
 
     /// It has no registers; the visitor stays as it is.
@@ -85,7 +65,7 @@ impl RowAndOperands for nop_2b {
 
     #[inline(always)]
     fn hand_to<T: Task<Numbers, X>, X>(&self, to: &mut X) -> T::Answer {
-        T::take(nop_2b::fold_operands(self), Row::nop_2b, to)
+        T::take(T::nop(Nop::Two), Row::nop_2b, to)
     }
 
     fn visit<V: RegisterVisitor<Numbers>>(&mut self, visitor: &mut V) {
@@ -100,15 +80,6 @@ pub struct nop_3b;
 impl nop_3b {
     pub fn new() -> Self {
         nop_3b
-    }
-
-    /// What is made of the operands, for any family.
-    #[inline(always)]
-    pub fn fold_operands<R: Registers, T: FromOperands<R>>(&self) -> T
-        ensures value { result ≡ fold T.made_of_none T.made_with T.made_of_nop (operands_nop_3b {R = R} self.now) }
-        ensures shape { HasShape {F = R.WriteXmm} row.nopl_rm (operands_nop_3b {R = R} {A = R.ReadGpr} {B = R.ReadWriteGpr} {C = R.WriteGpr} {D = R.ReadXmm} {E = R.ReadWriteXmm} self.now) }
-    {
-        T::nop(Nop::Three)
     }
 
     /// It has no registers; the visitor stays as it is.
@@ -126,7 +97,7 @@ impl RowAndOperands for nop_3b {
 
     #[inline(always)]
     fn hand_to<T: Task<Numbers, X>, X>(&self, to: &mut X) -> T::Answer {
-        T::take(nop_3b::fold_operands(self), Row::nopl_rm, to)
+        T::take(T::nop(Nop::Three), Row::nopl_rm, to)
     }
 
     fn visit<V: RegisterVisitor<Numbers>>(&mut self, visitor: &mut V) {
@@ -141,15 +112,6 @@ pub struct nop_4b;
 impl nop_4b {
     pub fn new() -> Self {
         nop_4b
-    }
-
-    /// What is made of the operands, for any family.
-    #[inline(always)]
-    pub fn fold_operands<R: Registers, T: FromOperands<R>>(&self) -> T
-        ensures value { result ≡ fold T.made_of_none T.made_with T.made_of_nop (operands_nop_4b {R = R} self.now) }
-        ensures shape { HasShape {F = R.WriteXmm} row.nopl_rm (operands_nop_4b {R = R} {A = R.ReadGpr} {B = R.ReadWriteGpr} {C = R.WriteGpr} {D = R.ReadXmm} {E = R.ReadWriteXmm} self.now) }
-    {
-        T::nop(Nop::Four)
     }
 
     /// It has no registers; the visitor stays as it is.
@@ -167,7 +129,7 @@ impl RowAndOperands for nop_4b {
 
     #[inline(always)]
     fn hand_to<T: Task<Numbers, X>, X>(&self, to: &mut X) -> T::Answer {
-        T::take(nop_4b::fold_operands(self), Row::nopl_rm, to)
+        T::take(T::nop(Nop::Four), Row::nopl_rm, to)
     }
 
     fn visit<V: RegisterVisitor<Numbers>>(&mut self, visitor: &mut V) {
@@ -182,15 +144,6 @@ pub struct nop_5b;
 impl nop_5b {
     pub fn new() -> Self {
         nop_5b
-    }
-
-    /// What is made of the operands, for any family.
-    #[inline(always)]
-    pub fn fold_operands<R: Registers, T: FromOperands<R>>(&self) -> T
-        ensures value { result ≡ fold T.made_of_none T.made_with T.made_of_nop (operands_nop_5b {R = R} self.now) }
-        ensures shape { HasShape {F = R.WriteXmm} row.nopl_rm (operands_nop_5b {R = R} {A = R.ReadGpr} {B = R.ReadWriteGpr} {C = R.WriteGpr} {D = R.ReadXmm} {E = R.ReadWriteXmm} self.now) }
-    {
-        T::nop(Nop::Five)
     }
 
     /// It has no registers; the visitor stays as it is.
@@ -208,7 +161,7 @@ impl RowAndOperands for nop_5b {
 
     #[inline(always)]
     fn hand_to<T: Task<Numbers, X>, X>(&self, to: &mut X) -> T::Answer {
-        T::take(nop_5b::fold_operands(self), Row::nopl_rm, to)
+        T::take(T::nop(Nop::Five), Row::nopl_rm, to)
     }
 
     fn visit<V: RegisterVisitor<Numbers>>(&mut self, visitor: &mut V) {
@@ -223,15 +176,6 @@ pub struct nop_6b;
 impl nop_6b {
     pub fn new() -> Self {
         nop_6b
-    }
-
-    /// What is made of the operands, for any family.
-    #[inline(always)]
-    pub fn fold_operands<R: Registers, T: FromOperands<R>>(&self) -> T
-        ensures value { result ≡ fold T.made_of_none T.made_with T.made_of_nop (operands_nop_6b {R = R} self.now) }
-        ensures shape { HasShape {F = R.WriteXmm} row.nopw_rm (operands_nop_6b {R = R} {A = R.ReadGpr} {B = R.ReadWriteGpr} {C = R.WriteGpr} {D = R.ReadXmm} {E = R.ReadWriteXmm} self.now) }
-    {
-        T::nop(Nop::Six)
     }
 
     /// It has no registers; the visitor stays as it is.
@@ -249,7 +193,7 @@ impl RowAndOperands for nop_6b {
 
     #[inline(always)]
     fn hand_to<T: Task<Numbers, X>, X>(&self, to: &mut X) -> T::Answer {
-        T::take(nop_6b::fold_operands(self), Row::nopw_rm, to)
+        T::take(T::nop(Nop::Six), Row::nopw_rm, to)
     }
 
     fn visit<V: RegisterVisitor<Numbers>>(&mut self, visitor: &mut V) {
@@ -264,15 +208,6 @@ pub struct nop_7b;
 impl nop_7b {
     pub fn new() -> Self {
         nop_7b
-    }
-
-    /// What is made of the operands, for any family.
-    #[inline(always)]
-    pub fn fold_operands<R: Registers, T: FromOperands<R>>(&self) -> T
-        ensures value { result ≡ fold T.made_of_none T.made_with T.made_of_nop (operands_nop_7b {R = R} self.now) }
-        ensures shape { HasShape {F = R.WriteXmm} row.nopl_rm (operands_nop_7b {R = R} {A = R.ReadGpr} {B = R.ReadWriteGpr} {C = R.WriteGpr} {D = R.ReadXmm} {E = R.ReadWriteXmm} self.now) }
-    {
-        T::nop(Nop::Seven)
     }
 
     /// It has no registers; the visitor stays as it is.
@@ -290,7 +225,7 @@ impl RowAndOperands for nop_7b {
 
     #[inline(always)]
     fn hand_to<T: Task<Numbers, X>, X>(&self, to: &mut X) -> T::Answer {
-        T::take(nop_7b::fold_operands(self), Row::nopl_rm, to)
+        T::take(T::nop(Nop::Seven), Row::nopl_rm, to)
     }
 
     fn visit<V: RegisterVisitor<Numbers>>(&mut self, visitor: &mut V) {
@@ -305,15 +240,6 @@ pub struct nop_8b;
 impl nop_8b {
     pub fn new() -> Self {
         nop_8b
-    }
-
-    /// What is made of the operands, for any family.
-    #[inline(always)]
-    pub fn fold_operands<R: Registers, T: FromOperands<R>>(&self) -> T
-        ensures value { result ≡ fold T.made_of_none T.made_with T.made_of_nop (operands_nop_8b {R = R} self.now) }
-        ensures shape { HasShape {F = R.WriteXmm} row.nopl_rm (operands_nop_8b {R = R} {A = R.ReadGpr} {B = R.ReadWriteGpr} {C = R.WriteGpr} {D = R.ReadXmm} {E = R.ReadWriteXmm} self.now) }
-    {
-        T::nop(Nop::Eight)
     }
 
     /// It has no registers; the visitor stays as it is.
@@ -331,7 +257,7 @@ impl RowAndOperands for nop_8b {
 
     #[inline(always)]
     fn hand_to<T: Task<Numbers, X>, X>(&self, to: &mut X) -> T::Answer {
-        T::take(nop_8b::fold_operands(self), Row::nopl_rm, to)
+        T::take(T::nop(Nop::Eight), Row::nopl_rm, to)
     }
 
     fn visit<V: RegisterVisitor<Numbers>>(&mut self, visitor: &mut V) {
@@ -346,15 +272,6 @@ pub struct nop_9b;
 impl nop_9b {
     pub fn new() -> Self {
         nop_9b
-    }
-
-    /// What is made of the operands, for any family.
-    #[inline(always)]
-    pub fn fold_operands<R: Registers, T: FromOperands<R>>(&self) -> T
-        ensures value { result ≡ fold T.made_of_none T.made_with T.made_of_nop (operands_nop_9b {R = R} self.now) }
-        ensures shape { HasShape {F = R.WriteXmm} row.nopw_rm (operands_nop_9b {R = R} {A = R.ReadGpr} {B = R.ReadWriteGpr} {C = R.WriteGpr} {D = R.ReadXmm} {E = R.ReadWriteXmm} self.now) }
-    {
-        T::nop(Nop::Nine)
     }
 
     /// It has no registers; the visitor stays as it is.
@@ -372,7 +289,7 @@ impl RowAndOperands for nop_9b {
 
     #[inline(always)]
     fn hand_to<T: Task<Numbers, X>, X>(&self, to: &mut X) -> T::Answer {
-        T::take(nop_9b::fold_operands(self), Row::nopw_rm, to)
+        T::take(T::nop(Nop::Nine), Row::nopw_rm, to)
     }
 
     fn visit<V: RegisterVisitor<Numbers>>(&mut self, visitor: &mut V) {
