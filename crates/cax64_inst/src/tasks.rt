@@ -7,6 +7,7 @@ ghost use Rattle.cax64_inst.specs.Shaped.{Shaped};
 ghost use Rattle.cax64_operand.specs.Fold.{fold};
 ghost use Rattle.cax64_operand.specs.NopRow.{nop_row};
 ghost use Rattle.cax64_operand.specs.Shape.{HasShape};
+ghost use Rattle.cax64_operand.specs.declared.immediate.Immediate.TheVariants as immediate;
 ghost use Rattle.cax64_operand.specs.declared.operand.Operand.TheVariants as operand;
 ghost use Rattle.cax64_operand.specs.declared.operand.Operands.TheVariants as operands;
 
@@ -45,10 +46,40 @@ fn give_nop<Kind, R: Registers, T: Task<R, X>, X>(nop: Nop, row: Row, to: &mut X
     T::take(T::nop(nop), row, to)
 }
 
-/// Hands on a jump or a call by a distance, in a function of its own for each kind too.
+/// Hands on a jump by a distance of one byte, in a function of its own for each kind too.
 #[tactic(auto, unfolding(crate::specs::Shaped::Shaped))]
 #[inline(never)]
-fn give_distance<Kind, R: Registers, T: Task<R, X>, X>(
+fn give_short<Kind, R: Registers, T: Task<R, X>, X>(distance: i8, row: Row, to: &mut X) -> T::Answer
+    requires shape { HasShape {R = R} {A = R.ReadGpr} {B = R.ReadWriteGpr} {C = R.WriteGpr} {D = R.ReadXmm} {E = R.ReadWriteXmm} {F = R.WriteXmm} row (operands.One (operand.Imm (immediate.Distance8 distance))) }
+    requires asks { Shaped {R = R} {A = R.ReadGpr} {B = R.ReadWriteGpr} {C = R.WriteGpr} {D = R.ReadXmm} {E = R.ReadWriteXmm} {F = R.WriteXmm} row (operands.One (operand.Imm (immediate.Distance8 distance))) → T.asks row (fold T.made_of_none T.made_with T.made_of_nop (operands.One (operand.Imm (immediate.Distance8 distance)))) to.old }
+    ensures answers { T.answers row (fold T.made_of_none T.made_with T.made_of_nop (operands.One (operand.Imm (immediate.Distance8 distance)))) to.old to.new result }
+{
+    T::take(
+        of_one(Operand::Imm(Immediate::Distance8(distance))),
+        row,
+        to,
+    )
+}
+
+/// Hands on a jump or a call by a distance of four bytes, in a function of its own for each kind too.
+#[tactic(auto, unfolding(crate::specs::Shaped::Shaped))]
+#[inline(never)]
+fn give_near<Kind, R: Registers, T: Task<R, X>, X>(distance: i32, row: Row, to: &mut X) -> T::Answer
+    requires shape { HasShape {R = R} {A = R.ReadGpr} {B = R.ReadWriteGpr} {C = R.WriteGpr} {D = R.ReadXmm} {E = R.ReadWriteXmm} {F = R.WriteXmm} row (operands.One (operand.Imm (immediate.Distance32 distance))) }
+    requires asks { Shaped {R = R} {A = R.ReadGpr} {B = R.ReadWriteGpr} {C = R.WriteGpr} {D = R.ReadXmm} {E = R.ReadWriteXmm} {F = R.WriteXmm} row (operands.One (operand.Imm (immediate.Distance32 distance))) → T.asks row (fold T.made_of_none T.made_with T.made_of_nop (operands.One (operand.Imm (immediate.Distance32 distance)))) to.old }
+    ensures answers { T.answers row (fold T.made_of_none T.made_with T.made_of_nop (operands.One (operand.Imm (immediate.Distance32 distance)))) to.old to.new result }
+{
+    T::take(
+        of_one(Operand::Imm(Immediate::Distance32(distance))),
+        row,
+        to,
+    )
+}
+
+/// Hands on an instruction whose operand is an immediate.
+#[tactic(auto, unfolding(crate::specs::Shaped::Shaped))]
+#[inline(never)]
+fn give_immediate<R: Registers, T: Task<R, X>, X>(
     distance: Immediate,
     row: Row,
     to: &mut X,
@@ -58,6 +89,25 @@ fn give_distance<Kind, R: Registers, T: Task<R, X>, X>(
     ensures answers { T.answers row (fold T.made_of_none T.made_with T.made_of_nop (operands.One (operand.Imm distance))) to.old to.new result }
 {
     T::take(of_one(Operand::Imm(distance)), row, to)
+}
+
+/// Hands on a jump or a call by a distance. The compiler sees here of how many bytes it is.
+#[tactic(auto, unfolding(crate::specs::Shaped::Shaped))]
+#[inline(always)]
+fn give_distance<Kind, R: Registers, T: Task<R, X>, X>(
+    distance: Immediate,
+    row: Row,
+    to: &mut X,
+) -> T::Answer
+    requires shape { HasShape {R = R} {A = R.ReadGpr} {B = R.ReadWriteGpr} {C = R.WriteGpr} {D = R.ReadXmm} {E = R.ReadWriteXmm} {F = R.WriteXmm} row (operands.One (operand.Imm distance)) }
+    requires asks { Shaped {R = R} {A = R.ReadGpr} {B = R.ReadWriteGpr} {C = R.WriteGpr} {D = R.ReadXmm} {E = R.ReadWriteXmm} {F = R.WriteXmm} row (operands.One (operand.Imm distance)) → T.asks row (fold T.made_of_none T.made_with T.made_of_nop (operands.One (operand.Imm distance))) to.old }
+    ensures answers { T.answers row (fold T.made_of_none T.made_with T.made_of_nop (operands.One (operand.Imm distance))) to.old to.new result }
+{
+    match distance {
+        Immediate::Distance8(distance) => give_short::<Kind, R, T, X>(distance, row, to),
+        Immediate::Distance32(distance) => give_near::<Kind, R, T, X>(distance, row, to),
+        other => give_immediate::<R, T, X>(other, row, to),
+    }
 }
 
 impl<R: Registers> Inst<R> {

@@ -24,6 +24,7 @@ pub(crate) fn answer_patched(fields: &mut Fields<'_>, came: &mut String) -> Resu
 }
 
 /// The buffer that an instruction is pushed to.
+#[derive(Drop)]
 struct Pushed<'a>(&'a mut CodeBuffer<Global>);
 
 impl TakesInstruction for Pushed<'_> {

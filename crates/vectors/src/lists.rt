@@ -78,6 +78,7 @@ fn write_whole<I: Instruction>(
 }
 
 /// A sink that knows these offsets and refuses at some limit, and what came of a list in it.
+#[derive(Drop)]
 struct Refusing<'a> {
     alloc: Global,
     offsets: &'a str,

@@ -62,9 +62,10 @@ fn time_list<I: RowAndOperands>(rt: &HostRuntime, insts: &[I]) -> io::Result<Exi
 }
 
 /// The program, which times what is in a list.
-struct Timing<'a>(&'a HostRuntime);
+#[derive(Drop)]
+struct Timed<'a>(&'a HostRuntime);
 
-impl TakesList for Timing<'_> {
+impl TakesList for Timed<'_> {
     type Answer = io::Result<ExitCode>;
 
     fn take<I: RowAndOperands<Family = Numbers> + Drop>(
@@ -92,7 +93,7 @@ fn main(rt: HostRuntime) -> io::Result<ExitCode> {
     };
     let text = text.as_str();
     let lines = text.strip_suffix('\n').unwrap_or(text);
-    match take_list(rt.alloc(), lines, FORM, &mut Timing(&rt)) {
+    match take_list(rt.alloc(), lines, FORM, &mut Timed(&rt)) {
         Ok(ended) => ended,
         Err(refusal) => refuse(&rt, refusal),
     }
