@@ -29,6 +29,7 @@ pub fn all_encodable<I: Instruction, S: CodeSink>(insts: &[I], sink: &S) -> bool
 /// Puts instructions of one type one behind the other, and tells the sink of their traps and targets.
 ///
 /// A refusal says how many instructions are whole.
+#[inline(never)]
 pub fn encode_each<I: Instruction, S: CodeSink>(insts: &[I], sink: &mut S) -> Result<(), Refused>
     requires { All (λ i. IsTrue (can_encode_in (S.state sink.old) (I.meant i))) insts.now }
     ensures adds { OnOk result (AddsList I.meant insts.now (S.state sink.old) (S.state sink.new)) }

@@ -26,7 +26,8 @@ fn push_one<A: Allocator>(vec: &mut Vec<u8, A>, value: u8) -> Result<(), SinkErr
     vec.push(value).map_err(|_| SinkError::NoMemory)
 }
 
-/// Puts some bytes, one at a time.
+/// Puts some bytes, one at a time. Seldom run, it stays out of the code of each instruction.
+#[inline(never)]
 fn push_each<A: Allocator>(vec: &mut Vec<u8, A>, bytes: &[u8]) -> Result<(), SinkError>
     ensures { Ran (puts bytes.now) (vec_state vec.old) (vec_state vec.new) result }
 {
@@ -58,8 +59,9 @@ fn append_imm<A: Allocator>(vec: &mut Vec<u8, A>, imm: u32, len: u8) -> Result<(
     append(vec, &imm.to_le_bytes()[..usize::from(len)])
 }
 
-/// Puts what stands at the end of an instruction, each part by itself.
+/// Puts what stands at the end of an instruction, each part by itself. It's seldom run too.
 #[tactic(auto, using(crate::proofs::Runs::ran_append, crate::proofs::Runs::ran_refused))]
+#[inline(never)]
 fn append_rest<A: Allocator>(
     vec: &mut Vec<u8, A>,
     long: Option<u32>,
