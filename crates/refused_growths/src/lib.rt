@@ -1,5 +1,6 @@
 //! Where memory runs out, or a writer refuses: each growth is refused in turn, a larger heap each time, until all is made;
-//! and what stands after a refusal is a beginning.
+//! and what stands after a refusal is a beginning. Beside them the README's example: a crate that holds an `Inst` costs the
+//! prover much, and this one does.
 #![tactic(auto)]
 
 #[cfg(test)]
@@ -10,6 +11,8 @@ mod lists;
 mod program;
 #[cfg(test)]
 mod puts;
+#[cfg(test)]
+mod readme;
 #[cfg(test)]
 mod texts;
 #[cfg(test)]

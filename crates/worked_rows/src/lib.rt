@@ -1,5 +1,5 @@
-//! What has to be Rust of the worked rows: the example, calls that need a type of their own, and each generic function at
-//! a concrete type. The rows themselves are lines of the files that `vectors` reads.
+//! What has to be Rust of the worked rows: calls that need a type of their own, and each generic function at a concrete
+//! type. The rows themselves are lines of the files that `vectors` reads.
 #![tactic(auto)]
 
 #[cfg(test)]
@@ -12,8 +12,6 @@ mod fixed_sinks;
 mod messages;
 #[cfg(test)]
 mod patched;
-#[cfg(test)]
-mod readme;
 #[cfg(test)]
 mod registers;
 #[cfg(test)]
