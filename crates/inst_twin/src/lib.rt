@@ -6,7 +6,6 @@
 ghost use Rattle.std.specs.Prelude.{◌≡◌};
 ghost use Rattle.cax64_operand.specs.Fold.{fold};
 ghost use Rattle.cax64_operand.specs.NopRow.{nop_row};
-ghost use Rattle.cax64_operand.specs.Shape.{HasShape};
 ghost use Rattle.cax64_operand.specs.declared.operand.Operands.TheVariants as operands;
 ghost use Rattle.inst_twin.specs.Shaped.{Shaped};
 ghost use Rattle.inst_twin.specs.Twin.{row_of, operands_of};
@@ -15,7 +14,7 @@ mod mulx;
 
 pub use crate::mulx::mulxl_twin;
 use cax64_machine_code::row::Row;
-use cax64_operand::{FromOperands, Nop, RegisterVisitor, RowAndOperands, Task};
+use cax64_operand::{Nop, RegisterVisitor, RowAndOperands, Task};
 use cax64_register::Registers;
 use nop::nop_1b;
 

@@ -1,6 +1,6 @@
 //! A struct of the kind of `mulxl_rvm`, whose fields are of one type and so are easily exchanged.
 
-ghost use Rattle.std.specs.Prelude.{◌≡◌, None};
+ghost use Rattle.std.specs.Prelude.{None};
 ghost use Rattle.cax64_machine_code.specs.declared.row.Row.TheVariants as row;
 ghost use Rattle.cax64_operand.specs.declared.operand.Operand.TheVariants.{FixedReadGpr, ReadGprMem, WriteTwoGprs};
 ghost use Rattle.cax64_operand.specs.declared.operand.Operands.{Operands};

@@ -1,6 +1,5 @@
 //! Instructions that do nothing. (Intel SDM, volume 2, `NOP`, table 4-12.)
 
-ghost use Rattle.std.specs.Prelude.{◌≡◌};
 ghost use Rattle.cax64_machine_code.specs.declared.row.Row.TheVariants as row;
 ghost use Rattle.cax64_operand.specs.Visit.{OperandsRun};
 ghost use Rattle.nop.specs.Operands.{operands_nop_1b, operands_nop_2b, operands_nop_3b, operands_nop_4b, operands_nop_5b, operands_nop_6b, operands_nop_7b, operands_nop_8b, operands_nop_9b};
