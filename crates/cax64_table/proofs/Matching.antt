@@ -12,13 +12,7 @@ use Rattle.cax64_machine_code.specs.declared.row.Row.TheVariants.{lock_addb_mi}
 use Rattle.cax64_machine_code.proofs.Matched.{row_found}
 use Rattle.cax64_machine_code.proofs.Uniqueness.{behind, some_if}
 use Rattle.cax64_table.specs.Cursor.{next_byte}
-use Rattle.cax64_machine_code.specs.Fields.{reg_of}
-use Rattle.cax64_machine_code.specs.declared.line.TailField.{TailField}
-use Rattle.cax64_machine_code.specs.declared.line.TailField.TheVariants.{NoTail, Modrm}
-use Rattle.cax64_machine_code.specs.declared.line.RegField.TheVariants.{Digit, Register8, Register}
-use Rattle.cax64_table.specs.Key.{HasKey}
 use Rattle.cax64_table.specs.Matching.{front_opcode, fits, escaped_opcode, plain_opcode}
-use Rattle.cax64_table.specs.Digit.{digit_of}
 
 equal : (a b : ℕ) → (a == b) ≡ true → a ≡ b
 equal a b h = grind (arith, nat_tests)
@@ -136,34 +130,3 @@ no_row p o bytes rest h unfit = none_found p bytes all_rows
     let yes : fits p rest row ≡ true = rw ends at f.fitting in
     let n : fits p rest row ≡ false = unfit row same in
     no_both (fits p rest row) yes n)
-
--- a row that fits has no digit, or that of the next byte
-
-not_true : (t : Bool) → (t ≡ true → ⊥) → t ≡ false
-not_true true h = absurd (h refl)
-not_true false h = refl
-
-digit_read : (t : TailField) (rest more : List ℕ) (modrm : ℕ) → next_byte rest ≡ Some (modrm, more) → digit_matches t rest ≡ true → (digit_of t ≡ None) ⊎ (digit_of t ≡ Some (reg_of modrm))
-digit_read t [] more modrm e h = cc
-digit_read NoTail (byte ∷ rest) more modrm e h = inl refl
-digit_read (Modrm Register8 place) (byte ∷ rest) more modrm e h = inl refl
-digit_read (Modrm Register place) (byte ∷ rest) more modrm e h = inl refl
-digit_read (Modrm (Digit d) place) (byte ∷ rest) more modrm e h =
-    let p = parts_same byte modrm rest more e in
-    inr (ap Some (sym (equal (reg_of byte) d h) ∙ ap reg_of p.0))
-
-no_digit : (t : TailField) (rest : List ℕ) → next_byte rest ≡ None → digit_matches t rest ≡ true → digit_of t ≡ None
-no_digit NoTail rest e h = refl
-no_digit (Modrm reg place) [] e h = cc
-no_digit (Modrm reg place) (byte ∷ rest) e h = cc
-
-pub unfit_of_digit : (p : Prefix) (o : Opcode) (rest more : List ℕ) (modrm : ℕ) → next_byte rest ≡ Some (modrm, more) → ((row : Row) → HasKey o None row → fits p rest row ≡ false) → ((row : Row) → HasKey o (Some (reg_of modrm)) row → fits p rest row ≡ false) → (row : Row) → (line_of row).opcode ≡ o → fits p rest row ≡ false
-unfit_of_digit p o rest more modrm e without behind row h = not_true (fits p rest row)
-    (λ f. elim (digit_read (line_of row).tail rest more modrm e (and_parts (prefix_matches (line_of row) p) _ f).1) as (λ _. ⊥) [
-      | inl n ↦ no_both _ f (without row (record { opcode_is = h; digit_is = n }))
-      | inr n ↦ no_both _ f (behind row (record { opcode_is = h; digit_is = n }))
-    ])
-
-pub unfit_at_end : (p : Prefix) (o : Opcode) (rest : List ℕ) → next_byte rest ≡ None → ((row : Row) → HasKey o None row → fits p rest row ≡ false) → (row : Row) → (line_of row).opcode ≡ o → fits p rest row ≡ false
-unfit_at_end p o rest e without row h = not_true (fits p rest row)
-    (λ f. let n = no_digit (line_of row).tail rest e (and_parts (prefix_matches (line_of row) p) _ f).1 in no_both _ f (without row (record { opcode_is = h; digit_is = n })))

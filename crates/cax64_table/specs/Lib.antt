@@ -5,5 +5,6 @@ pub mod Digit
 pub mod Numbers
 -- Steps of the proofs.
 pub mod Packed
-pub mod Key
+pub mod Slot
+pub mod PrefixNumbers
 pub mod Matching

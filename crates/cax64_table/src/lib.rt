@@ -2,6 +2,7 @@
 #![tactic(auto)]
 
 pub mod cursor;
+mod index;
 pub mod laws;
 pub mod lookup;
 pub mod numbers;

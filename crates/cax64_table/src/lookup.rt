@@ -1,20 +1,20 @@
 //! Which row some bytes match.
 
-ghost use Rattle.std.specs.Prelude.{◌≡◌, ◌<◌, option_map, IfSome, IfNone, true, false};
-ghost use Rattle.std.specs.Option.{ForSome};
+ghost use Rattle.std.specs.Prelude.{◌≡◌, option_map, IfSome, IfNone, true, false};
 ghost use Rattle.cax64_machine_code.specs.Line.{digit_matches};
 ghost use Rattle.cax64_machine_code.specs.Reading.{row_at};
 ghost use Rattle.cax64_machine_code.specs.Rows.{line_of, all_rows};
 ghost use Rattle.cax64_machine_code.specs.declared.row.Row.{Row};
 ghost use Rattle.cax64_table.specs.Cursor.{behind};
-ghost use Rattle.cax64_table.specs.Key.{HasKey};
-ghost use Rattle.cax64_table.specs.Matching.{front_opcode, fits};
+ghost use Rattle.cax64_table.specs.Matching.{front_opcode, fits, is_opcode, is_wanted};
+ghost use Rattle.cax64_table.specs.Packed.{opcode_field, tail_field};
 ghost use Rattle.cax64_table.specs.Prefix.{prefix_of};
 
 use crate::cursor::next;
-use crate::packed::{line, rows_of};
-use crate::prefix::Prefix;
-use cax64_machine_code::line::{Opcode, RegField, TailField};
+use crate::index::rows_for;
+use crate::packed::{bits, entry, flag};
+use crate::prefix::{Prefix, PrefixNumbers};
+use cax64_machine_code::line::Opcode;
 use cax64_machine_code::row::Row;
 
 /// The opcode at the front, and what follows it. No row has the opcode 0F alone.
@@ -42,47 +42,56 @@ fn opcode_at(bytes: &[u8]) -> Option<(Opcode, &[u8])>
 }
 
 /// The next byte has the digit that a row asks for.
-fn digit_fits(tail: &TailField, rest: &[u8]) -> bool
-    ensures { result ≡ digit_matches tail.now rest.now }
+#[inline(always)]
+fn digit_fits(packed: u64, rest: &[u8]) -> bool
+    ensures { result ≡ digit_matches (tail_field packed) rest.now }
 {
-    match (tail, rest.first()) {
-        (TailField::NoTail, _) => true,
-        (TailField::Modrm(_, _), None) => false,
-        (TailField::Modrm(RegField::Digit(digit), _), Some(modrm)) => *modrm / 8 % 8 == *digit,
-        (TailField::Modrm(_, _), Some(_)) => true,
+    let kind = bits(packed, 15, 2);
+    if kind == 0 {
+        return true;
+    }
+    match rest.first() {
+        None => false,
+        Some(modrm) => kind != 1 || *modrm / 8 % 8 == bits(packed, 17, 4),
     }
 }
 
-/// The prefix and what follows the opcode are those of a row.
-fn row_fits(prefix: &Prefix, rest: &[u8], row: Row) -> bool
-    ensures { result ≡ fits (prefix_of prefix.now) rest.now row }
+/// A row has this opcode.
+#[inline(always)]
+fn opcode_fits(packed: u64, opcode: Opcode) -> bool
+    ensures { result ≡ is_opcode opcode (opcode_field packed) }
 {
-    let line = line(row);
-    prefix.fits(&line) && digit_fits(&line.tail, rest)
+    flag(packed, 29) == opcode.escape && bits(packed, 21, 8) == opcode.byte
 }
 
-/// The row of this opcode and digit that fits.
-fn row_with(prefix: &Prefix, opcode: Opcode, digit: Option<u8>, rest: &[u8]) -> Option<Row>
-    requires { ForSome digit (λ d. d < 8) }
-    ensures found { IfSome result (λ row. ((line_of row).opcode ≡ opcode) × (fits (prefix_of prefix.now) rest.now row ≡ true)) }
-    ensures absent { IfNone result ((row : Row) → HasKey opcode digit row → fits (prefix_of prefix.now) rest.now row ≡ false) }
+/// A row has this opcode, and the prefix and what follows the opcode are those that it asks for.
+#[inline(always)]
+fn row_fits(numbers: PrefixNumbers, opcode: Opcode, rest: &[u8], row: Row) -> bool
+    ensures { result ≡ is_wanted numbers opcode rest.now row }
 {
-    rows_of(opcode, digit)
-        .iter()
-        .copied()
-        .find(|row| row_fits(prefix, rest, *row))
+    let packed = entry(row);
+    opcode_fits(packed, opcode) && numbers.fit(packed) && digit_fits(packed, rest)
 }
 
 /// The row of this opcode that fits.
+#[inline(always)]
+fn row_with(numbers: PrefixNumbers, opcode: Opcode, rest: &[u8]) -> Option<Row>
+    ensures found { IfSome result (λ row. is_wanted numbers opcode rest.now row ≡ true) }
+    ensures absent { IfNone result ((row : Row) → (line_of row).opcode ≡ opcode → digit_matches (line_of row).tail rest.now ≡ true → is_wanted numbers opcode rest.now row ≡ false) }
+{
+    rows_for(opcode, rest)
+        .iter()
+        .copied()
+        .find(|row| row_fits(numbers, opcode, rest, *row))
+}
+
+/// The row of this opcode that fits.
+#[inline(always)]
 fn row_of(prefix: &Prefix, opcode: Opcode, rest: &[u8]) -> Option<Row>
     ensures found { IfSome result (λ row. ((line_of row).opcode ≡ opcode) × (fits (prefix_of prefix.now) rest.now row ≡ true)) }
     ensures absent { IfNone result ((row : Row) → (line_of row).opcode ≡ opcode → fits (prefix_of prefix.now) rest.now row ≡ false) }
 {
-    if let Some(row) = row_with(prefix, opcode, None, rest) {
-        return Some(row);
-    }
-    let (modrm, _) = next(rest)?;
-    row_with(prefix, opcode, Some(modrm / 8 % 8), rest)
+    row_with(prefix.numbers(), opcode, rest)
 }
 
 /// The row that a prefix and the bytes behind it match, and what follows its opcode.

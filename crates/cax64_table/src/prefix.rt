@@ -2,11 +2,12 @@
 
 ghost use Rattle.std.specs.Prelude.{◌≡◌};
 ghost use Rattle.std.specs.Int.{from_bool};
-ghost use Rattle.cax64_machine_code.specs.Line.{same_legacy, w_matches, vvvv_matches, field_matches, prefix_matches};
 ghost use Rattle.cax64_machine_code.specs.Prefix.{w_of, r_of, x_of, b_of, vvvv_of, has_rex};
 ghost use Rattle.cax64_table.specs.Prefix.{prefix_of};
+ghost use Rattle.cax64_table.specs.PrefixNumbers.{map_number, numbers_fit, numbers_of, set_number};
 
-use cax64_machine_code::line::{LegacySet, Line, PrefixField, VvvvField};
+use crate::packed::{bits, flag};
+use cax64_machine_code::line::LegacySet;
 
 /// The bits of a REX byte.
 #[derive(Clone, Copy, Debug)]
@@ -37,27 +38,53 @@ pub enum Prefix {
     VexPrefix(Vex),
 }
 
-fn is_same(p: &LegacySet, q: &LegacySet) -> bool
-    ensures { result ≡ same_legacy p.now q.now }
-{
-    p.lock == q.lock && p.operand_size == q.operand_size && p.repne == q.repne && p.rep == q.rep
+/// A prefix as the numbers that are compared with a row's.
+#[derive(Clone, Copy)]
+pub(crate) struct PrefixNumbers {
+    /// The legacy prefixes F0, 66, F2 and F3 from bit 1 up, or 1 and above it pp and map; 32 where no row has this.
+    pub low: u8,
+    /// L, or 1 where a REX byte stands, and whether it counts.
+    pub high: u8,
+    pub has_high: bool,
+    pub w: u8,
+    /// Whether vvvv may be stored as 1111.
+    pub is_free: bool,
 }
 
-fn vvvv_fits(field: &VvvvField, vvvv: u8) -> bool
-    ensures { result ≡ vvvv_matches field.now vvvv }
-{
-    match field {
-        VvvvField::VvvvRegister => true,
-        VvvvField::Stored1111 => vvvv == 0,
+impl PrefixNumbers {
+    /// The numbers are those of a packed row.
+    #[inline(always)]
+    pub(crate) fn fit(self, packed: u64) -> bool
+        ensures { result ≡ numbers_fit self packed }
+    {
+        let w = bits(packed, 4, 2);
+        bits(packed, 6, 5) == self.low
+            && (!self.has_high || bits(packed, 11, 1) == self.high)
+            && (self.is_free || flag(packed, 12))
+            && (w == 2 || w == self.w)
     }
 }
 
-fn w_fits(w: Option<u8>, found: bool) -> bool
-    ensures { result ≡ w_matches w (from_bool found) }
+/// The set of legacy prefixes as a number.
+#[inline(always)]
+fn set_number(set: &LegacySet) -> u8
+    ensures { result ≡ set_number set.now }
 {
-    match w {
-        None => true,
-        Some(only) => only == u8::from(found),
+    2 * u8::from(set.lock)
+        + 4 * u8::from(set.operand_size)
+        + 8 * u8::from(set.repne)
+        + 16 * u8::from(set.rep)
+}
+
+/// The fields pp and map of VEX as a number.
+#[inline(always)]
+fn map_number(vex: &Vex) -> u8
+    ensures { result ≡ map_number vex.now.pp vex.now.map }
+{
+    if vex.pp < 4 && vex.map < 4 {
+        1 + 2 * vex.pp + 8 * vex.map
+    } else {
+        32
     }
 }
 
@@ -117,25 +144,26 @@ impl Prefix {
         }
     }
 
-    /// The set of legacy prefixes or the VEX fields are those of the row.
-    fn fits_field(&self, field: &PrefixField) -> bool
-        ensures { result ≡ field_matches field.now (prefix_of self.now) }
+    /// What is compared with a row.
+    #[inline(always)]
+    pub(crate) fn numbers(&self) -> PrefixNumbers
+        ensures { result ≡ numbers_of (prefix_of self.now) }
     {
-        match (self, field) {
-            (Prefix::LegacyPrefix(found, rex), PrefixField::LegacyField(set, may_have_rex)) => {
-                is_same(set, found) && (*may_have_rex || rex.is_none())
-            }
-            (Prefix::VexPrefix(vex), PrefixField::VexField(pp, map, l, vvvv)) => {
-                vex.pp == *pp && vex.map == *map && vex.l == *l && vvvv_fits(vvvv, vex.vvvv)
-            }
-            _ => false,
+        match self {
+            Prefix::LegacyPrefix(set, rex) => PrefixNumbers {
+                low: set_number(set),
+                high: 1,
+                has_high: rex.is_some(),
+                w: u8::from(self.w()),
+                is_free: true,
+            },
+            Prefix::VexPrefix(vex) => PrefixNumbers {
+                low: map_number(vex),
+                high: vex.l,
+                has_high: true,
+                w: u8::from(vex.w),
+                is_free: vex.vvvv == 0,
+            },
         }
-    }
-
-    /// A row asks for this prefix.
-    pub(crate) fn fits(&self, line: &Line) -> bool
-        ensures { result ≡ prefix_matches line.now (prefix_of self.now) }
-    {
-        self.fits_field(&line.prefix) && w_fits(line.w, self.w())
     }
 }

@@ -1,0 +1,19 @@
+use Rattle.std.specs.Prelude.{ℕ, ◌+◌, ◌-◌, Bool, nat_lt, if◌then◌else◌, List, [], ◌∷◌, slice_index}
+use Rattle.cax64_machine_code.specs.Fields.{reg_of}
+use Rattle.cax64_machine_code.specs.declared.line.Opcode.{Opcode}
+use Rattle.cax64_table.specs.declared.index.TheConstants.{SLOTS}
+
+-- A row is looked up by a slot for its opcode and digit.
+
+-- what the table holds for an opcode
+abbrev pub entry_for : Opcode → ℕ
+entry_for opcode = slice_index SLOTS (opcode.byte + (if opcode.escape then 256 else 0))
+
+-- the slot of an entry, and of a digit where the entry has one for each
+abbrev pub slot_with : ℕ → ℕ → ℕ
+slot_with entry digit = if nat_lt entry 128 then entry else (entry - 128 + digit)
+
+-- the slot of an opcode, where these bytes follow it
+abbrev pub slot_of : Opcode → List ℕ → ℕ
+slot_of opcode [] = if nat_lt (entry_for opcode) 128 then entry_for opcode else 0
+slot_of opcode (modrm ∷ bytes) = slot_with (entry_for opcode) (reg_of modrm)
