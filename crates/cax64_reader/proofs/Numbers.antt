@@ -1,4 +1,4 @@
-use Rattle.std.proofs.Common.{◌≡◌, ◌≢◌, ℕ, zero, suc, ◌+◌, ◌-◌, ◌*◌, ◌^◌, ◌<◌, ◌≤◌, arith, List, [], ◌∷◌, refl, ap, sym, ◌∙◌, Option, Some, None, Fits, w8, slice_index, ℤ, pos, ◌*ℤ◌}
+use Rattle.std.proofs.Common.{◌≡◌, ◌≢◌, ℕ, zero, suc, ◌+◌, ◌-◌, ◌*◌, ◌^◌, ◌<◌, ◌≤◌, arith, List, [], ◌∷◌, refl, ap, sym, ◌∙◌, Option, Some, None, Fits, w8, slice_index, take, drop, length, ℤ, pos, ◌*ℤ◌}
 use Rattle.std.proofs.lemmas.Int.{ints, to_z-of_z}
 use Rattle.std.specs.Int.{cast_signed, cast_unsigned, w32}
 use Rattle.std.specs.Int.RustNames.{FitsSigned}
@@ -76,3 +76,46 @@ widened n z w h e f =
     let first : z ≡ s8 n = e ∙ byte_signed n h in
     let second : w ≡ s8 n = f ∙ ap (λ y. cast_signed w8 (cast_unsigned w8 y)) first ∙ to_z-of_z w8 (s8 n) (byte_fits n h) in
     ap (λ y. cast_signed w32 (cast_unsigned w32 y)) second ∙ to_z-of_z w32 (s8 n) (byte_fits_wide n h) ∙ sym (times_one (s8 n))
+
+-- a number in two and in four bytes, of which all are there or not
+
+all_taken : (bytes : List ℕ) → take (length bytes) bytes ≡ bytes
+all_taken [] = refl
+all_taken (byte ∷ bytes) = ap (λ z. byte ∷ z) (all_taken bytes)
+
+two_less : (n : ℕ) → suc (suc n) - 2 ≡ n
+two_less n = omega arith
+
+four_less : (n : ℕ) → suc (suc (suc (suc n))) - 4 ≡ n
+four_less n = omega arith
+
+pub two_missing : (bytes : List ℕ) → length bytes < 2 → ◌≡◌ {A = Option (ℕ × List ℕ)} None (number_at 2 bytes)
+unfolding number_at
+two_missing [] h = refl
+two_missing (a ∷ []) h = refl
+two_missing (a ∷ b ∷ rest) h = absurd (omega arith)
+
+pub two_stand : (bytes : List ℕ) → 2 ≤ length bytes → ◌≡◌ {A = Option (ℕ × List ℕ)} (Some (slice_index bytes 0 + 256 * slice_index bytes 1, take (length bytes - 2) (drop 2 bytes))) (number_at 2 bytes)
+unfolding number_at
+two_stand [] h = absurd (omega arith)
+two_stand (a ∷ []) h = absurd (omega arith)
+two_stand (a ∷ b ∷ rest) h = rw (two_less (length rest), all_taken rest, one_byte b) refl
+
+pub four_missing : (bytes : List ℕ) → length bytes < 4 → ◌≡◌ {A = Option (ℕ × List ℕ)} None (number_at 4 bytes)
+unfolding number_at
+four_missing [] h = refl
+four_missing (a ∷ []) h = refl
+four_missing (a ∷ b ∷ []) h = refl
+four_missing (a ∷ b ∷ c ∷ []) h = refl
+four_missing (a ∷ b ∷ c ∷ d ∷ rest) h = absurd (omega arith)
+
+pub four_stand : (bytes : List ℕ) → 4 ≤ length bytes → ◌≡◌ {A = Option (ℕ × List ℕ)} (Some (slice_index bytes 0 + 256 * (slice_index bytes 1 + 256 * (slice_index bytes 2 + 256 * slice_index bytes 3)), take (length bytes - 4) (drop 4 bytes))) (number_at 4 bytes)
+unfolding number_at
+four_stand [] h = absurd (omega arith)
+four_stand (a ∷ []) h = absurd (omega arith)
+four_stand (a ∷ b ∷ []) h = absurd (omega arith)
+four_stand (a ∷ b ∷ c ∷ []) h = absurd (omega arith)
+four_stand (a ∷ b ∷ c ∷ d ∷ rest) h = rw (four_less (length rest), all_taken rest, one_byte d) refl
+
+pub three_not_none : ◌≢◌ {A = ℕ} 3 0
+three_not_none h = absurd (omega arith)

@@ -7,7 +7,7 @@ ghost use Rattle.cax64_table.specs.Cursor.{behind};
 ghost use Rattle.cax64_reader.specs.Lengths.{Within};
 ghost use Rattle.cax64_reader.specs.Found.{tail_of};
 
-use crate::number::number;
+use crate::number::word;
 use cax64_machine_code::reading::{Place, RegView};
 use cax64_table::cursor::next;
 
@@ -29,7 +29,7 @@ fn disp8(bytes: &[u8]) -> Option<(i32, &[u8])>
 fn disp32(bytes: &[u8]) -> Option<(i32, &[u8])>
     ensures { behind result ≡ disp32_at bytes.now }
 {
-    let (n, rest) = number(4, bytes)?;
+    let (n, rest) = word(bytes)?;
     Some((n.cast_signed(), rest))
 }
 
