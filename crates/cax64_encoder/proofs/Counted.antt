@@ -1,17 +1,32 @@
-use Rattle.std.proofs.Common.{◌≡◌, ℕ, ◌-◌, ◌≤◌, arith, refl, ◌∙◌, ap, List, [], ◌++◌, length, Result, Ok, Err, IsOk}
-use Rattle.cax64_sink.specs.Run.{Ran, all_bytes, byte_total}
-use Rattle.cax64_sink.specs.Call.{Action}
-use Rattle.cax64_sink.specs.FixedSink.{fixed_sink_state}
-use Rattle.cax64_sink.specs.declared.SinkError.{SinkError}
-use Rattle.cax64_sink.specs.declared.fixed_sink.FixedSink.{FixedSink}
-use Rattle.cax64_sink.proofs.Rooms.{ran_fits, size_is_length}
-use Rattle.cax64_sink.proofs.Runs.{ran_bytes}
+use Rattle.std.proofs.Common.{◌≡◌, ℕ, ◌+◌, ◌*◌, arith, true, refl, ◌∙◌, ap, Option, Some, None, List, [], ◌++◌, length}
+use Rattle.std.specs.Prelude.{is_some}
+use Rattle.std.specs.Int.{from_bool}
+use Rattle.std.proofs.lemmas.List.{length-append}
+use Rattle.cax64_address.specs.Emitted.{target_actions}
+use Rattle.cax64_sink.specs.Puts.{puts}
+use Rattle.cax64_sink.specs.Rest.{long_actions, word_actions, is_imm_len}
+use Rattle.cax64_sink.specs.Run.{all_bytes}
+use Rattle.cax64_sink.proofs.PutRuns.{all_bytes-puts}
+use Rattle.cax64_sink.proofs.Rests.{each_len}
+use Rattle.cax64_sink.specs.declared.DeferredTarget.{DeferredTarget}
+use Rattle.cax64_encoder.specs.Code.{trap_actions, code_actions}
+use Rattle.cax64_encoder.specs.declared.code.Code.{Code}
+use Rattle.cax64_encoder.proofs.Encodes.{trap_bytes, five_lengths}
 
--- an empty sink that is large enough holds all bytes of a run
-pub counted : {N : ℕ} (acts : List Action) (s t : FixedSink N) (r : Result (Unit {0}) SinkError) → (fixed_sink_state s).bytes ≡ [] → length (all_bytes acts) ≤ N → Ran acts (fixed_sink_state s) (fixed_sink_state t) r → length (fixed_sink_state t).bytes ≡ length (all_bytes acts)
-counted acts s t (Ok tt) e h run = ap length (ran_bytes run refl) ∙ ap (λ (x : List ℕ). length (x ++ all_bytes acts)) e
-counted {N} acts s t (Err error) e h run =
-    let none : length (fixed_sink_state s).bytes ≡ 0 = ap length e in
-    let fit : byte_total acts ≤ N - length (fixed_sink_state s).bytes = omega (arith, none, size_is_length acts) in
-    let bad : IsOk {T = Unit {0}} (Err error) = (ran_fits s t run).1 fit in
-    cc
+-- How many bytes a code has, by its parts.
+
+target_length : (target : Option DeferredTarget) → length (all_bytes (target_actions target)) ≡ 0
+target_length None = refl
+target_length (Some place) = refl
+
+long_length : (long : Option ℕ) → length (all_bytes (long_actions long)) ≡ 4 * from_bool (is_some long)
+long_length None = refl
+long_length (Some word) = refl
+
+word_length : (len word : ℕ) → is_imm_len len ≡ true → length (all_bytes (word_actions len word)) ≡ len
+word_length len word h = each_len (λ n. length (all_bytes (word_actions n word)) ≡ n) refl refl refl refl len h
+
+pub counted : (code : Code) → is_imm_len code.imm_len ≡ true → length (all_bytes (code_actions code)) ≡ length code.front + 4 * from_bool (is_some code.long) + code.imm_len
+counted code h =
+    five_lengths (trap_actions code.trap) (puts code.front) (target_actions code.target) (long_actions code.long) (word_actions code.imm_len code.imm) (trap_bytes code.trap)
+    ∙ omega (arith, ap length (all_bytes-puts code.front), target_length code.target, long_length code.long, word_length code.imm_len code.imm h)

@@ -6,7 +6,7 @@ ghost use Rattle.cax64_sink.specs.Run.{Ran, all_bytes};
 
 use crate::short::Short;
 use cax64_address::tail::use_optional;
-use cax64_sink::{CodeSink, DeferredTarget, FixedSink, SinkError, TrapCode};
+use cax64_sink::{CodeSink, DeferredTarget, SinkError, TrapCode};
 
 /// What stands between the opcode and the immediate.
 #[derive(Drop)]
@@ -59,15 +59,13 @@ impl Code {
         sink.put_rest(self.long, self.imm, self.imm_len)
     }
 
-    /// The number of bytes, counted in a sink that takes them all.
+    /// The number of bytes. None of them is made for it.
     #[inline(always)]
     pub fn len(&self) -> u8
         requires is { IsCode self.now }
         requires most { length (all_bytes (code_actions self.now)) ≤ 13 }
         ensures { result ≡ length (all_bytes (code_actions self.now)) }
     {
-        let mut sink = FixedSink::<13>::new();
-        let _ = self.put(&mut sink);
-        sink.bytes().len() as u8
+        self.front.len() + 4 * u8::from(self.long.is_some()) + self.imm_len
     }
 }

@@ -93,6 +93,15 @@ impl Short {
         }
     }
 
+    /// How many bytes these are.
+    #[inline(always)]
+    pub(crate) fn len(&self) -> u8
+        ensures is { result ≡ length self.now }
+        ensures few { result ≤ 8 }
+    {
+        self.len
+    }
+
     /// Puts the bytes, at least one, as one by one.
     #[inline(always)]
     pub fn put<S: CodeSink>(&self, sink: &mut S) -> Result<(), SinkError>

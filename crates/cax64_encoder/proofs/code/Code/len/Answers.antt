@@ -1,7 +1,10 @@
-use Rattle.std.proofs.Common.{◌∙◌, ap, length}
-use Rattle.cax64_encoder.specs.Code.{code_actions}
+use Rattle.std.proofs.Common.{◌≡◌, ◌∙◌, ap, arith}
+use Rattle.std.specs.Int.{from_bool}
+use Rattle.std.specs.Prelude.{is_some}
 use Rattle.cax64_encoder.proofs.Counted.{counted}
 use Rattle.cax64_encoder.proofs.code.Code.len.Goals as goal
 
 pub returns : goal.returns
-returns c = ap length c.bytes.ensures.value ∙ counted (code_actions c.args.self.now) c.new-sink.result c.put.new.sink c.put.result c.new-sink.ensures c.requires.most c.put.ensures
+returns c =
+    let long : c.from.result ≡ from_bool (is_some c.args.self.now.long) = c.from.ensures ∙ ap from_bool c.is_some.ensures in
+    omega (arith, counted c.args.self.now c.requires.is.imm_len, c.len.ensures.is, long)
