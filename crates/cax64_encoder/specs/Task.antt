@@ -1,4 +1,4 @@
-use Rattle.std.specs.Prelude.{◌≡◌, ℕ, ℤ, true, Option, Result, List}
+use Rattle.std.specs.Prelude.{◌≡◌, ◌≤◌, ℕ, ℤ, true, Option, Result, List}
 use Rattle.cax64_machine_code.specs.declared.row.Row.{Row}
 use Rattle.cax64_operand.specs.Family.{Family}
 use Rattle.cax64_operand.specs.Shape.{HasShape}
@@ -10,8 +10,10 @@ use Rattle.cax64_sink.specs.declared.SinkError.{SinkError}
 use Rattle.cax64_encoder.specs.Content.{content_of}
 use Rattle.cax64_encoder.specs.Encodes.{EncodesAs}
 use Rattle.cax64_encoder.specs.Fault.{is_encodable}
-use Rattle.cax64_encoder.specs.Meant.{Meant, meant_of}
+use Rattle.cax64_encoder.specs.Meant.{Meant, meant_of, len}
+use Rattle.cax64_encoder.specs.Notices.{notice_count}
 use Rattle.cax64_encoder.specs.declared.content.Content.{Content}
+use Rattle.cax64_encoder.specs.declared.room.RoomNeeded.{RoomNeeded}
 
 -- Encoding by what was kept of operands.
 
@@ -34,3 +36,14 @@ pub record Writes {M : Type 0} (m : Meant M) (old new : State) (r : Result (Unit
 -- whatever operands this was kept of, they are written
 abbrev pub Answered : (R : Type 0) → {A B C D E F : Type 0} → Family A B C D E F → Row → Content → State → State → Result (Unit {0}) SinkError → Type 0
 Answered R {A} {B} {C} {D} {E} {F} f row content old new r = (o : Operands R A B C D E F) → Kept f old.offsets row o content → Writes (meant_of f row o old.offsets) old new r
+
+-- the room that what is meant takes
+pub record Takes {M : Type 0} (m : Meant M) (room : RoomNeeded) : Type 0 where
+  pub bytes : room.bytes ≡ len m
+  pub notices : room.notices ≡ notice_count m
+  pub least : 1 ≤ len m
+  pub most : len m ≤ 13
+
+-- whatever operands this was kept of, they take this room
+abbrev pub Measured : (R : Type 0) → {A B C D E F : Type 0} → Family A B C D E F → (ℕ → Option ℤ) → Row → Content → RoomNeeded → Type 0
+Measured R {A} {B} {C} {D} {E} {F} f offsets row content room = (o : Operands R A B C D E F) → Kept f offsets row o content → Takes (meant_of f row o offsets) room

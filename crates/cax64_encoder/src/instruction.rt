@@ -15,12 +15,10 @@ ghost use Rattle.cax64_sink.specs.Room.{HasRoom, FallsBy};
 
 use crate::checked::Checked;
 use crate::content::Content;
-use crate::encoder::code_in;
 use crate::fault::{Fault, first_fault};
+use crate::room::{Counting, Measuring, RoomNeeded};
 use cax64_machine_code::row::Row;
-use cax64_operand::{
-    RegisterFamily, RegisterVisitor, RowAndOperands, fold_operands, operands_of, row_of,
-};
+use cax64_operand::{RegisterFamily, RegisterVisitor, RowAndOperands, operands_of, row_of};
 use cax64_register::Registers;
 use cax64_sink::{CodeSink, SinkError};
 
@@ -69,6 +67,20 @@ pub trait Instruction {
     fn notice_count(&self) -> u8
         ensures { (offsets : ℕ → Option ℤ) → result ≡ notice_count (meant self.now offsets) };
 
+    /// The room that `encode` takes: the numbers of `encoded_len` and of `notice_count`, both at once.
+    fn room_needed<S: CodeSink>(&self, sink: &S) -> RoomNeeded
+        requires { IsTrue (can_encode_in (S.state sink.now) (meant self.now)) }
+        ensures bytes { result.bytes ≡ len_in (S.state sink.now) (meant self.now) }
+        ensures notices { result.notices ≡ notices_in (S.state sink.now) (meant self.now) }
+        ensures least { 1 ≤ result.bytes }
+        ensures most { result.bytes ≤ 13 }
+    {
+        RoomNeeded {
+            bytes: self.encoded_len(sink),
+            notices: self.notice_count(),
+        }
+    }
+
     /// Puts the machine code, and tells the sink of a trap or a target.
     fn encode<S: CodeSink>(&self, sink: &mut S) -> Result<(), SinkError>
         requires { IsTrue (can_encode_in (S.state sink.old) (meant self.now)) }
@@ -116,12 +128,15 @@ impl<I: RowAndOperands> Instruction for I {
     }
 
     fn encoded_len<S: CodeSink>(&self, sink: &S) -> u8 {
-        code_in(self, sink).len()
+        self.room_needed(sink).bytes
     }
 
     fn notice_count(&self) -> u8 {
-        let content: Content = fold_operands(self);
-        content.form.place.notice_count()
+        self.hand_to::<Content, Counting>(&mut Counting)
+    }
+
+    fn room_needed<S: CodeSink>(&self, sink: &S) -> RoomNeeded {
+        self.hand_to::<Content, Measuring<'_, S>>(&mut Measuring { sink })
     }
 
     #[inline(always)]

@@ -18,8 +18,10 @@ pub mod nop;
 pub mod number;
 pub mod numbered;
 pub mod role;
+pub mod room;
 pub mod short;
 mod task;
 
 pub use fault::Fault;
 pub use instruction::Instruction;
+pub use room::RoomNeeded;

@@ -23,8 +23,9 @@ fn measure<I: Instruction, S: CodeSink>(insts: &[I], sink: &S) -> (usize, usize)
     let mut bytes: usize = 0;
     let mut notices: usize = 0;
     for inst in insts {
-        bytes += usize::from(inst.encoded_len(sink));
-        notices += usize::from(inst.notice_count());
+        let room = inst.room_needed(sink);
+        bytes += usize::from(room.bytes);
+        notices += usize::from(room.notices);
     }
     (bytes, notices)
 }

@@ -18,8 +18,8 @@ loop-inst-preserved g c =
     let all_len : total_len after ≡ total_len before + len m = ap total_len one_more ∙ len_more before m in
     let all_notices : total_notices after ≡ total_notices before + notice_count m = ap total_notices one_more ∙ notice_count_more before m in
     record {
-      bytes = omega (arith, all_len, held.bytes, c.from-bytes.ensures, c.encoded_len.ensures.value);
-      notices = omega (arith, all_notices, held.notices, c.from-notices.ensures, c.notice_count.ensures offsets);
-      most = omega (arith, held.most, c.from-bytes.ensures, c.encoded_len.ensures.most);
-      most_notices = omega (arith, held.most_notices, c.from-notices.ensures, c.notice_count.ensures offsets, one_notice m.memory);
+      bytes = omega (arith, all_len, held.bytes, c.from-bytes.ensures, c.room_needed-room.ensures.bytes);
+      notices = omega (arith, all_notices, held.notices, c.from-notices.ensures, c.room_needed-room.ensures.notices);
+      most = omega (arith, held.most, c.from-bytes.ensures, c.room_needed-room.ensures.most);
+      most_notices = omega (arith, held.most_notices, c.from-notices.ensures, c.room_needed-room.ensures.notices, one_notice m.memory);
     }
