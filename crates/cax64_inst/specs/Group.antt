@@ -2,8 +2,7 @@ use Rattle.std.specs.Prelude.{ℕ}
 use Rattle.cax64_inst.specs.declared.Inst.{Inst}
 use Rattle.cax64_inst.specs.declared.Inst.TheVariants as inst
 
--- The group of variants whose function visits an instruction, in the order in which they are asked. Words of the proof's
--- own steps.
+-- The group of variants whose function visits an instruction. Words of the proof's own steps.
 
 unfoldable pub group_of : {R A B C D E F : Type 0} → Inst R A B C D E F → ℕ
 group_of (inst.lock_addb_mi i) = 0

@@ -377,6 +377,6 @@ impl<R: Registers> RowAndOperands for Inst<R> {
     }
 
     fn visit<V: RegisterVisitor<R>>(&mut self, visitor: &mut V) {
-        self.visit_lock_add_or(visitor);
+        self.visit_within(visitor);
     }
 }

@@ -2,3 +2,4 @@
 pub mod Twin
 -- Steps of the proofs.
 pub mod Shaped
+pub mod Group

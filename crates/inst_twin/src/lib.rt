@@ -6,7 +6,9 @@
 ghost use Rattle.std.specs.Prelude.{◌≡◌};
 ghost use Rattle.cax64_operand.specs.Fold.{fold};
 ghost use Rattle.cax64_operand.specs.NopRow.{nop_row};
+ghost use Rattle.cax64_operand.specs.Visit.{OperandsRun};
 ghost use Rattle.cax64_operand.specs.declared.operand.Operands.TheVariants as operands;
+ghost use Rattle.inst_twin.specs.Group.{group_of};
 ghost use Rattle.inst_twin.specs.Shaped.{Shaped};
 ghost use Rattle.inst_twin.specs.Twin.{row_of, operands_of};
 
@@ -50,11 +52,27 @@ impl<R: Registers> RowAndOperands for Twin<R> {
         }
     }
 
-    #[tactic(auto, unfolding(crate::specs::Twin::row_of, crate::specs::Twin::operands_of))]
+    #[tactic(auto, unfolding(crate::specs::Twin::row_of, crate::specs::Twin::operands_of, crate::specs::Group::group_of))]
     fn visit<V: RegisterVisitor<R>>(&mut self, visitor: &mut V) {
         match self {
-            Twin::nop_1b(i) => i.visit(visitor),
+            Twin::nop_1b(_) => {}
+            Twin::mulxl_twin(_) => self.visit_multiply(visitor),
+        }
+    }
+}
+
+impl<R: Registers> Twin<R> {
+    /// Visits what is within, which is of the first group.
+    #[tactic(auto, unfolding(crate::specs::Twin::row_of, crate::specs::Twin::operands_of, crate::specs::Group::group_of))]
+    #[inline(always)]
+    fn visit_multiply<V: RegisterVisitor<R>>(&mut self, visitor: &mut V)
+        requires { group_of self.old ≡ 0 }
+        ensures run { OperandsRun R.WriteGpr.eq V.steps visitor.old (operands_of self.old) (operands_of self.new) visitor.new }
+        ensures row { row_of self.new ≡ row_of self.old }
+    {
+        match self {
             Twin::mulxl_twin(i) => i.visit(visitor),
+            _ => {}
         }
     }
 }
