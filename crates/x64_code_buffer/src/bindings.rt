@@ -1,6 +1,6 @@
 //! What labels and constants are bound to.
 
-ghost use Rattle.std.specs.Prelude.{◌≡◌, ◌↔◌, ◌+◌, ◌⊎◌, ◌≤◌, Some, None, Ok, Err, IfOk, OnOk, OnErr, MatchOption, if◌then◌else◌, is_ok, length, vec_len};
+ghost use Rattle.std.specs.Prelude.{◌≡◌, ◌↔◌, ◌+◌, ◌^◌, ◌⊎◌, ◌<◌, ◌≤◌, Some, None, Ok, Err, IfOk, IfErr, OnOk, OnErr, MatchOption, if◌then◌else◌, is_ok, length, vec_len};
 ghost use Rattle.std.below.core.specs.declared.int.u32.TheConstants.{MAX};
 ghost use Rattle.x64_code_buffer.specs.declared.errors.BindError.{BindError};
 ghost use Rattle.cax64_sink.specs.declared.SinkError.{SinkError};
@@ -11,11 +11,18 @@ use std::alloc::Allocator;
 use std::collections::HashMap;
 use std::hash::{BuildHasherDefault, FoldHasher};
 
+/// Constants with keys below this stand in the list, in whatever order they are bound.
+const SMALL: usize = 32;
+
 /// The places of the labels that were given, by number, and of the constants that are bound.
+///
+/// Constants are mostly numbered from 0 on. Those with a small key, or the next one behind the list, are listed by key: that
+/// takes one block of memory and no hashing. A map has all others.
 #[derive(Drop)]
 pub struct Bindings<A: Allocator> {
     labels: Vec<Option<usize>, A>,
-    constants: HashMap<u32, usize, BuildHasherDefault<FoldHasher>, A>,
+    listed: Vec<Option<usize>, A>,
+    others: HashMap<u32, usize, BuildHasherDefault<FoldHasher>, A>,
     ghost few: { vec_len labels ≤ MAX },
 }
 
@@ -30,7 +37,8 @@ impl<A: Allocator + Copy> Bindings<A> {
     {
         Bindings {
             labels: Vec::new(alloc),
-            constants: HashMap::new(alloc),
+            listed: Vec::new(alloc),
+            others: HashMap::new(alloc),
         }
     }
 }
@@ -45,9 +53,19 @@ impl<A: Allocator> Bindings<A> {
     {
         match target {
             DeferredTarget::Label(Label(number)) => *self.labels.get(number as usize)?,
-            DeferredTarget::Constant(Constant(key)) => self.constants.get(&key).copied(),
+            DeferredTarget::Constant(constant) => self.constant_place(constant),
             DeferredTarget::None => None,
         }
+    }
+
+    /// The place that a constant is bound to.
+    fn constant_place(&self, constant: Constant) -> Option<usize>
+        ensures { result ≡ place_bound self.now (DeferredTarget.Constant constant) }
+    {
+        if let Some(Some(place)) = self.listed.get(constant.0 as usize) {
+            return Some(*place);
+        }
+        self.others.get(&constant.0).copied()
     }
 
     /// The next label, with a place for its binding.
@@ -95,11 +113,60 @@ impl<A: Allocator + Clone> Bindings<A> {
         ensures unchanged { OnErr result (SamePlaces (place_bound self.old) (place_bound self.new)) }
         ensures labels { length self.new.labels.items ≡ length self.old.labels.items }
     {
-        if self.constants.get(&constant.0).is_some() {
+        let key = constant.0 as usize;
+        if key < SMALL || key <= self.listed.len() {
+            self.list_constant(constant, place)
+        } else {
+            self.bind_other(constant, place)
+        }
+    }
+
+    /// Binds a constant that the list is to have.
+    fn list_constant(&mut self, constant: Constant, place: usize) -> Result<(), BindError>
+        ensures answer { MatchOption (place_bound self.old (DeferredTarget.Constant constant)) ((result ≡ Ok tt) ⊎ (result ≡ Err BindError.NoMemory)) (λ _. result ≡ Err BindError.Twice) }
+        ensures binds { OnOk result (AddsBinding (DeferredTarget.Constant constant) place (place_bound self.old) (place_bound self.new)) }
+        ensures unchanged { OnErr result (SamePlaces (place_bound self.old) (place_bound self.new)) }
+        ensures labels { length self.new.labels.items ≡ length self.old.labels.items }
+    {
+        if self.constant_place(constant).is_some() {
             return Err(BindError::Twice);
         }
-        match self.constants.insert(constant.0, place) {
-            Ok(_) => Ok(()),
+        let key = constant.0 as usize;
+        self.list_up_to(key)?;
+        self.listed[key] = Some(place);
+        Ok(())
+    }
+
+    /// Makes the list long enough for a key.
+    fn list_up_to(&mut self, key: usize) -> Result<(), BindError>
+        requires { key < 2 ^ 32 }
+        ensures there { OnOk result (key < length self.new.listed.items) }
+        ensures error { IfErr result (λ e. e ≡ BindError.NoMemory) }
+        ensures places { SamePlaces (place_bound self.old) (place_bound self.new) }
+        ensures labels { length self.new.labels.items ≡ length self.old.labels.items }
+    {
+        if key < self.listed.len() {
+            return Ok(());
+        }
+        self.listed
+            .resize(key + 1, None)
+            .map_err(|_| BindError::NoMemory)
+    }
+
+    /// Binds a constant that the map is to have. One that it has gets its place back.
+    fn bind_other(&mut self, constant: Constant, place: usize) -> Result<(), BindError>
+        requires { length self.old.listed.items ≤ constant.0 }
+        ensures answer { MatchOption (place_bound self.old (DeferredTarget.Constant constant)) ((result ≡ Ok tt) ⊎ (result ≡ Err BindError.NoMemory)) (λ _. result ≡ Err BindError.Twice) }
+        ensures binds { OnOk result (AddsBinding (DeferredTarget.Constant constant) place (place_bound self.old) (place_bound self.new)) }
+        ensures unchanged { OnErr result (SamePlaces (place_bound self.old) (place_bound self.new)) }
+        ensures labels { length self.new.labels.items ≡ length self.old.labels.items }
+    {
+        match self.others.insert(constant.0, place) {
+            Ok(None) => Ok(()),
+            Ok(Some(bound)) => {
+                let _ = self.others.insert(constant.0, bound);
+                Err(BindError::Twice)
+            }
             Err(_) => Err(BindError::NoMemory),
         }
     }
