@@ -151,18 +151,15 @@ impl<A: Allocator> CodeBuffer<A> {
         ensures others { (i : ℕ) → All (IsOutside i) (links (uses_of (buffer_state self).notices)) → IfOk result (λ code. slice_index code.items i ≡ slice_index (buffer_state self).bytes i) }
         ensures finished { (readings : List Reading) (n : ℕ) → Filled readings n (buffer_state self) (places_of self) → IfOk result (λ code. Finished readings n (buffer_state self) (places_of self) code.items) }
     {
-        let refusal = first_refusal(
-            &self.bindings,
-            self.recorder.bytes(),
-            self.recorder.notices(),
-        );
-        if let Some(error) = refusal {
-            return Err((self, error));
-        }
+        // In parts, of which the one with the offsets isn't moved where it isn't handed back.
         let CodeBuffer {
             mut recorder,
             bindings,
         } = self;
+        let refusal = first_refusal(&bindings, recorder.bytes(), recorder.notices());
+        if let Some(error) = refusal {
+            return Err((CodeBuffer { recorder, bindings }, error));
+        }
         patch_uses(&mut recorder, &bindings);
         Ok(recorder.into_bytes())
     }
