@@ -1,6 +1,7 @@
 //! What labels and constants are bound to.
 
-ghost use Rattle.std.specs.Prelude.{◌≡◌, ◌↔◌, ◌+◌, ◌^◌, ◌⊎◌, ◌<◌, ◌≤◌, Some, None, Ok, Err, IfOk, IfErr, OnOk, OnErr, MatchOption, if◌then◌else◌, is_ok, length, vec_len};
+ghost use Rattle.std.specs.Prelude.{◌≡◌, ◌↔◌, ◌+◌, ◌^◌, ◌⊎◌, ◌<◌, ◌≤◌, Some, None, Ok, Err, IfOk, IfErr, OnOk, OnErr, MatchOption, if◌then◌else◌, is_ok, length, nat_eq, vec_len};
+ghost use Rattle.std.specs.HashMap.{get};
 ghost use Rattle.std.below.core.specs.declared.int.u32.TheConstants.{MAX};
 ghost use Rattle.x64_code_buffer.specs.declared.errors.BindError.{BindError};
 ghost use Rattle.cax64_sink.specs.declared.SinkError.{SinkError};
@@ -48,6 +49,7 @@ impl<A: Allocator> Bindings<A> {
     ghost use Rattle.cax64_sink.specs.declared.DeferredTarget.{DeferredTarget};
 
     /// The place that a target is bound to.
+    #[inline(always)]
     pub fn place_of(&self, target: DeferredTarget) -> Option<usize>
         ensures { result ≡ place_bound self.now target }
     {
@@ -59,12 +61,21 @@ impl<A: Allocator> Bindings<A> {
     }
 
     /// The place that a constant is bound to.
+    #[inline(always)]
     fn constant_place(&self, constant: Constant) -> Option<usize>
         ensures { result ≡ place_bound self.now (DeferredTarget.Constant constant) }
     {
         if let Some(Some(place)) = self.listed.get(constant.0 as usize) {
             return Some(*place);
         }
+        self.other_place(constant)
+    }
+
+    /// The place that the map has for a constant. It stays out of the code for labels and for constants in the list.
+    #[inline(never)]
+    fn other_place(&self, constant: Constant) -> Option<usize>
+        ensures { result ≡ get nat_eq self.now.others constant.0 }
+    {
         self.others.get(&constant.0).copied()
     }
 
