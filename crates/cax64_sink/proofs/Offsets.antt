@@ -1,7 +1,7 @@
-use Rattle.std.proofs.Common.{◌≡◌, ℕ, zero, suc, replicate, Option, None, slice_index_or, refl}
+use Rattle.std.proofs.Common.{◌≡◌, ℕ, zero, suc, replicate, false, slice_index_or, refl}
 
--- a table of nothing has nothing at any key
-pub none_at : {A : Type 0} (count key : ℕ) → slice_index_or (replicate {A = Option A} count None) key None ≡ None
-none_at zero key = refl
-none_at (suc n) zero = refl
-none_at {A = A} (suc n) (suc k) = none_at {A = A} n k
+-- where no key is set, none is set at any place
+pub none_set : (count key : ℕ) → slice_index_or (replicate count false) key false ≡ false
+none_set zero key = refl
+none_set (suc n) zero = refl
+none_set (suc n) (suc k) = none_set n k

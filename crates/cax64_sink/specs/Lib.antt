@@ -7,6 +7,7 @@ pub mod Puts
 pub mod Rest
 pub mod Keeps
 pub mod Vec
+pub mod Known
 pub mod Recorder
 pub mod FixedSink
 pub mod TrapCode

@@ -1,12 +1,9 @@
 -- What a contract sees of a `Recorder`.
-use Rattle.std.specs.Prelude.{ℕ, ℤ, Option, None, Some, List, ◌++◌, ◌+◌, ◌-◌, ◌==◌, if◌then◌else◌, true, take, drop, length, slice_index_or, vec_len, vec_capacity}
+use Rattle.std.specs.Prelude.{ℕ, ℤ, Some, List, ◌++◌, ◌+◌, ◌-◌, ◌==◌, if◌then◌else◌, true, take, drop, length, vec_len, vec_capacity}
+use Rattle.cax64_sink.specs.Known.{known_at}
 use Rattle.cax64_sink.specs.Room.{count}
 use Rattle.cax64_sink.specs.Sink.{State, is_no_memory}
 use Rattle.cax64_sink.specs.declared.recorder.Recorder.{Recorder}
-
--- the offset at a key, in a table of all keys
-abbrev pub offset_at : List (Option ℤ) → ℕ → Option ℤ
-offset_at table key = slice_index_or table key None
 
 -- a recorder's rooms are the spare capacities of its two lists
 abbrev pub recorder_state : {A : Type 0} → Recorder A → State
@@ -14,7 +11,7 @@ recorder_state r = record {
   bytes = r.code.items;
   notices = r.told.items;
   records = true;
-  offsets = offset_at r.known;
+  offsets = known_at r.known;
   byte_room = count (vec_capacity r.code - vec_len r.code);
   notice_room = count (vec_capacity r.told - vec_len r.told);
   answers = is_no_memory;

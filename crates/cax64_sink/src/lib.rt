@@ -15,6 +15,7 @@ use std::fmt;
 use std::num::NonZeroU8;
 
 pub mod fixed_sink;
+mod known;
 pub mod laws;
 pub mod puts;
 pub mod recorder;

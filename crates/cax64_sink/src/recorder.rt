@@ -4,6 +4,7 @@ ghost use Rattle.std.specs.Prelude.{◌≡◌, ◌≤◌, ◌+◌, ℕ, [], leng
 ghost use Rattle.std.specs.Int.{to_le_bytes, w32};
 ghost use Rattle.cax64_sink.specs.Room.{HasRoom, FallsBy, count};
 
+use crate::known::Known;
 use crate::{CodeSink, DeferredTarget, KnownOffset, Notice, SinkError, TrapCode};
 use std::alloc::Allocator;
 
@@ -12,7 +13,7 @@ use std::alloc::Allocator;
 pub struct Recorder<A: Allocator> {
     code: Vec<u8, A>,
     told: Vec<Notice, A>,
-    known: [Option<i32>; 256],
+    known: Known,
 }
 
 impl<A: Allocator + Copy> Recorder<A> {
@@ -29,7 +30,7 @@ impl<A: Allocator + Copy> Recorder<A> {
         Recorder {
             code: Vec::new(alloc),
             told: Vec::new(alloc),
-            known: [None; 256],
+            known: Known::new(),
         }
     }
 }
@@ -43,7 +44,7 @@ impl<A: Allocator> Recorder<A> {
     pub fn set_offset(&mut self, offset: KnownOffset, value: i32)
         ensures { recorder_state self.new ≡ with_offset offset value (recorder_state self.old) }
     {
-        self.known[offset as usize] = Some(value);
+        self.known.set(offset, value);
     }
 
     /// All bytes that were put.
@@ -150,10 +151,10 @@ impl<A: Allocator> CodeSink for Recorder<A> {
     }
 
     fn knows_offset(&self, offset: KnownOffset) -> bool {
-        self.known[offset as usize].is_some()
+        self.known.get(offset).is_some()
     }
 
     fn known_offset(&self, offset: KnownOffset) -> i32 {
-        self.known[offset as usize].unwrap()
+        self.known.get(offset).unwrap()
     }
 }
