@@ -5,6 +5,7 @@ ghost use Rattle.std.specs.Int.{to_le_bytes, w32};
 ghost use Rattle.cax64_sink.specs.Room.{HasRoom, FallsBy, count};
 
 use crate::known::Known;
+use crate::vec::make_room;
 use crate::{CodeSink, DeferredTarget, KnownOffset, Notice, SinkError, TrapCode};
 use std::alloc::Allocator;
 
@@ -77,7 +78,9 @@ impl<A: Allocator> Recorder<A> {
         ensures succeeds { HasRoom (recorder_state self.old).byte_room bytes → HasRoom (recorder_state self.old).notice_room notices → IsOk result }
         ensures no_memory { IfErr result (λ e. e ≡ SinkError.NoMemory) }
     {
-        self.code.reserve(bytes).map_err(|_| SinkError::NoMemory)?;
+        if self.code.capacity() - self.code.len() < bytes {
+            make_room(&mut self.code, bytes)?;
+        }
         self.told.reserve(notices).map_err(|_| SinkError::NoMemory)
     }
 

@@ -1,6 +1,6 @@
 //! `Vec<u8>` as a sink keeps bytes alone.
 
-ghost use Rattle.std.specs.Prelude.{◌≡◌, ◌+◌, ◌∷◌, [], ◌++◌, length, IsTrue, pos, take};
+ghost use Rattle.std.specs.Prelude.{◌≡◌, ◌≤◌, ◌+◌, ◌-◌, ◌∷◌, [], ◌++◌, length, IsTrue, IsOk, IfErr, OnOk, pos, take, vec_len, vec_capacity};
 ghost use Rattle.std.specs.Int.{to_le_bytes, w32, w64};
 ghost use Rattle.cax64_sink.specs.Call.{Step, put};
 ghost use Rattle.cax64_sink.specs.Puts.{puts};
@@ -10,6 +10,25 @@ ghost use Rattle.cax64_sink.specs.Vec.{vec_state};
 
 use crate::{CodeSink, DeferredTarget, KnownOffset, SinkError, TrapCode};
 use std::alloc::Allocator;
+
+/// For how many bytes the first block of memory has room, where there is memory for so many.
+const FIRST_ROOM: usize = 64;
+
+/// Makes room for so many more bytes. A first block is as large as a small function, which isn't moved each time that it has
+/// grown by an instruction then. Where it's refused, one for what was asked for may not be.
+#[inline(never)]
+pub(crate) fn make_room<A: Allocator>(vec: &mut Vec<u8, A>, bytes: usize) -> Result<(), SinkError>
+    ensures items { vec.new.items ≡ vec.old.items }
+    ensures room { OnOk result (bytes ≤ vec_capacity vec.new - vec_len vec.new) }
+    ensures capacity { vec_capacity vec.old ≤ vec_capacity vec.new }
+    ensures succeeds { bytes ≤ vec_capacity vec.old - vec_len vec.old → IsOk result }
+    ensures no_memory { IfErr result (λ e. e ≡ SinkError.NoMemory) }
+{
+    if vec.capacity() == 0 && bytes < FIRST_ROOM && vec.reserve(FIRST_ROOM).is_ok() {
+        return Ok(());
+    }
+    vec.reserve(bytes).map_err(|_| SinkError::NoMemory)
+}
 
 /// Puts some bytes at once.
 #[inline(always)]
