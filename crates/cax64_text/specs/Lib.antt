@@ -5,3 +5,5 @@ pub mod Style
 pub mod Operand
 pub mod Text
 pub mod PrintedAlike
+-- The steps of proofs.
+pub mod Made

@@ -10,9 +10,9 @@ ghost use Rattle.cax64_operand.specs.declared.operand.Operands.{Operands};
 ghost use Rattle.cax64_text.specs.Names.{Names};
 ghost use Rattle.cax64_text.specs.Text.{has_xed, mnemonic, nameable, text, xed_text};
 
+use crate::folds::{ByRegister, Nameable};
 use crate::head::{nop_text, push_head};
-use crate::list::{all_nameable, has_register, named_predicate, nop_of, push_list};
-use crate::mnemonic::mnemonic;
+use crate::list::{has_register, named_predicate, nop_of, push_list};
 use crate::names::RegisterNames;
 use crate::style::Style;
 use cax64_address::text::Dialect;
@@ -132,13 +132,11 @@ impl<I: RowAndOperands> InstructionText for I {
     ghost names = { ⟦<I::Family as RegisterNames>⟧.names };
 
     fn mnemonic(&self) -> &'static str {
-        let operands = operands_of(self);
-        mnemonic(row_of(self), has_register(&operands))
+        self.hand_to::<ByRegister, ()>(&mut ())
     }
 
     fn nameable(&self) -> bool {
-        let operands = operands_of(self);
-        all_nameable(&operands)
+        self.hand_to::<Nameable, ()>(&mut ())
     }
 
     fn to_string<A: Allocator + Copy>(&self, alloc: A) -> Result<String<A>, AllocError> {

@@ -3,6 +3,7 @@
 //! They follow from an instruction's row and its operands, by functions that are written once.
 #![tactic(auto)]
 
+mod folds;
 pub mod head;
 pub mod instruction;
 pub mod laws;
@@ -11,6 +12,7 @@ pub mod mnemonic;
 pub mod names;
 pub mod operand;
 pub mod style;
+mod task;
 
 pub use instruction::InstructionText;
 pub use names::RegisterNames;

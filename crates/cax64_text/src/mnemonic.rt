@@ -8,6 +8,7 @@ ghost use Rattle.cax64_text.specs.declared.style.Style.TheVariants.{Shift};
 use cax64_machine_code::row::Row;
 
 /// The mnemonic of a row's instructions.
+#[inline(always)]
 pub fn row_mnemonic(row: Row) -> &'static str
     ensures { result.now ≡ row_mnemonic row }
 {
@@ -111,6 +112,7 @@ pub fn row_mnemonic(row: Row) -> &'static str
 }
 
 /// The mnemonic where the operand that may be memory is a register, or not.
+#[inline(always)]
 pub fn mnemonic(row: Row, register: bool) -> &'static str
     ensures { result.now ≡ mnemonic_for register row }
 {

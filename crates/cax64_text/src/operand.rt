@@ -117,6 +117,7 @@ pub fn named_operand<R: Registers>(operand: &Operand<R>) -> Option<u8>
 }
 
 /// Whether the operand may be memory and is a register.
+#[inline(always)]
 pub fn is_register<R: Registers>(operand: &Operand<R>) -> bool
     ensures { result ≡ is_register operand.now }
 {
@@ -129,6 +130,7 @@ pub fn is_register<R: Registers>(operand: &Operand<R>) -> bool
 }
 
 /// Whether the registers that are printed have texts.
+#[inline(always)]
 pub fn operand_nameable<R: Registers>(operand: &Operand<R>) -> bool
     ensures { result ≡ operand_nameable ⟦<R as RegisterNames>⟧.names operand.now }
 {
