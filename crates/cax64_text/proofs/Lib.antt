@@ -1,1 +1,2 @@
 pub mod PrintedAlike
+pub mod SlotTexts

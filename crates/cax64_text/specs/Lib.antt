@@ -7,3 +7,4 @@ pub mod Text
 pub mod PrintedAlike
 -- The steps of proofs.
 pub mod Made
+pub mod Slots

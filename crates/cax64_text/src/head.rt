@@ -71,6 +71,7 @@ fn push_compare<A: Allocator>(
     }
 }
 
+#[inline(always)]
 fn push_att<A: Allocator>(
     out: &mut String<A>,
     style: Style,
@@ -105,6 +106,7 @@ fn push_att<A: Allocator>(
     }
 }
 
+#[inline(always)]
 fn push_xed<A: Allocator>(
     out: &mut String<A>,
     style: Style,
@@ -144,6 +146,7 @@ fn push_xed<A: Allocator>(
 }
 
 /// Adds what stands before the operands.
+#[inline(always)]
 pub fn push_head<A: Allocator>(
     out: &mut String<A>,
     dialect: Dialect,
@@ -163,6 +166,7 @@ pub fn push_head<A: Allocator>(
 }
 
 /// The text of a no-operation.
+#[inline(always)]
 pub fn nop_text(dialect: Dialect, nop: Nop) -> &'static str
     ensures { result.now ≡ nop_text dialect nop }
 {

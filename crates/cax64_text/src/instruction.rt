@@ -1,81 +1,24 @@
 //! What every instruction can say of itself, over its row and its operands.
 
-ghost use Rattle.std.specs.Prelude.{◌≡◌, ◌++◌, Bool, Option, Some, None, IsTrue, IfOk, OnOk, MatchOption, string_bytes};
+ghost use Rattle.std.specs.Prelude.{◌≡◌, Some, None, IsTrue, IfOk, MatchOption, string_bytes};
 ghost use Rattle.cax64_address.specs.declared.text.Dialect.TheVariants.{Att};
 ghost use Rattle.cax64_feature.specs.Row.{features_of};
 ghost use Rattle.cax64_feature.specs.Term.{term_of, truth};
 ghost use Rattle.cax64_machine_code.specs.declared.row.Row.{Row};
-ghost use Rattle.cax64_operand.specs.OperandList.{nop_of};
 ghost use Rattle.cax64_operand.specs.declared.operand.Operands.{Operands};
 ghost use Rattle.cax64_text.specs.Names.{Names};
-ghost use Rattle.cax64_text.specs.Text.{has_xed, mnemonic, nameable, text, xed_text};
+ghost use Rattle.cax64_text.specs.Text.{mnemonic, nameable, text, xed_text};
 
 use crate::folds::{ByRegister, Nameable};
-use crate::head::{nop_text, push_head};
-use crate::list::{has_register, named_predicate, nop_of, push_list};
 use crate::names::RegisterNames;
-use crate::style::Style;
-use cax64_address::text::Dialect;
+use crate::slots::Slots;
+use crate::task::{ForAtt, ForXed};
 use cax64_feature::rows::{features, is_available};
 use cax64_feature::{AvailableFeatures, Features};
 use cax64_machine_code::row::Row;
-use cax64_operand::{Operands, RowAndOperands, operands_of, row_of};
+use cax64_operand::{RowAndOperands, row_of};
 use cax64_register::Registers;
 use std::alloc::{AllocError, Allocator};
-
-/// Room for the text of any instruction with the hardware's registers.
-const ROOM: usize = 80;
-
-fn push_text<R: Registers, A: Allocator + Copy>(
-    out: &mut String<A>,
-    alloc: A,
-    dialect: Dialect,
-    row: Row,
-    operands: &Operands<R>,
-) -> Result<(), AllocError>
-    requires { IsTrue (nameable ⟦<R as RegisterNames>⟧.names operands.now) }
-    ensures { OnOk result (string_bytes out.new ≡ string_bytes out.old ++ text ⟦<R as RegisterNames>⟧.names dialect row operands.now) }
-{
-    match nop_of(operands) {
-        Some(nop) => out.push_str(nop_text(dialect, nop)),
-        None => {
-            let style = Style::new(row);
-            let register = has_register(operands);
-            push_head(
-                out,
-                dialect,
-                style,
-                register,
-                named_predicate(operands),
-                row,
-            )?;
-            push_list(out, alloc, dialect, row, style.is_forward(), operands)
-        }
-    }
-}
-
-fn text<R: Registers, A: Allocator + Copy>(
-    alloc: A,
-    dialect: Dialect,
-    row: Row,
-    operands: &Operands<R>,
-) -> Result<String<A>, AllocError>
-    requires { IsTrue (nameable ⟦<R as RegisterNames>⟧.names operands.now) }
-    ensures { IfOk result (λ t. string_bytes t ≡ text ⟦<R as RegisterNames>⟧.names dialect row operands.now) }
-{
-    let mut out = String::with_capacity(alloc, ROOM)?;
-    push_text(&mut out, alloc, dialect, row, operands)?;
-    Ok(out)
-}
-
-fn has_xed<R: Registers>(row: Row, operands: &Operands<R>) -> bool
-    ensures { result ≡ has_xed row (nop_of operands.now) }
-{
-    match nop_of(operands) {
-        Some(_) => true,
-        None => Style::new(row).has_xed_text(),
-    }
-}
 
 /// What an instruction says of itself: all of it follows from its row and its operands.
 pub trait InstructionText {
@@ -139,22 +82,17 @@ impl<I: RowAndOperands> InstructionText for I {
         self.hand_to::<Nameable, ()>(&mut ())
     }
 
+    #[tactic(auto, using(crate::proofs::SlotTexts::slot_texts))]
     fn to_string<A: Allocator + Copy>(&self, alloc: A) -> Result<String<A>, AllocError> {
-        let operands = operands_of(self);
-        text(alloc, Dialect::Att, row_of(self), &operands)
+        self.hand_to::<Slots<I::Family>, ForAtt<A>>(&mut ForAtt { alloc })
     }
 
+    #[tactic(auto, using(crate::proofs::SlotTexts::slot_texts))]
     fn to_string_xed<A: Allocator + Copy>(
         &self,
         alloc: A,
     ) -> Result<Option<String<A>>, AllocError> {
-        let row = row_of(self);
-        let operands = operands_of(self);
-        if has_xed(row, &operands) {
-            Ok(Some(text(alloc, Dialect::Xed, row, &operands)?))
-        } else {
-            Ok(None)
-        }
+        self.hand_to::<Slots<I::Family>, ForXed<A>>(&mut ForXed { alloc })
     }
 
     fn features<A: Allocator + Copy>(&self, alloc: A) -> Result<Features<A>, AllocError> {

@@ -11,6 +11,8 @@ pub mod list;
 pub mod mnemonic;
 pub mod names;
 pub mod operand;
+mod piece;
+mod slots;
 pub mod style;
 mod task;
 

@@ -30,7 +30,8 @@ pub fn has_register<R: Registers>(operands: &Operands<R>) -> bool
     }
 }
 
-fn first_of(first: Option<u8>, later: Option<u8>) -> Option<u8>
+#[inline(always)]
+pub(crate) fn first_of(first: Option<u8>, later: Option<u8>) -> Option<u8>
     requires first { IfSome first (λ v. v < 32) }
     requires later { IfSome later (λ v. v < 32) }
     ensures value { result ≡ first_of first later }

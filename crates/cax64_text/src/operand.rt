@@ -14,7 +14,7 @@ use cax64_operand::{Immediate, Operand};
 use cax64_register::{AsReg, Registers, Size};
 use std::alloc::{AllocError, Allocator};
 
-fn push_target<A: Allocator>(
+pub(crate) fn push_target<A: Allocator>(
     out: &mut String<A>,
     dialect: Dialect,
     target: i64,
@@ -28,7 +28,7 @@ fn push_target<A: Allocator>(
     }
 }
 
-fn push_number<A: Allocator>(out: &mut String<A>, bits: u64) -> Result<(), AllocError>
+pub(crate) fn push_number<A: Allocator>(out: &mut String<A>, bits: u64) -> Result<(), AllocError>
     ensures { OnOk result (string_bytes out.new ≡ string_bytes out.old ++ immediate_text.imm_text bits) }
 {
     write!(out, "$0x{bits:x}")
@@ -72,6 +72,7 @@ pub fn push_imm<A: Allocator>(
     }
 }
 
+#[inline(always)]
 fn named_imm(imm: Immediate) -> Option<u8>
     ensures value { result ≡ named_imm imm }
     ensures known { IfSome result (λ v. v < 32) }
@@ -83,6 +84,7 @@ fn named_imm(imm: Immediate) -> Option<u8>
     }
 }
 
+#[inline(always)]
 fn imm_is_shown(dialect: Dialect, imm: Immediate) -> bool
     ensures { result ≡ imm_is_shown dialect imm }
 {
@@ -94,6 +96,7 @@ fn imm_is_shown(dialect: Dialect, imm: Immediate) -> bool
 }
 
 /// Whether the operand is printed.
+#[inline(always)]
 pub fn is_shown<R: Registers>(dialect: Dialect, operand: &Operand<R>) -> bool
     ensures { result ≡ is_shown dialect operand.now }
 {
@@ -106,6 +109,7 @@ pub fn is_shown<R: Registers>(dialect: Dialect, operand: &Operand<R>) -> bool
 }
 
 /// The operand's predicate, where it has a name.
+#[inline(always)]
 pub fn named_operand<R: Registers>(operand: &Operand<R>) -> Option<u8>
     ensures value { result ≡ named_operand operand.now }
     ensures known { IfSome result (λ v. v < 32) }

@@ -28,6 +28,7 @@ pub enum Style {
 
 impl Style {
     /// The style of a row's instructions.
+    #[inline(always)]
     pub fn new(row: Row) -> Style
         ensures { result ≡ style_of row }
     {
@@ -50,6 +51,7 @@ impl Style {
     }
 
     /// Whether the operands print in the order of visits.
+    #[inline(always)]
     pub fn is_forward(self) -> bool
         ensures { result ≡ is_forward self }
     {
@@ -57,6 +59,7 @@ impl Style {
     }
 
     /// Whether there is a text as XED prints it.
+    #[inline(always)]
     pub fn has_xed_text(self) -> bool
         ensures { result ≡ has_xed_text self }
     {
@@ -65,6 +68,7 @@ impl Style {
 }
 
 /// How many bytes a branch by a distance has.
+#[inline(always)]
 pub fn branch_length(row: Row) -> u8
     ensures value { result ≡ branch_length row }
     ensures most { result ≤ 6 }
