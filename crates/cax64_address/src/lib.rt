@@ -5,6 +5,7 @@ pub mod amode;
 pub mod disp;
 pub mod laws;
 pub mod memory;
+pub mod number;
 pub mod offset;
 pub mod operand;
 pub mod tail;

@@ -6,6 +6,7 @@ ghost use Rattle.cax64_address.specs.Text.{magnitude_text, offset_text, late_tex
 ghost use Rattle.cax64_address.specs.declared.text.Dialect.TheVariants.{Att, Xed};
 
 use crate::amode::{Amode, Scale};
+use crate::number::{push_hexadecimal, push_short_number};
 use crate::offset::{AmodeOffset, AmodeOffsetPlusKnownOffset};
 use crate::operand::{GprMem, XmmMem};
 use cax64_register::{AsReg, Size};
@@ -31,14 +32,8 @@ fn push_magnitude<A: Allocator>(
     ensures { OnOk result (string_bytes out.new ≡ string_bytes out.old ++ magnitude_text dialect magnitude) }
 {
     match dialect {
-        Dialect::Att => {
-            if magnitude < 10 {
-                write!(out, "{magnitude}")
-            } else {
-                write!(out, "0x{magnitude:x}")
-            }
-        }
-        Dialect::Xed => write!(out, "0x{magnitude:x}"),
+        Dialect::Att => push_short_number(out, u64::from(magnitude)),
+        Dialect::Xed => push_hexadecimal(out, u64::from(magnitude)),
     }
 }
 
@@ -56,7 +51,7 @@ impl AmodeOffset {
             return Ok(());
         }
         if value < 0 {
-            out.push_str("-")?;
+            out.push('-')?;
         }
         push_magnitude(out, dialect, value.unsigned_abs())
     }
@@ -108,21 +103,22 @@ impl AmodeOffsetPlusKnownOffset {
     }
 }
 
-fn scale_text(dialect: Dialect, scale: Scale) -> &'static str
-    ensures { result.now ≡ scale_text dialect scale }
+/// What stands behind an index, up to the end.
+fn scale_end(dialect: Dialect, scale: Scale) -> &'static str
+    ensures { result.now ≡ scale_text dialect scale ++ codes ")" }
 {
     match dialect {
         Dialect::Att => match scale {
-            Scale::One => "",
-            Scale::Two => ", 2",
-            Scale::Four => ", 4",
-            Scale::Eight => ", 8",
+            Scale::One => ")",
+            Scale::Two => ", 2)",
+            Scale::Four => ", 4)",
+            Scale::Eight => ", 8)",
         },
         Dialect::Xed => match scale {
-            Scale::One => ",1",
-            Scale::Two => ",2",
-            Scale::Four => ",4",
-            Scale::Eight => ",8",
+            Scale::One => ",1)",
+            Scale::Two => ",2)",
+            Scale::Four => ",4)",
+            Scale::Eight => ",8)",
         },
     }
 }
@@ -149,12 +145,11 @@ fn push_indexed<R: AsReg, A: Allocator + Copy>(
     requires index { IsTrue (R.nameable index) }
     ensures { OnOk result (string_bytes out.new ≡ string_bytes out.old ++ codes "(" ++ R.text base (Some Quadword) ++ comma dialect ++ R.text index (Some Quadword) ++ scale_text dialect scale ++ codes ")") }
 {
-    out.push_str("(")?;
+    out.push('(')?;
     base.push_to(out, alloc, Some(Size::Quadword))?;
     out.push_str(comma(dialect))?;
     index.push_to(out, alloc, Some(Size::Quadword))?;
-    out.push_str(scale_text(dialect, scale))?;
-    out.push_str(")")
+    out.push_str(scale_end(dialect, scale))
 }
 
 impl<R: AsReg> Amode<R> {
@@ -186,9 +181,9 @@ impl<R: AsReg> Amode<R> {
         match *self {
             Amode::ImmReg { base, simm32, .. } => {
                 simm32.push_to(out, dialect)?;
-                out.push_str("(")?;
+                out.push('(')?;
                 base.push_to(out, alloc, Some(Size::Quadword))?;
-                out.push_str(")")
+                out.push(')')
             }
             Amode::ImmRegRegShift {
                 base,
