@@ -1,7 +1,6 @@
-use Rattle.std.proofs.Common.{◌≡◌, ℕ, ◌+◌, ◌*◌, arith, true, refl, ◌∙◌, ap, Option, Some, None, List, [], ◌++◌, length}
+use Rattle.std.proofs.Common.{◌≡◌, ℕ, ◌+◌, ◌*◌, arith, true, refl, ◌∙◌, ap, Option, Some, None, length}
 use Rattle.std.specs.Prelude.{is_some}
 use Rattle.std.specs.Int.{from_bool}
-use Rattle.std.proofs.lemmas.List.{length-append}
 use Rattle.cax64_address.specs.Emitted.{target_actions}
 use Rattle.cax64_sink.specs.Puts.{puts}
 use Rattle.cax64_sink.specs.Rest.{long_actions, word_actions, is_imm_len}
