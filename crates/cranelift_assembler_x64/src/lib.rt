@@ -29,7 +29,7 @@ pub use cax64_address::operand::{GprMem, XmmMem};
 pub use cax64_address::tail::emit_modrm_sib_disp;
 pub use cax64_address::text::Dialect;
 pub use cax64_encode_all::{encode_all, encode_all_whole};
-pub use cax64_encoder::{Fault, Instruction};
+pub use cax64_encoder::{Fault, Instruction, RoomNeeded};
 pub use cax64_feature::{AvailableFeatures, Feature, Features};
 pub use cax64_immediate::{
     Extension, Imm8, Imm16, Imm32, Imm64, OutOfRange, Simm8, Simm16, Simm32,
