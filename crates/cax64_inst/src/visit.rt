@@ -1,5 +1,5 @@
-//! Visits. Each arm that borrows what is within costs the prover a table of the whole enumeration, once more for every arm
-//! before it, so no function has many: they are asked by groups of variants. An arm that binds nothing costs little.
+//! Visits. Each arm that borrows what is within costs the prover a table of the whole enumeration, once more for every
+//! arm before it, so no function has many: they are asked by groups of variants. An arm that binds nothing costs little.
 
 ghost use Rattle.std.specs.Prelude.{◌≡◌};
 ghost use Rattle.cax64_inst.specs.Group.{group_of};
@@ -11,10 +11,10 @@ use cax64_operand::{RegisterVisitor, RowAndOperands};
 use cax64_register::Registers;
 
 impl<R: Registers> Inst<R> {
-    /// Visits what is within. The kinds are told apart here, and each has a call of its own: of the match of its group, which
-    /// is inlined there, the compiler keeps what is for that kind. So all is one jump, and those kinds that are visited alike
-    /// share its target; matches one behind the other would be as many jumps, and a match of the groups and one within the
-    /// group two.
+    /// Visits what is within. The kinds are told apart here, and each has a call of its own: of the match of its group,
+    /// which is inlined there, the compiler keeps what is for that kind. So all is one jump, and those kinds that are
+    /// visited alike share its target; matches one behind the other would be as many jumps, and a match of the groups and
+    /// one within the group two.
     #[tactic(auto, unfolding(crate::specs::Inst::row_of, crate::specs::Inst::operands_of, crate::specs::Group::group_of))]
     pub(crate) fn visit_within<V: RegisterVisitor<R>>(&mut self, visitor: &mut V)
         ensures run { OperandsRun R.WriteGpr.eq V.steps visitor.old (operands_of self.old) (operands_of self.new) visitor.new }
