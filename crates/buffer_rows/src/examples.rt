@@ -180,3 +180,45 @@ fn a_loop_reads_back(rt: HostRuntime) {
     assert!(rt; read_at(&code, 8) == Some((Row::callq_m, 6)));
     assert!(rt; read_at(&code, 14) == Some((Row::jmpq_m, -20)));
 }
+
+/// Keys of constants, small and large, in order and not.
+const KEYS: [u32; 10] = [0, 31, 7, 32, 33, 100, u32::MAX, 34, 36, 35];
+
+/// A buffer with a constant at each byte, by their keys.
+fn with_constants(alloc: Global) -> Result<Option<CodeBuffer<Global>>, SinkError> {
+    let mut buffer = CodeBuffer::new(alloc);
+    for key in KEYS {
+        if buffer.bind_constant(Constant(key)).is_err() {
+            return Ok(None);
+        }
+        buffer.put1(0)?;
+    }
+    Ok(Some(buffer))
+}
+
+/// Whether each constant is bound to its byte, and stays so where it's bound again.
+fn are_bound(buffer: &mut CodeBuffer<Global>) -> bool {
+    for (place, key) in KEYS.iter().enumerate() {
+        let again = buffer.bind_constant(Constant(*key)).err();
+        let bound = buffer.place_of(DeferredTarget::Constant(Constant(*key)));
+        if again != Some(BindError::Twice) || bound != Some(place) {
+            return false;
+        }
+    }
+    true
+}
+
+#[test]
+fn constants_have_keys_of_all_sizes(rt: HostRuntime) {
+    let mut buffer = with_constants(rt.alloc())
+        .expect(&rt, "memory")
+        .expect(&rt, "constants");
+    assert!(rt; are_bound(&mut buffer));
+    for key in [1u32, 30, 37, 99, 101] {
+        assert!(rt;
+            buffer
+                .place_of(DeferredTarget::Constant(Constant(key)))
+                .is_none()
+        );
+    }
+}

@@ -2,7 +2,7 @@
 
 use crate::making::{FIRST, POOL, call_to, code_of, compare_with, push};
 use cax64_encoder::instruction::Instruction;
-use cax64_sink::{Constant, Label, SinkError};
+use cax64_sink::{Constant, DeferredTarget, Label, SinkError};
 use linked_list_allocator::LocalHeap;
 use std::alloc::{AllocError, Allocator, Global};
 use x64_code_buffer::{BindError, CodeBuffer};
@@ -52,17 +52,19 @@ fn push_again<I: Instruction, A: Allocator>(
 fn constant_again<A: Allocator + Clone>(
     buffer: &mut CodeBuffer<A>,
     filler: &mut Filler<A>,
+    constant: Constant,
 ) -> Option<()> {
-    let error = match buffer.bind_constant(Constant(7)) {
+    let error = match buffer.bind_constant(constant) {
         Ok(()) => return Some(()),
         Err(error) => error,
     };
-    if error != BindError::NoMemory || buffer.place_of(POOL).is_some() {
+    let bound = buffer.place_of(DeferredTarget::Constant(constant));
+    if error != BindError::NoMemory || bound.is_some() {
         return None;
     }
     filler.constants = filler.constants.saturating_add(1);
     filler.held = None;
-    buffer.bind_constant(Constant(7)).ok()
+    buffer.bind_constant(constant).ok()
 }
 
 const CODE: [u8; 14] = [0xFF, 0x15, 8, 0, 0, 0, 0x0F, 0xC2, 0x05, 0, 0, 0, 0, 0];
@@ -73,7 +75,7 @@ fn is_made<A: Allocator + Copy>(alloc: A, filler: &mut Filler<A>) -> Option<bool
     let label = label_again(&mut buffer, filler)?;
     push_again(&mut buffer, filler, &call_to(FIRST))?;
     push_again(&mut buffer, filler, &compare_with(POOL))?;
-    constant_again(&mut buffer, filler)?;
+    constant_again(&mut buffer, filler, Constant(7))?;
     buffer.bind(label).ok()?;
     let code = code_of(buffer)?;
     Some(code.as_slice() == CODE.as_slice())
@@ -112,4 +114,43 @@ fn each_growth_is_refused_in_turn(rt: HostRuntime) {
     assert!(rt; labels > 0);
     assert!(rt; pushes > 0);
     assert!(rt; constants > 0);
+}
+
+/// A constant whose key is large.
+const FAR: Constant = Constant(1_000_000);
+
+/// Whether it's bound.
+fn is_far_bound<A: Allocator + Copy>(alloc: A, filler: &mut Filler<A>) -> bool {
+    let mut buffer = CodeBuffer::new(alloc);
+    let bound = constant_again(&mut buffer, filler, FAR);
+    bound.is_some() && buffer.place_of(DeferredTarget::Constant(FAR)) == Some(0)
+}
+
+/// How many bindings of it were refused, over heaps that are filled ever less; None where it isn't bound.
+fn far_refusals(alloc: Global) -> Result<Option<usize>, AllocError> {
+    let mut constants: usize = 0;
+    for free in 0..64usize {
+        let heap = LocalHeap::new(alloc, 4096)?;
+        let filled = 4096usize.saturating_sub(free.saturating_mul(16));
+        if let Ok(held) = Vec::with_capacity(&heap, filled) {
+            let mut filler = Filler {
+                held: Some(held),
+                labels: 0,
+                pushes: 0,
+                constants: 0,
+            };
+            if !is_far_bound(&heap, &mut filler) {
+                return Ok(None);
+            }
+            constants = constants.saturating_add(filler.constants);
+        }
+    }
+    Ok(Some(constants))
+}
+
+#[test]
+fn a_growth_for_a_large_key_is_refused(rt: HostRuntime) {
+    let refused = far_refusals(rt.alloc()).expect(&rt, "memory");
+    let constants = refused.expect(&rt, "a bound constant");
+    assert!(rt; constants > 1);
 }
