@@ -6,6 +6,7 @@ ghost use Rattle.cax64_text.specs.Operand.{target_text, imm_text, named_imm, imm
 
 use crate::names::RegisterNames;
 use crate::style::branch_length;
+use cax64_address::number::{push_hex_digits, push_hexadecimal, push_short_number};
 use cax64_address::operand::{GprMem, XmmMem};
 use cax64_address::text::Dialect;
 use cax64_immediate::{Simm8, Simm32};
@@ -23,15 +24,18 @@ pub(crate) fn push_target<A: Allocator>(
 {
     let bits = target.cast_unsigned();
     match dialect {
-        Dialect::Att if bits < 10 => write!(out, "{bits}"),
-        _ => write!(out, "0x{bits:x}"),
+        Dialect::Att => push_short_number(out, bits),
+        Dialect::Xed => push_hexadecimal(out, bits),
     }
 }
 
 pub(crate) fn push_number<A: Allocator>(out: &mut String<A>, bits: u64) -> Result<(), AllocError>
     ensures { OnOk result (string_bytes out.new ≡ string_bytes out.old ++ immediate_text.imm_text bits) }
 {
-    write!(out, "$0x{bits:x}")
+    out.push('$')?;
+    out.push('0')?;
+    out.push('x')?;
+    push_hex_digits(out, bits)
 }
 
 /// Adds the text of an immediate.
