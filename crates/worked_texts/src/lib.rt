@@ -12,4 +12,6 @@ mod immediates;
 #[cfg(test)]
 mod instructions;
 #[cfg(test)]
+mod numbers;
+#[cfg(test)]
 mod parts;
