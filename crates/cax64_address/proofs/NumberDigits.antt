@@ -1,9 +1,9 @@
--- The hexadecimal digits of a number are those of its front, and then a fixed number of others.
-use Rattle.std.proofs.Common.{◌≡◌, ℕ, zero, suc, ◌+◌, ◌/◌, ◌%◌, ◌^◌, ◌<◌, ◌≤◌, arith, refl, ap, sym, ◌∙◌, Bool, true, false, cond, List, [], ◌∷◌, ◌++◌, append_assoc, ◌⊎◌, inl, inr}
-use Rattle.std.specs.Fmt.{digit_glyph, digits, digits_onto}
-use Rattle.std.proofs.lemmas.Fmt.{hex_one_digit, hex_two_digits, decimal_digit}
+-- The digits of a number are those of its front, and then a fixed number of others.
+use Rattle.std.proofs.Common.{◌≡◌, ℕ, zero, suc, ◌+◌, ◌/◌, ◌%◌, ◌^◌, ◌<◌, ◌≤◌, arith, refl, ap, sym, ◌∙◌, Bool, false, cond, List, [], ◌∷◌, ◌++◌, append_assoc, ◌⊎◌, inl, inr}
+use Rattle.std.specs.Fmt.{decimal, digit_glyph, digits, digits_onto}
+use Rattle.std.proofs.lemmas.Fmt.{decimal_step}
 use Rattle.cax64_address.specs.Digits.{two_digits, four_digits, eight_digits}
-use borrow.Author.Tests.{eq-eqb, ne_eqb}
+use borrow.Author.Tests.{eq-eqb, ne_eqb, lt-ltb}
 
 abbrev spell : ℕ → ℕ → List ℕ → List ℕ
 spell k n acc = digits_onto k 16 false n acc
@@ -81,3 +81,12 @@ add_four old mid new n h small a b = join old mid new _ _ _ (hex_four n h small)
 
 pub add_eight : (old mid new : List ℕ) (n : ℕ) → 4294967296 ≤ n → n < 2 ^ 64 → mid ≡ old ++ digits 16 false (n / 4294967296) → new ≡ mid ++ eight_digits (n % 4294967296) → new ≡ old ++ digits 16 false n
 add_eight old mid new n h small a b = join old mid new _ _ _ (hex_eight n h small) a b
+
+-- decimal digits: those of the front, and then the last
+
+decimal_glyph : (d : ℕ) → d < 10 → digit_glyph false d ≡ 48 + d
+decimal_glyph d h = ap (λ (b : Bool). cond b (48 + d) (87 + d)) (lt-ltb d 10 h)
+
+pub add_last : (old mid new : List ℕ) (n : ℕ) → 10 ≤ n → n < 2 ^ 64 → mid ≡ old ++ decimal (n / 10) → new ≡ mid ++ (digit_glyph false (n % 10) ∷ []) → new ≡ old ++ decimal n
+add_last old mid new n h small a b =
+    join old mid new _ _ _ (decimal_step n h small) a (b ∙ ap (λ d. mid ++ (d ∷ [])) (decimal_glyph (n % 10) (omega arith)))

@@ -2,7 +2,7 @@
 //! long.
 
 ghost use Rattle.std.specs.Prelude.{◌≡◌, ◌++◌, ◌∷◌, ◌<◌, ◌≤◌, [], OnOk, false, string_bytes};
-ghost use Rattle.std.specs.Fmt.{digit_glyph, digits};
+ghost use Rattle.std.specs.Fmt.{decimal, digit_glyph, digits};
 ghost use Rattle.cax64_address.specs.Digits.{eight_digits, four_digits, two_digits};
 ghost use Rattle.cax64_address.specs.Text.{hexadecimal, short_number};
 
@@ -89,6 +89,40 @@ fn push_hex32<A: Allocator>(out: &mut String<A>, number: u32) -> Result<(), Allo
     }
     push_hex16(out, (number / 65536) as u16)?;
     push_four(out, (number % 65536) as u16)
+}
+
+/// Adds a decimal digit.
+#[tactic(auto, using(std::proofs::lemmas::Fmt::decimal_digit))]
+#[inline(always)]
+fn push_decimal_digit<A: Allocator>(out: &mut String<A>, digit: u8) -> Result<(), AllocError>
+    requires { digit < 10 }
+    ensures { OnOk result (string_bytes out.new ≡ string_bytes out.old ++ decimal digit) }
+{
+    push_digit(out, digit)
+}
+
+/// Adds one decimal digit or two.
+#[inline(always)]
+fn push_decimal_two<A: Allocator>(out: &mut String<A>, byte: u8) -> Result<(), AllocError>
+    requires { byte < 100 }
+    ensures { OnOk result (string_bytes out.new ≡ string_bytes out.old ++ decimal byte) }
+{
+    if byte < 10 {
+        return push_decimal_digit(out, byte);
+    }
+    push_decimal_digit(out, byte / 10)?;
+    push_digit(out, byte % 10)
+}
+
+/// Adds the decimal digits.
+pub(crate) fn push_decimal<A: Allocator>(out: &mut String<A>, byte: u8) -> Result<(), AllocError>
+    ensures { OnOk result (string_bytes out.new ≡ string_bytes out.old ++ decimal byte) }
+{
+    if byte < 100 {
+        return push_decimal_two(out, byte);
+    }
+    push_decimal_two(out, byte / 10)?;
+    push_digit(out, byte % 10)
 }
 
 /// Adds the hexadecimal digits, in lower case and without leading zeros.

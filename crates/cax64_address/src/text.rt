@@ -6,7 +6,7 @@ ghost use Rattle.cax64_address.specs.Text.{magnitude_text, offset_text, late_tex
 ghost use Rattle.cax64_address.specs.declared.text.Dialect.TheVariants.{Att, Xed};
 
 use crate::amode::{Amode, Scale};
-use crate::number::{push_hexadecimal, push_short_number};
+use crate::number::{push_decimal, push_hexadecimal, push_short_number};
 use crate::offset::{AmodeOffset, AmodeOffsetPlusKnownOffset};
 use crate::operand::{GprMem, XmmMem};
 use cax64_register::{AsReg, Size};
@@ -82,7 +82,9 @@ impl AmodeOffsetPlusKnownOffset {
         ensures { OnOk result (string_bytes out.new ≡ string_bytes out.old ++ late_text self.now.offset ++ offset_text dialect self.now.simm32) }
     {
         if let Some(key) = self.offset {
-            write!(out, "<offset:{key}>+")?;
+            out.push_str("<offset:")?;
+            push_decimal(out, key)?;
+            out.push_str(">+")?;
         }
         self.simm32.push_to(out, dialect)
     }

@@ -1,6 +1,6 @@
 use Rattle.std.proofs.Common.{arith}
 use Rattle.std.proofs.lemmas.Result.{on_ok_weaker}
-use Rattle.cax64_address.proofs.HexDigits.{add_four}
+use Rattle.cax64_address.proofs.NumberDigits.{add_four}
 use Rattle.cax64_address.proofs.number.push_hex32.Goals as goal
 
 pub returns : goal.returns
