@@ -12,6 +12,9 @@ use std::alloc::Allocator;
 use std::collections::HashMap;
 use std::hash::{BuildHasherDefault, FoldHasher};
 
+/// For how many labels the first block of memory has room, where there is memory for so many.
+const FIRST_LABELS: usize = 16;
+
 /// Constants with keys below this stand in the list, in whatever order they are bound.
 const SMALL: usize = 32;
 
@@ -90,6 +93,10 @@ impl<A: Allocator> Bindings<A> {
             return Err(SinkError::Full);
         }
         let label = Label(self.labels.len() as u32);
+        if self.labels.capacity() == 0 {
+            // A block of its own for each of the first labels would cost more. Where it's refused, a smaller one may not be.
+            let _ = self.labels.reserve(FIRST_LABELS);
+        }
         self.labels.push(None).map_err(|_| SinkError::NoMemory)?;
         Ok(label)
     }
