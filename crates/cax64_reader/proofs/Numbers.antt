@@ -38,14 +38,6 @@ number_step zero bytes h = absurd (h refl)
 number_step (suc size) [] h = refl
 number_step (suc size) (byte ∷ bytes) h = rw (one_less size) refl
 
-pub power_step : (size : ℕ) → size ≤ 4 → size ≢ 0 → (256 ^ size ≡ 256 * 256 ^ (size - 1)) × (256 ^ (size - 1) ≤ 2 ^ 24)
-power_step zero h n = absurd (n refl)
-power_step (suc zero) h n = (refl, omega arith)
-power_step (suc (suc zero)) h n = (refl, omega arith)
-power_step (suc (suc (suc zero))) h n = (refl, omega arith)
-power_step (suc (suc (suc (suc zero)))) h n = (refl, omega arith)
-power_step (suc (suc (suc (suc (suc size))))) h n = absurd (omega arith)
-
 pub nothing_left : (bytes : List ℕ) → None ≡ next_byte bytes → bytes ≡ []
 nothing_left [] h = refl
 nothing_left (byte ∷ bytes) h = cc

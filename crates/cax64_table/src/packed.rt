@@ -1,4 +1,5 @@
-//! The table, one packed number for each row. Nothing but this module and `numbers` knows how a row is packed.
+//! The table, one packed number for each row. Beside this module only `numbers`, and `prefix` and `lookup` where they
+//! compare a row with bytes, know how a row is packed.
 
 ghost use Rattle.std.specs.Prelude.{◌≡◌, ◌≤◌, ◌/◌, ◌%◌, ◌^◌, ◌<◌};
 ghost use Rattle.cax64_machine_code.specs.Rows.{line_of};
