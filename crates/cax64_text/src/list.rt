@@ -1,11 +1,12 @@
 //! Lists of operands.
 
-ghost use Rattle.std.specs.Prelude.{◌≡◌, ◌++◌, ◌∷◌, ◌<◌, [], IsTrue, IfSome, IfOk, OnOk, true, string_bytes};
+ghost use Rattle.std.specs.Prelude.{◌≡◌, ◌++◌, ◌∷◌, ◌<◌, [], IsTrue, IfSome, OnOk, true, string_bytes};
 ghost use Rattle.cax64_operand.specs.OperandList.{list_of, nop_of};
-ghost use Rattle.cax64_text.specs.Operand.{all_nameable, has_register, named_predicate, first_of, listed, operand_nameable, piece, print_order, still_first};
+ghost use Rattle.cax64_text.specs.Operand.{all_nameable, has_register, named_predicate, first_of, listed, operand_nameable, print_order};
 
 use crate::names::RegisterNames;
-use crate::operand::{is_register, is_shown, named_operand, operand_nameable, push_operand};
+use crate::operand::{is_register, named_operand, operand_nameable};
+use crate::piece::add_piece;
 use cax64_address::text::Dialect;
 use cax64_machine_code::row::Row;
 use cax64_operand::{Nop, Operand, Operands};
@@ -108,29 +109,6 @@ pub fn all_nameable<R: Registers>(operands: &Operands<R>) -> bool
     }
 }
 
-/// Adds an operand to a list, and says whether the next one is still the first.
-fn push_piece<R: Registers, A: Allocator + Copy>(
-    out: &mut String<A>,
-    alloc: A,
-    dialect: Dialect,
-    row: Row,
-    first: bool,
-    operand: &Operand<R>,
-) -> Result<bool, AllocError>
-    requires { IsTrue (operand_nameable ⟦<R as RegisterNames>⟧.names operand.now) }
-    ensures text { OnOk result (string_bytes out.new ≡ string_bytes out.old ++ piece ⟦<R as RegisterNames>⟧.names dialect row first operand.now) }
-    ensures first { IfOk result (λ still. still ≡ still_first dialect first operand.now) }
-{
-    if !is_shown(dialect, operand) {
-        return Ok(first);
-    }
-    if !first {
-        out.push_str(", ")?;
-    }
-    push_operand(out, alloc, dialect, row, operand)?;
-    Ok(false)
-}
-
 fn push_one<R: Registers, A: Allocator + Copy>(
     out: &mut String<A>,
     alloc: A,
@@ -141,7 +119,7 @@ fn push_one<R: Registers, A: Allocator + Copy>(
     requires a { IsTrue (operand_nameable ⟦<R as RegisterNames>⟧.names a.now) }
     ensures { OnOk result (string_bytes out.new ≡ string_bytes out.old ++ listed ⟦<R as RegisterNames>⟧.names dialect row true (a.now ∷ [])) }
 {
-    push_piece(out, alloc, dialect, row, true, a)?;
+    add_piece(out, alloc, dialect, row, true, a)?;
     Ok(())
 }
 
@@ -157,8 +135,8 @@ fn push_two<R: Registers, A: Allocator + Copy>(
     requires b { IsTrue (operand_nameable ⟦<R as RegisterNames>⟧.names b.now) }
     ensures { OnOk result (string_bytes out.new ≡ string_bytes out.old ++ listed ⟦<R as RegisterNames>⟧.names dialect row true (a.now ∷ b.now ∷ [])) }
 {
-    let first = push_piece(out, alloc, dialect, row, true, a)?;
-    push_piece(out, alloc, dialect, row, first, b)?;
+    let first = add_piece(out, alloc, dialect, row, true, a)?;
+    add_piece(out, alloc, dialect, row, first, b)?;
     Ok(())
 }
 
@@ -176,9 +154,9 @@ fn push_three<R: Registers, A: Allocator + Copy>(
     requires c { IsTrue (operand_nameable ⟦<R as RegisterNames>⟧.names c.now) }
     ensures { OnOk result (string_bytes out.new ≡ string_bytes out.old ++ listed ⟦<R as RegisterNames>⟧.names dialect row true (a.now ∷ b.now ∷ c.now ∷ [])) }
 {
-    let first = push_piece(out, alloc, dialect, row, true, a)?;
-    let first = push_piece(out, alloc, dialect, row, first, b)?;
-    push_piece(out, alloc, dialect, row, first, c)?;
+    let first = add_piece(out, alloc, dialect, row, true, a)?;
+    let first = add_piece(out, alloc, dialect, row, first, b)?;
+    add_piece(out, alloc, dialect, row, first, c)?;
     Ok(())
 }
 
@@ -198,10 +176,10 @@ fn push_four<R: Registers, A: Allocator + Copy>(
     requires d { IsTrue (operand_nameable ⟦<R as RegisterNames>⟧.names d.now) }
     ensures { OnOk result (string_bytes out.new ≡ string_bytes out.old ++ listed ⟦<R as RegisterNames>⟧.names dialect row true (a.now ∷ b.now ∷ c.now ∷ d.now ∷ [])) }
 {
-    let first = push_piece(out, alloc, dialect, row, true, a)?;
-    let first = push_piece(out, alloc, dialect, row, first, b)?;
-    let first = push_piece(out, alloc, dialect, row, first, c)?;
-    push_piece(out, alloc, dialect, row, first, d)?;
+    let first = add_piece(out, alloc, dialect, row, true, a)?;
+    let first = add_piece(out, alloc, dialect, row, first, b)?;
+    let first = add_piece(out, alloc, dialect, row, first, c)?;
+    add_piece(out, alloc, dialect, row, first, d)?;
     Ok(())
 }
 
@@ -223,11 +201,11 @@ fn push_five<R: Registers, A: Allocator + Copy>(
     requires e { IsTrue (operand_nameable ⟦<R as RegisterNames>⟧.names e.now) }
     ensures { OnOk result (string_bytes out.new ≡ string_bytes out.old ++ listed ⟦<R as RegisterNames>⟧.names dialect row true (a.now ∷ b.now ∷ c.now ∷ d.now ∷ e.now ∷ [])) }
 {
-    let first = push_piece(out, alloc, dialect, row, true, a)?;
-    let first = push_piece(out, alloc, dialect, row, first, b)?;
-    let first = push_piece(out, alloc, dialect, row, first, c)?;
-    let first = push_piece(out, alloc, dialect, row, first, d)?;
-    push_piece(out, alloc, dialect, row, first, e)?;
+    let first = add_piece(out, alloc, dialect, row, true, a)?;
+    let first = add_piece(out, alloc, dialect, row, first, b)?;
+    let first = add_piece(out, alloc, dialect, row, first, c)?;
+    let first = add_piece(out, alloc, dialect, row, first, d)?;
+    add_piece(out, alloc, dialect, row, first, e)?;
     Ok(())
 }
 

@@ -1,18 +1,17 @@
 //! Texts of operands.
 
-ghost use Rattle.std.specs.Prelude.{◌≡◌, ◌++◌, ◌<◌, IsTrue, IfSome, OnOk, Some, codes, string_bytes};
+ghost use Rattle.std.specs.Prelude.{◌≡◌, ◌++◌, ◌<◌, IsTrue, IfSome, OnOk, string_bytes};
 ghost use Rattle.cax64_immediate.specs.Text as immediate_text;
 ghost use Rattle.cax64_text.specs.Operand.{target_text, imm_text, named_imm, imm_is_shown, is_shown, operand_text, operand_nameable, is_register, named_operand};
 
 use crate::names::RegisterNames;
-use crate::style::branch_length;
+use crate::piece::{add_imm, add_operand};
 use cax64_address::number::{push_hex_digits, push_hexadecimal, push_short_number};
 use cax64_address::operand::{GprMem, XmmMem};
 use cax64_address::text::Dialect;
-use cax64_immediate::{Simm8, Simm32};
 use cax64_machine_code::row::Row;
 use cax64_operand::{Immediate, Operand};
-use cax64_register::{AsReg, Registers, Size};
+use cax64_register::{AsReg, Registers};
 use std::alloc::{AllocError, Allocator};
 
 pub(crate) fn push_target<A: Allocator>(
@@ -47,36 +46,9 @@ pub fn push_imm<A: Allocator>(
 ) -> Result<(), AllocError>
     ensures { OnOk result (string_bytes out.new ≡ string_bytes out.old ++ imm_text dialect row imm) }
 {
-    match imm {
-        Immediate::Imm8(value) => push_number(out, u64::from(value)),
-        Immediate::Imm16(value) => push_number(out, u64::from(value)),
-        Immediate::Imm32(value) => push_number(out, u64::from(value)),
-        Immediate::Simm8(value, extension) => {
-            push_number(out, Simm8::new(value).extended(extension))
-        }
-        Immediate::Simm32(value, extension) => {
-            push_number(out, Simm32::new(value).extended(extension))
-        }
-        Immediate::Distance8(value) => {
-            push_target(
-                out,
-                dialect,
-                i64::from(value) + i64::from(branch_length(row)),
-            )
-        }
-        Immediate::Distance32(value) => {
-            push_target(
-                out,
-                dialect,
-                i64::from(value) + i64::from(branch_length(row)),
-            )
-        }
-        Immediate::Predicate(value) => push_number(out, u64::from(value)),
-        Immediate::VexPredicate(value) => push_number(out, u64::from(value)),
-    }
+    add_imm(out, dialect, row, true, imm)
 }
 
-#[inline(always)]
 fn named_imm(imm: Immediate) -> Option<u8>
     ensures value { result ≡ named_imm imm }
     ensures known { IfSome result (λ v. v < 32) }
@@ -162,22 +134,6 @@ pub fn operand_nameable<R: Registers>(operand: &Operand<R>) -> bool
     }
 }
 
-fn push_two_registers<R: AsReg, A: Allocator + Copy>(
-    out: &mut String<A>,
-    alloc: A,
-    first: R,
-    second: R,
-    size: Size,
-) -> Result<(), AllocError>
-    requires first { IsTrue (R.nameable first) }
-    requires second { IsTrue (R.nameable second) }
-    ensures { OnOk result (string_bytes out.new ≡ string_bytes out.old ++ R.text first (Some size) ++ codes ", " ++ R.text second (Some size)) }
-{
-    first.push_to(out, alloc, Some(size))?;
-    out.push_str(", ")?;
-    second.push_to(out, alloc, Some(size))
-}
-
 /// Adds the text of an operand that is printed.
 pub fn push_operand<R: Registers, A: Allocator + Copy>(
     out: &mut String<A>,
@@ -190,22 +146,5 @@ pub fn push_operand<R: Registers, A: Allocator + Copy>(
     requires shown { IsTrue (is_shown dialect operand.now) }
     ensures { OnOk result (string_bytes out.new ≡ string_bytes out.old ++ operand_text ⟦<R as RegisterNames>⟧.names dialect row operand.now) }
 {
-    match operand {
-        Operand::ReadGpr(reg, size) => reg.push_to(out, alloc, Some(*size)),
-        Operand::ReadWriteGpr(reg, size) => reg.push_to(out, alloc, Some(*size)),
-        Operand::WriteGpr(reg, size) => reg.push_to(out, alloc, Some(*size)),
-        Operand::WriteTwoGprs(a, b, size) => push_two_registers(out, alloc, *b, *a, *size),
-        Operand::FixedReadGpr(reg, _, Some(size)) => reg.push_to(out, alloc, Some(*size)),
-        Operand::FixedReadWriteGpr(reg, _, Some(size)) => reg.push_to(out, alloc, Some(*size)),
-        Operand::FixedReadGpr(_, _, None) => Ok(()),
-        Operand::FixedReadWriteGpr(_, _, None) => Ok(()),
-        Operand::ReadXmm(reg) => reg.push_to(out, alloc, None),
-        Operand::ReadWriteXmm(reg) => reg.push_to(out, alloc, None),
-        Operand::WriteXmm(reg) => reg.push_to(out, alloc, None),
-        Operand::ReadAmode(amode) => amode.push_to(out, alloc, dialect),
-        Operand::ReadGprMem(operand, size) => operand.push_to(out, alloc, dialect, *size),
-        Operand::ReadWriteGprMem(operand, size) => operand.push_to(out, alloc, dialect, *size),
-        Operand::ReadXmmMem(operand) => operand.push_to(out, alloc, dialect),
-        Operand::Imm(imm) => push_imm(out, dialect, row, *imm),
-    }
+    add_operand(out, alloc, dialect, row, true, operand)
 }

@@ -81,7 +81,7 @@ fn add_target<A: Allocator>(
 }
 
 #[inline(never)]
-fn add_imm<A: Allocator>(
+pub(crate) fn add_imm<A: Allocator>(
     out: &mut String<A>,
     dialect: Dialect,
     row: Row,
@@ -116,7 +116,7 @@ fn add_imm<A: Allocator>(
 /// Adds an operand that is printed. No arm stands for two kinds: what it binds would be in one of two places, and the
 /// compiler would keep the operand in memory.
 #[inline(always)]
-fn add_operand<R: Registers, A: Allocator + Copy>(
+pub(crate) fn add_operand<R: Registers, A: Allocator + Copy>(
     out: &mut String<A>,
     alloc: A,
     dialect: Dialect,

@@ -12,6 +12,8 @@ mod immediates;
 #[cfg(test)]
 mod instructions;
 #[cfg(test)]
+mod lists;
+#[cfg(test)]
 mod numbers;
 #[cfg(test)]
 mod parts;
