@@ -2,7 +2,7 @@
 
 use crate::making::{FIRST, POOL, call_to, code_of, compare_with, push};
 use cax64_encoder::instruction::Instruction;
-use cax64_sink::{Constant, DeferredTarget, Label, SinkError};
+use cax64_sink::{Constant, DeferredTarget, Label, Recorder, SinkError};
 use linked_list_allocator::LocalHeap;
 use std::alloc::{AllocError, Allocator, Global};
 use x64_code_buffer::{BindError, CodeBuffer};
@@ -153,4 +153,29 @@ fn a_growth_for_a_large_key_is_refused(rt: HostRuntime) {
     let refused = far_refusals(rt.alloc()).expect(&rt, "memory");
     let constants = refused.expect(&rt, "a bound constant");
     assert!(rt; constants > 1);
+}
+
+/// Whether room for an instruction is made in a heap of so many bytes.
+fn is_room_made(alloc: Global, free: usize) -> Result<bool, AllocError> {
+    let heap = LocalHeap::new(alloc, free)?;
+    let mut recorder = Recorder::new(&heap);
+    Ok(recorder.reserve(13, 0).is_ok())
+}
+
+/// Whether a label is given in a heap of so many bytes.
+fn is_label_given(alloc: Global, free: usize) -> Result<bool, AllocError> {
+    let heap = LocalHeap::new(alloc, free)?;
+    let mut buffer = CodeBuffer::new(&heap);
+    Ok(buffer.new_label().is_ok())
+}
+
+#[test]
+fn a_first_block_is_as_small_as_memory_wants(rt: HostRuntime) -> Result<(), AllocError> {
+    for blocks in 1..8usize {
+        assert!(rt; is_room_made(rt.alloc(), 16 * blocks)?, "{blocks}");
+    }
+    for blocks in 4..20usize {
+        assert!(rt; is_label_given(rt.alloc(), 16 * blocks)?, "{blocks}");
+    }
+    Ok(())
 }
