@@ -14,7 +14,7 @@ use crate::number::Number;
 use crate::role::{FixedNumber, PlaceOperand, Role, role_of};
 use cax64_address::amode::Amode;
 use cax64_address::offset::AmodeOffsetPlusKnownOffset;
-use cax64_operand::{Operands, RegisterFamily};
+use cax64_operand::{Operands, RegisterFamily, RowAndOperands, operands_of};
 use cax64_register::{AsReg, Registers, gpr};
 use cax64_sink::{CodeSink, KnownOffset};
 
@@ -229,4 +229,14 @@ pub fn first_fault<R: Registers, S: CodeSink>(operands: &Operands<R>, sink: &S) 
         Some(fault) => Some(fault),
         None => late_fault(&place_of(operands), sink),
     }
+}
+
+/// The fault of an instruction that can't be encoded. Its operands are listed for it, which is seldom done, so it stays out
+/// of the code of those who ask.
+#[inline(never)]
+pub(crate) fn listed_fault<I: RowAndOperands, S: CodeSink>(inst: &I, sink: &S) -> Option<Fault>
+    ensures { let roles = roles_of ⟦<I::Family as RegisterFamily>⟧.family (list_of (I.operands_of inst.now)) in
+        result ≡ first_fault (S.state sink.now).offsets (visits_of ⟦<I::Family as RegisterFamily>⟧.family.read_gpr roles) (memory_in (place_in roles)) }
+{
+    first_fault(&operands_of(inst), sink)
 }

@@ -15,10 +15,10 @@ ghost use Rattle.cax64_sink.specs.Room.{HasRoom, FallsBy};
 
 use crate::checked::Checked;
 use crate::content::Content;
-use crate::fault::{Fault, first_fault};
+use crate::fault::{Fault, listed_fault};
 use crate::room::{Counting, Measuring, RoomNeeded};
 use cax64_machine_code::row::Row;
-use cax64_operand::{RegisterFamily, RegisterVisitor, RowAndOperands, operands_of, row_of};
+use cax64_operand::{RegisterFamily, RegisterVisitor, RowAndOperands, row_of};
 use cax64_register::Registers;
 use cax64_sink::{CodeSink, SinkError};
 
@@ -114,11 +114,12 @@ impl<I: RowAndOperands> Instruction for I {
         RowAndOperands::visit(self, visitor);
     }
 
+    #[inline(always)]
     fn first_fault<S: CodeSink>(&self, sink: &S) -> Option<Fault> {
         if self.is_encodable(sink) {
             return None;
         }
-        first_fault(&operands_of(self), sink)
+        listed_fault(self, sink)
     }
 
     #[inline(always)]

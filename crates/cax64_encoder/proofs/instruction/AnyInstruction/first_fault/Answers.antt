@@ -8,4 +8,4 @@ returns-then-is_encodable-clause-fault g c =
     no_fault_where f (g.I.RowAndOperands.row_of c.args.self.now) (g.I.RowAndOperands.operands_of c.args.self.now) (g.S.CodeSink.state c.args.sink.now).offsets _ c.is_encodable.ensures c.if-is_encodable.true
 
 pub returns-clause-none : goal.returns-clause-none
-returns-clause-none g c = rw (← c.operands_of.ensures.value) (none_where_encodable _ _ c.operands_of.result _ c.first_fault.result c.first_fault.ensures)
+returns-clause-none g c = none_where_encodable _ _ (g.I.RowAndOperands.operands_of c.args.self.now) _ c.listed_fault.result c.listed_fault.ensures
