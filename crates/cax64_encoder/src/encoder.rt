@@ -125,25 +125,21 @@ fn memory_part(tail: MemoryTail) -> TailPart
     }
 }
 
-/// The tail of a base, or in its place this ModR/M byte alone, which names a register. Nothing is tested, so that
-/// nothing is guessed: a branch would cost more.
+/// A ModR/M byte alone, which names a register.
 #[inline(always)]
-fn register_or_base(is_register: bool, modrm: u8, tail: MemoryTail) -> MemoryTail
-    ensures register { is_register ≡ true → memory_actions result ≡ put (modrm ∷ []) ∷ [] }
-    ensures base { is_register ≡ false → result ≡ tail }
+fn register_part(modrm: u8) -> TailPart
+    ensures actions { tail_actions result ≡ put (modrm ∷ []) ∷ [] }
+    ensures few { length result.front ≤ 3 }
 {
-    let is_base = !is_register;
-    MemoryTail {
-        modrm: if is_register { modrm } else { tail.modrm },
-        sib: tail.sib,
-        has_sib: tail.has_sib & is_base,
-        byte: tail.byte,
-        has_byte: tail.has_byte & is_base,
-        long: if is_register { None } else { tail.long },
+    TailPart {
+        front: Short::one(modrm),
+        target: None,
+        long: None,
     }
 }
 
-/// The tail of a place, with this number in reg, before this many bytes of immediate.
+/// The tail of a place, with this number in reg, before this many bytes of immediate. It's made before the prefix, so that
+/// the compiler joins the branches on what the place is with those by which its numbers were made, and none is added.
 #[inline(always)]
 fn tail_part(reg: u8, place: &NumberedPlace, displacement: i32, bytes_at_end: u8) -> TailPart
     requires reg { reg < 16 }
@@ -165,9 +161,10 @@ fn tail_part(reg: u8, place: &NumberedPlace, displacement: i32, bytes_at_end: u8
     if let Some(target) = place.relative {
         return relative_part(relative_tail(reg, target, bytes_at_end));
     }
-    let modrm = encode_modrm(3, reg, place.base % 8);
-    let tail = memory_tail(reg, place.base, place.index, place.scale, displacement);
-    memory_part(register_or_base(place.is_register, modrm, tail))
+    if place.is_register {
+        return register_part(encode_modrm(3, reg, place.base % 8));
+    }
+    memory_part(memory_tail(reg, place.base, place.index, place.scale, displacement))
 }
 
 /// The code of the instruction of a row with these operands, whose memory operand has this displacement.
@@ -185,8 +182,8 @@ fn code_of(row: Row, form: &NumberedForm, displacement: i32) -> Code
     // Where there is a digit there is no register, which then counts as 0.
     let reg = register + numbers::digit(row);
     let imm_len = numbers::imm_len(row);
-    let prefix = prefix_of(row, register, form.vvvv, &form.place);
     let tail = tail_part(reg, &form.place, displacement, imm_len);
+    let prefix = prefix_of(row, register, form.vvvv, &form.place);
     Code {
         trap: form.place.trap,
         front: prefix.append(front::opcode(row)).append(tail.front),
