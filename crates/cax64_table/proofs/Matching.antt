@@ -1,4 +1,4 @@
-use Rattle.std.proofs.Common.{◌≡◌, ℕ, List, [], ◌∷◌, Bool, true, false, refl, ap, sym, ◌∙◌, Option, Some, None, arith, ◌⊎◌, inl, inr}
+use Rattle.std.proofs.Common.{◌≡◌, ℕ, List, [], ◌∷◌, Bool, true, false, refl, ap, sym, ◌∙◌, Option, Some, None, arith}
 use Rattle.std.specs.Prelude.{◌==◌, ◌||◌, not, if◌then◌else◌, option_map}
 use Rattle.std.proofs.lemmas.Bool.{and_parts}
 use Rattle.std.proofs.lemmas.Bool.Decides.{nat_tests}
@@ -12,7 +12,8 @@ use Rattle.cax64_machine_code.specs.declared.row.Row.TheVariants.{lock_addb_mi}
 use Rattle.cax64_machine_code.proofs.Matched.{row_found}
 use Rattle.cax64_machine_code.proofs.Uniqueness.{behind, some_if}
 use Rattle.cax64_table.specs.Cursor.{next_byte}
-use Rattle.cax64_table.specs.Matching.{front_opcode, fits, escaped_opcode, plain_opcode}
+use Rattle.cax64_table.specs.Matching.{front_opcode, escaped_opcode, plain_opcode}
+use Rattle.cax64_table.proofs.Wanted.{fits}
 
 equal : (a b : ℕ) → (a == b) ≡ true → a ≡ b
 equal a b h = grind (arith, nat_tests)

@@ -1,20 +1,20 @@
-use Rattle.std.proofs.Common.{◌≡◌, ◌≢◌, ℕ, ◌+◌, ◌*◌, ◌/◌, ◌%◌, ◌^◌, ◌<◌, refl, ap, sym, ◌∙◌, Bool, true, false, arith, Option, Some, None, lit<}
+use Rattle.std.proofs.Common.{◌≡◌, ◌≢◌, ℕ, ◌+◌, ◌*◌, ◌%◌, ◌^◌, ◌<◌, refl, ap, sym, ◌∙◌, Bool, true, false, arith, Some, None, lit<}
 use Rattle.std.proofs.lemmas.Bool.{and_parts, ltb-true}
 use Rattle.std.proofs.lemmas.Bool.Decides.{nat_tests}
 use Rattle.std.specs.Prelude.{◌&&◌, ◌||◌, ◌==◌, not, nat_lt, if◌then◌else◌}
 use Rattle.std.specs.Int.{from_bool}
 use Rattle.cax64_machine_code.specs.Line.{same_bool, same_legacy, field_matches, vvvv_matches, w_matches, prefix_matches}
-use Rattle.cax64_machine_code.specs.Prefix.{Prefix, legacy_prefix, vex_prefix, has_rex, w_of, Vex}
+use Rattle.cax64_machine_code.specs.Prefix.{Prefix, legacy_prefix, vex_prefix, has_rex, w_of}
 use Rattle.cax64_machine_code.specs.Rows.{line_of}
-use Rattle.cax64_machine_code.specs.declared.line.LegacySet.{LegacySet}
 use Rattle.cax64_machine_code.specs.declared.line.Line.{Line}
 use Rattle.cax64_machine_code.specs.declared.line.PrefixField.{PrefixField}
 use Rattle.cax64_machine_code.specs.declared.line.PrefixField.TheVariants.{LegacyField, VexField}
 use Rattle.cax64_machine_code.specs.declared.line.VvvvField.TheVariants.{VvvvRegister, Stored1111}
 use Rattle.cax64_machine_code.specs.declared.row.Row.{Row}
 use Rattle.cax64_machine_code.specs.declared.row.Row.TheVariants.{lock_addb_mi}
-use Rattle.cax64_table.specs.Packed.{bits_at, flag_at, number_of, entry_of, prefix_field, w_field, unpacked}
-use Rattle.cax64_table.specs.PrefixNumbers.{set_number, map_number, numbers_of, numbers_fit}
+use Rattle.cax64_table.specs.Matching.{numbers_fit}
+use Rattle.cax64_table.specs.Packed.{bits_at, flag_at, number_of, entry_of, prefix_field, w_field}
+use Rattle.cax64_table.specs.PrefixNumbers.{set_number, map_number, numbers_of}
 use Rattle.cax64_table.proofs.Table.{entry_is}
 
 -- The five bits of a row that are compared with those of a prefix are its set of legacy prefixes, or pp and map.
@@ -31,7 +31,7 @@ low_is _ = refl
 pub equal : (a b : ℕ) → (a == b) ≡ true → a ≡ b
 equal a b h = grind (arith, nat_tests)
 
-pub itself : (a : ℕ) → (a == a) ≡ true
+itself : (a : ℕ) → (a == a) ≡ true
 itself a = grind (arith, nat_tests)
 
 not_equal : (a b : ℕ) → a ≢ b → (a == b) ≡ false
@@ -57,7 +57,7 @@ bit_same true false h = absurd (omega arith)
 bit_same false true h = absurd (omega arith)
 bit_same false false h = refl
 
-pub same_itself : (a : Bool) → same_bool a a ≡ true
+same_itself : (a : Bool) → same_bool a a ≡ true
 same_itself true = refl
 same_itself false = refl
 

@@ -1,10 +1,10 @@
 -- What the clauses of public functions say.
 pub mod Cursor
 pub mod Prefix
+pub mod PrefixNumbers
 pub mod Digit
 pub mod Numbers
 -- Steps of the proofs.
 pub mod Packed
 pub mod Slot
-pub mod PrefixNumbers
 pub mod Matching

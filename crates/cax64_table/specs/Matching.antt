@@ -1,15 +1,13 @@
-use Rattle.std.specs.Prelude.{ℕ, ◌==◌, ◌&&◌, Bool, true, false, if◌then◌else◌, List, Option, Some, option_map, option_and_then}
-use Rattle.cax64_machine_code.specs.Line.{prefix_matches, digit_matches, same_bool}
-use Rattle.cax64_machine_code.specs.Prefix.{Prefix}
-use Rattle.cax64_machine_code.specs.Rows.{line_of}
+use Rattle.std.specs.Prelude.{ℕ, ◌==◌, ◌&&◌, ◌||◌, not, Bool, true, false, if◌then◌else◌, List, [], ◌∷◌, Option, Some, option_map, option_and_then}
 use Rattle.cax64_machine_code.specs.declared.line.Opcode.{Opcode}
+use Rattle.cax64_machine_code.specs.declared.line.TailField.{TailField}
+use Rattle.cax64_machine_code.specs.declared.line.TailField.TheVariants.{NoTail, Modrm}
 use Rattle.cax64_machine_code.specs.declared.row.Row.{Row}
 use Rattle.cax64_table.specs.Cursor.{next_byte}
-use Rattle.cax64_table.specs.Packed.{entry_of, opcode_field, tail_field}
-use Rattle.cax64_table.specs.PrefixNumbers.{numbers_fit}
+use Rattle.cax64_table.specs.Packed.{bits_at, flag_at, entry_of, tail_field}
 use Rattle.cax64_table.specs.declared.prefix.PrefixNumbers.{PrefixNumbers}
 
--- A row is looked up by the opcode at the front, and then by prefix and digit.
+-- A row is looked up by the opcode at the front and the digit behind it, and then by the prefix.
 
 abbrev pub escaped_opcode : ℕ → Opcode
 escaped_opcode byte = record { escape = true; byte = byte }
@@ -25,16 +23,20 @@ front_opcode bytes =
     else Some (plain_opcode first.0, first.1))
     (next_byte bytes)
 
--- a row asks for this prefix, and for a digit as it follows the opcode
-abbrev pub fits : Prefix → List ℕ → Row → Bool
-fits prefix rest row = prefix_matches (line_of row) prefix && digit_matches (line_of row).tail rest
+-- the numbers are those of a packed row
+abbrev pub numbers_fit : PrefixNumbers → ℕ → Bool
+numbers_fit numbers packed =
+    (bits_at packed 6 5 == numbers.low)
+    && ((not numbers.has_high || (bits_at packed 11 1 == numbers.high))
+    && ((numbers.is_free || flag_at packed 12)
+    && ((bits_at packed 4 2 == 2) || (bits_at packed 4 2 == numbers.w))))
 
--- the opcodes are the same
-abbrev pub is_opcode : Opcode → Opcode → Bool
-is_opcode wanted found = same_bool found.escape wanted.escape && (found.byte == wanted.byte)
+-- what follows the opcode is there, if the row has a tail
+abbrev pub stands : TailField → List ℕ → Bool
+stands NoTail rest = true
+stands (Modrm reg place) [] = false
+stands (Modrm reg place) (byte ∷ rest) = true
 
--- a row has this opcode, and asks for these numbers of a prefix and for a digit as it follows the opcode
-abbrev pub is_wanted : PrefixNumbers → Opcode → List ℕ → Row → Bool
-is_wanted numbers opcode rest row =
-    is_opcode opcode (opcode_field (entry_of row))
-    && (numbers_fit numbers (entry_of row) && digit_matches (tail_field (entry_of row)) rest)
+-- a row asks for these numbers of a prefix, and what it asks for behind the opcode is there
+abbrev pub is_wanted : PrefixNumbers → List ℕ → Row → Bool
+is_wanted numbers rest row = numbers_fit numbers (entry_of row) && stands (tail_field (entry_of row)) rest

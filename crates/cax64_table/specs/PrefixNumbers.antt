@@ -1,8 +1,7 @@
-use Rattle.std.specs.Prelude.{ℕ, ◌+◌, ◌*◌, ◌==◌, ◌&&◌, ◌||◌, not, nat_lt, Bool, true, false, if◌then◌else◌}
+use Rattle.std.specs.Prelude.{ℕ, ◌+◌, ◌*◌, ◌==◌, ◌&&◌, nat_lt, true, if◌then◌else◌}
 use Rattle.std.specs.Int.{from_bool}
 use Rattle.cax64_machine_code.specs.Prefix.{Prefix, legacy_prefix, vex_prefix, has_rex, w_of}
 use Rattle.cax64_machine_code.specs.declared.line.LegacySet.{LegacySet}
-use Rattle.cax64_table.specs.Packed.{bits_at, flag_at}
 use Rattle.cax64_table.specs.declared.prefix.PrefixNumbers.{PrefixNumbers}
 
 -- A prefix as the numbers that are compared with a row's.
@@ -28,11 +27,3 @@ numbers_of (vex_prefix vex) = record {
   w = vex.w;
   is_free = vex.vvvv == 0;
 }
-
--- the numbers are those of a packed row
-abbrev pub numbers_fit : PrefixNumbers → ℕ → Bool
-numbers_fit numbers packed =
-    (bits_at packed 6 5 == numbers.low)
-    && ((not numbers.has_high || (bits_at packed 11 1 == numbers.high))
-    && ((numbers.is_free || flag_at packed 12)
-    && ((bits_at packed 4 2 == 2) || (bits_at packed 4 2 == numbers.w))))

@@ -1,11 +1,11 @@
-//! Which rows may have an opcode. Each opcode has a slot, or one for each digit where its rows have one, and the rows of a
+//! Which rows have an opcode. Each opcode has a slot, or one for each digit where its rows have one, and the rows of a
 //! slot stand side by side: one look-up in place of a search.
 
 ghost use Rattle.std.specs.Prelude.{◌≡◌, ◌<◌, ◌≤◌, true, Contains, length, slice_range};
 ghost use Rattle.cax64_machine_code.specs.Line.{digit_matches};
 ghost use Rattle.cax64_machine_code.specs.Rows.{line_of};
 ghost use Rattle.cax64_machine_code.specs.declared.row.Row.{Row};
-ghost use Rattle.cax64_table.specs.Slot.{slot_of};
+ghost use Rattle.cax64_table.specs.Slot.{InSlot, slot_of};
 
 use cax64_machine_code::line::Opcode;
 use cax64_machine_code::row::Row;
@@ -232,10 +232,11 @@ fn part(rows: &[Row], start: usize, end: usize) -> &[Row]
     &rows[start..end]
 }
 
-/// The rows that may have this opcode, and the digit that the next byte holds.
+/// The rows that have this opcode, and the digit that the next byte holds, if they have digits.
 #[inline(always)]
 pub(crate) fn rows_for(opcode: Opcode, rest: &[u8]) -> &'static [Row]
-    ensures { (row : Row) → (line_of row).opcode ≡ opcode → digit_matches (line_of row).tail rest.now ≡ true → Contains result.now row }
+    ensures all { (row : Row) → (line_of row).opcode ≡ opcode → digit_matches (line_of row).tail rest.now ≡ true → Contains result.now row }
+    ensures only { (row : Row) → Contains result.now row → InSlot opcode rest.now row }
 {
     let slot = slot(opcode, rest);
     let start = usize::from(STARTS[slot]);

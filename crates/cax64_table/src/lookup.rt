@@ -2,22 +2,26 @@
 
 ghost use Rattle.std.specs.Prelude.{◌≡◌, option_map, IfSome, IfNone, true, false};
 ghost use Rattle.cax64_machine_code.specs.Line.{digit_matches};
+ghost use Rattle.cax64_machine_code.specs.Prefix as definitions;
 ghost use Rattle.cax64_machine_code.specs.Reading.{row_at};
 ghost use Rattle.cax64_machine_code.specs.Rows.{line_of, all_rows};
 ghost use Rattle.cax64_machine_code.specs.declared.row.Row.{Row};
 ghost use Rattle.cax64_table.specs.Cursor.{behind};
-ghost use Rattle.cax64_table.specs.Matching.{front_opcode, fits, is_opcode, is_wanted};
-ghost use Rattle.cax64_table.specs.Packed.{opcode_field, tail_field};
+ghost use Rattle.cax64_table.specs.Matching.{front_opcode, is_wanted, stands};
+ghost use Rattle.cax64_table.specs.Packed.{tail_field};
 ghost use Rattle.cax64_table.specs.Prefix.{prefix_of};
+ghost use Rattle.cax64_table.specs.PrefixNumbers.{numbers_of};
+ghost use Rattle.cax64_table.specs.Slot.{InSlot};
 
 use crate::cursor::next;
 use crate::index::rows_for;
-use crate::packed::{bits, entry, flag};
+use crate::packed::{bits, entry};
 use crate::prefix::{Prefix, PrefixNumbers};
 use cax64_machine_code::line::Opcode;
 use cax64_machine_code::row::Row;
 
 /// The opcode at the front, and what follows it. No row has the opcode 0F alone.
+#[inline(always)]
 fn opcode_at(bytes: &[u8]) -> Option<(Opcode, &[u8])>
     ensures { behind result ≡ front_opcode bytes.now }
 {
@@ -41,64 +45,50 @@ fn opcode_at(bytes: &[u8]) -> Option<(Opcode, &[u8])>
     ))
 }
 
-/// The next byte has the digit that a row asks for.
+/// What follows the opcode is there, if the row has a tail.
 #[inline(always)]
-fn digit_fits(packed: u64, rest: &[u8]) -> bool
-    ensures { result ≡ digit_matches (tail_field packed) rest.now }
+fn tail_stands(packed: u64, rest: &[u8]) -> bool
+    ensures { result ≡ stands (tail_field packed) rest.now }
 {
-    let kind = bits(packed, 15, 2);
-    if kind == 0 {
-        return true;
-    }
-    match rest.first() {
-        None => false,
-        Some(modrm) => kind != 1 || *modrm / 8 % 8 == bits(packed, 17, 4),
-    }
+    bits(packed, 15, 2) == 0 || !rest.is_empty()
 }
 
-/// A row has this opcode.
+/// The prefix and what follows the opcode are those that a row asks for, of the rows that have this opcode and digit.
 #[inline(always)]
-fn opcode_fits(packed: u64, opcode: Opcode) -> bool
-    ensures { result ≡ is_opcode opcode (opcode_field packed) }
-{
-    flag(packed, 29) == opcode.escape && bits(packed, 21, 8) == opcode.byte
-}
-
-/// A row has this opcode, and the prefix and what follows the opcode are those that it asks for.
-#[inline(always)]
-fn row_fits(numbers: PrefixNumbers, opcode: Opcode, rest: &[u8], row: Row) -> bool
-    ensures { result ≡ is_wanted numbers opcode rest.now row }
+fn row_fits(numbers: PrefixNumbers, rest: &[u8], row: Row) -> bool
+    ensures { result ≡ is_wanted numbers rest.now row }
 {
     let packed = entry(row);
-    opcode_fits(packed, opcode) && numbers.fit(packed) && digit_fits(packed, rest)
+    numbers.fit(packed) && tail_stands(packed, rest)
 }
 
-/// The row of this opcode that fits.
+/// The row of this opcode that fits. No opcode and no digit is compared, since those of the slot's rows are known.
 #[inline(always)]
 fn row_with(numbers: PrefixNumbers, opcode: Opcode, rest: &[u8]) -> Option<Row>
-    ensures found { IfSome result (λ row. is_wanted numbers opcode rest.now row ≡ true) }
-    ensures absent { IfNone result ((row : Row) → (line_of row).opcode ≡ opcode → digit_matches (line_of row).tail rest.now ≡ true → is_wanted numbers opcode rest.now row ≡ false) }
+    ensures found { IfSome result (λ row. InSlot opcode rest.now row × (is_wanted numbers rest.now row ≡ true)) }
+    ensures absent { IfNone result ((row : Row) → (line_of row).opcode ≡ opcode → digit_matches (line_of row).tail rest.now ≡ true → is_wanted numbers rest.now row ≡ false) }
 {
     rows_for(opcode, rest)
         .iter()
         .copied()
-        .find(|row| row_fits(numbers, opcode, rest, *row))
+        .find(|row| row_fits(numbers, rest, *row))
 }
 
-/// The row of this opcode that fits.
+/// The row that a prefix of these numbers and the bytes behind it match, and what follows its opcode. Of numbers that no
+/// prefix has nothing is said.
 #[inline(always)]
-fn row_of(prefix: &Prefix, opcode: Opcode, rest: &[u8]) -> Option<Row>
-    ensures found { IfSome result (λ row. ((line_of row).opcode ≡ opcode) × (fits (prefix_of prefix.now) rest.now row ≡ true)) }
-    ensures absent { IfNone result ((row : Row) → (line_of row).opcode ≡ opcode → fits (prefix_of prefix.now) rest.now row ≡ false) }
+pub fn row_for<'a>(numbers: PrefixNumbers, bytes: &'a [u8]) -> Option<(Row, &'a [u8])>
+    ensures { (p : definitions.Prefix) → numbers ≡ numbers_of p → behind result ≡ row_at all_rows p bytes.now }
 {
-    row_with(prefix.numbers(), opcode, rest)
+    let (opcode, rest) = opcode_at(bytes)?;
+    let row = row_with(numbers, opcode, rest)?;
+    Some((row, rest))
 }
 
 /// The row that a prefix and the bytes behind it match, and what follows its opcode.
+#[inline(always)]
 pub fn row_at<'a>(prefix: &Prefix, bytes: &'a [u8]) -> Option<(Row, &'a [u8])>
     ensures { behind result ≡ row_at all_rows (prefix_of prefix.now) bytes.now }
 {
-    let (opcode, rest) = opcode_at(bytes)?;
-    let row = row_of(prefix, opcode, rest)?;
-    Some((row, rest))
+    row_for(prefix.numbers(), bytes)
 }

@@ -3,8 +3,9 @@
 ghost use Rattle.std.specs.Prelude.{◌≡◌};
 ghost use Rattle.std.specs.Int.{from_bool};
 ghost use Rattle.cax64_machine_code.specs.Prefix.{w_of, r_of, x_of, b_of, vvvv_of, has_rex};
+ghost use Rattle.cax64_table.specs.Matching.{numbers_fit};
 ghost use Rattle.cax64_table.specs.Prefix.{prefix_of};
-ghost use Rattle.cax64_table.specs.PrefixNumbers.{map_number, numbers_fit, numbers_of, set_number};
+ghost use Rattle.cax64_table.specs.PrefixNumbers.{map_number, numbers_of, set_number};
 
 use crate::packed::{bits, flag};
 use cax64_machine_code::line::LegacySet;
@@ -40,7 +41,7 @@ pub enum Prefix {
 
 /// A prefix as the numbers that are compared with a row's.
 #[derive(Clone, Copy)]
-pub(crate) struct PrefixNumbers {
+pub struct PrefixNumbers {
     /// The legacy prefixes F0, 66, F2 and F3 from bit 1 up, or 1 and above it pp and map; 32 where no row has this.
     pub low: u8,
     /// L, or 1 where a REX byte stands, and whether it counts.
@@ -89,6 +90,7 @@ fn map_number(vex: &Vex) -> u8
 }
 
 impl Prefix {
+    #[inline(always)]
     fn w(&self) -> bool
         ensures { from_bool result ≡ w_of (prefix_of self.now) }
     {
@@ -98,6 +100,7 @@ impl Prefix {
         }
     }
 
+    #[inline(always)]
     pub fn r(&self) -> bool
         ensures { from_bool result ≡ r_of (prefix_of self.now) }
     {
@@ -107,6 +110,7 @@ impl Prefix {
         }
     }
 
+    #[inline(always)]
     pub fn x(&self) -> bool
         ensures { from_bool result ≡ x_of (prefix_of self.now) }
     {
@@ -116,6 +120,7 @@ impl Prefix {
         }
     }
 
+    #[inline(always)]
     pub fn b(&self) -> bool
         ensures { from_bool result ≡ b_of (prefix_of self.now) }
     {
@@ -126,6 +131,7 @@ impl Prefix {
     }
 
     /// The register in vvvv, 0 outside VEX.
+    #[inline(always)]
     pub fn vvvv(&self) -> u8
         ensures { result ≡ vvvv_of (prefix_of self.now) }
     {
@@ -135,6 +141,7 @@ impl Prefix {
         }
     }
 
+    #[inline(always)]
     pub fn has_rex(&self) -> bool
         ensures { result ≡ has_rex (prefix_of self.now) }
     {

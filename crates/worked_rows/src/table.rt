@@ -6,8 +6,8 @@ use cax64_machine_code::line::{
 use cax64_machine_code::row::Row;
 use cax64_table::cursor::next;
 use cax64_table::line;
-use cax64_table::lookup::row_at;
-use cax64_table::prefix::{Prefix, Rex, Vex};
+use cax64_table::lookup::{row_at, row_for};
+use cax64_table::prefix::{Prefix, PrefixNumbers, Rex, Vex};
 
 const LOCK: LegacySet = LegacySet {
     lock: true,
@@ -71,4 +71,20 @@ fn prefixes_have_fields(rt: HostRuntime) {
     assert!(rt; LOCK_REX.vvvv() == 0 && VEX.vvvv() == 5);
     assert!(rt; next(&[1, 2, 3]).map(|found| (found.0, found.1.len())) == Some((1, 2)));
     assert!(rt; next(&[]).is_none());
+}
+
+#[test]
+fn a_row_is_found_by_numbers(rt: HostRuntime) {
+    // F0 49 in front of 81 /0: lock, and a REX byte whose W is 1.
+    let numbers = PrefixNumbers {
+        low: 2,
+        high: 1,
+        has_high: true,
+        w: 1,
+        is_free: true,
+    };
+    let bytes = [0x81, 0x00, 1, 2, 3, 4];
+    let found = row_for(numbers, &bytes).map(|found| (found.0, found.1.len()));
+    assert!(rt; found == Some((Row::lock_addq_mi_sxl, 5)));
+    assert!(rt; found == row_of(&LOCK_REX, &bytes));
 }
