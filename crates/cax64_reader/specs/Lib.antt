@@ -1,4 +1,6 @@
 -- Steps of the proofs.
 pub mod Found
+pub mod Front
 pub mod Lengths
 pub mod Legacy
+pub mod PrefixWith

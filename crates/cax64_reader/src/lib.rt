@@ -1,6 +1,7 @@
 //! Reads one instruction from the front of some bytes.
 #![tactic(auto)]
 
+mod front;
 mod number;
 mod operands;
 mod prefix;

@@ -4,10 +4,11 @@ ghost use Rattle.std.specs.Prelude.{◌≡◌, ◌<◌, ◌≤◌, ◌^◌, opti
 ghost use Rattle.cax64_machine_code.specs.Fields.{signed_of};
 ghost use Rattle.cax64_machine_code.specs.Reading.{view_of, reg_view, reg_place, place_at, vvvv_at, imm_at, bare_operands, tail_operands, operands_of};
 ghost use Rattle.cax64_table.specs.Cursor.{behind};
-ghost use Rattle.cax64_table.specs.Prefix.{prefix_of};
 ghost use Rattle.cax64_reader.specs.Lengths.{HasSize};
 ghost use Rattle.cax64_reader.specs.Found.{found_of};
+ghost use Rattle.cax64_reader.specs.Front.{prefix_of};
 
+use crate::front::Front;
 use crate::number::number;
 use crate::tail::read_tail;
 use cax64_machine_code::line::{
@@ -15,7 +16,6 @@ use cax64_machine_code::line::{
 };
 use cax64_machine_code::reading::{Place, RegView};
 use cax64_machine_code::row::Row;
-use cax64_table::prefix::Prefix;
 
 /// The operands that are found, the number of bytes of the tail, and what follows them.
 #[derive(Clone, Copy)]
@@ -30,6 +30,7 @@ pub(crate) struct Found<'a> {
 }
 
 /// A register by its number, at 8 bits where `eight`.
+#[inline(always)]
 fn view(eight: bool, rex: bool, number: u8) -> RegView
     ensures { result ≡ view_of eight rex number }
 {
@@ -39,51 +40,59 @@ fn view(eight: bool, rex: bool, number: u8) -> RegView
     RegView::Low(number)
 }
 
-fn register(field: &RegField, prefix: &Prefix, reg: u8) -> Option<RegView>
+/// The register in the reg field, if the row has one.
+#[inline(always)]
+fn register(field: &RegField, front: &Front, reg: u8) -> Option<RegView>
     requires { reg < 8 }
-    ensures { result ≡ reg_view field.now (prefix_of prefix.now) reg }
+    ensures { result ≡ reg_view field.now (prefix_of front.now) reg }
 {
-    let number = reg + 8 * u8::from(prefix.r());
+    let number = reg + 8 * u8::from(front.r);
     match field {
         RegField::Digit(_) => None,
-        RegField::Register8 => Some(view(true, prefix.has_rex(), number)),
-        RegField::Register => Some(view(false, prefix.has_rex(), number)),
+        RegField::Register8 => Some(view(true, front.has_rex, number)),
+        RegField::Register => Some(view(false, front.has_rex, number)),
     }
 }
 
-fn register_place(field: &PlaceField, prefix: &Prefix, view: RegView) -> Option<Place>
-    ensures { result ≡ reg_place field.now (prefix_of prefix.now) view }
+/// A register in place of memory, where the row allows it.
+#[inline(always)]
+fn register_place(field: &PlaceField, front: &Front, view: RegView) -> Option<Place>
+    ensures { result ≡ reg_place field.now (prefix_of front.now) view }
 {
     match (field, view) {
         (PlaceField::Memory, _) => None,
         (PlaceField::RegisterOrMemory, _) => Some(Place::Reg(view)),
         (PlaceField::Register8OrMemory, RegView::Low(number)) => {
-            Some(Place::Reg(self::view(true, prefix.has_rex(), number)))
+            Some(Place::Reg(self::view(true, front.has_rex, number)))
         }
         (PlaceField::Register8OrMemory, RegView::High(_)) => Some(Place::Reg(view)),
     }
 }
 
 /// The place that the tail names, where the row allows it.
-fn place(field: &PlaceField, prefix: &Prefix, place: Place) -> Option<Place>
-    ensures { result ≡ place_at field.now (prefix_of prefix.now) place }
+#[inline(always)]
+fn place(field: &PlaceField, front: &Front, place: Place) -> Option<Place>
+    ensures { result ≡ place_at field.now (prefix_of front.now) place }
 {
     match place {
-        Place::Reg(view) => register_place(field, prefix, view),
+        Place::Reg(view) => register_place(field, front, view),
         _ => Some(place),
     }
 }
 
-fn vvvv(field: &PrefixField, prefix: &Prefix) -> Option<u8>
-    ensures { result ≡ vvvv_at field.now (prefix_of prefix.now) }
+/// The register in vvvv, if the row has one.
+#[inline(always)]
+fn vvvv(field: &PrefixField, front: &Front) -> Option<u8>
+    ensures { result ≡ vvvv_at field.now (prefix_of front.now) }
 {
     match field {
-        PrefixField::VexField(_, _, _, VvvvField::VvvvRegister) => Some(prefix.vvvv()),
+        PrefixField::VexField(_, _, _, VvvvField::VvvvRegister) => Some(front.vvvv),
         _ => None,
     }
 }
 
 /// The number in so many bytes as a signed one.
+#[inline(always)]
 fn signed(size: u8, n: u32) -> i64
     requires least { 1 ≤ size }
     requires most { size ≤ 4 }
@@ -100,6 +109,7 @@ fn signed(size: u8, n: u32) -> i64
 }
 
 /// The immediate at the front, if the row has one, and what follows it.
+#[inline(always)]
 fn imm<'a>(field: &ImmField, bytes: &'a [u8]) -> Option<(Option<i64>, &'a [u8])>
     requires { HasSize field.now }
     ensures { behind result ≡ imm_at field.now bytes.now }
@@ -117,15 +127,17 @@ fn imm<'a>(field: &ImmField, bytes: &'a [u8]) -> Option<(Option<i64>, &'a [u8])>
     }
 }
 
-fn bare_operands<'a>(row: Row, line: &Line, prefix: &Prefix, bytes: &'a [u8]) -> Option<Found<'a>>
+/// The operands of a row without a tail.
+#[inline(always)]
+fn bare_operands<'a>(row: Row, line: &Line, front: &Front, bytes: &'a [u8]) -> Option<Found<'a>>
     requires { HasSize line.now.imm }
-    ensures { option_map found_of result ≡ bare_operands row line.now (prefix_of prefix.now) bytes.now }
+    ensures { option_map found_of result ≡ bare_operands row line.now (prefix_of front.now) bytes.now }
 {
     let (imm, rest) = imm(&line.imm, bytes)?;
     Some(Found {
         row,
         reg: None,
-        vvvv: vvvv(&line.prefix, prefix),
+        vvvv: vvvv(&line.prefix, front),
         place: None,
         imm,
         tail: 0,
@@ -133,24 +145,26 @@ fn bare_operands<'a>(row: Row, line: &Line, prefix: &Prefix, bytes: &'a [u8]) ->
     })
 }
 
+/// The operands of a row with a tail of these fields.
+#[inline(always)]
 fn tail_operands<'a>(
     row: Row,
     line: &Line,
     reg: &RegField,
     field: &PlaceField,
-    prefix: &Prefix,
+    front: &Front,
     bytes: &'a [u8],
 ) -> Option<Found<'a>>
     requires { HasSize line.now.imm }
-    ensures { option_map found_of result ≡ tail_operands row line.now reg.now field.now (prefix_of prefix.now) bytes.now }
+    ensures { option_map found_of result ≡ tail_operands row line.now reg.now field.now (prefix_of front.now) bytes.now }
 {
-    let tail = read_tail(prefix.x(), prefix.b(), bytes)?;
-    let place = place(field, prefix, tail.place)?;
+    let tail = read_tail(front.x, front.b, bytes)?;
+    let place = place(field, front, tail.place)?;
     let (imm, rest) = imm(&line.imm, tail.rest)?;
     Some(Found {
         row,
-        reg: register(reg, prefix, tail.reg),
-        vvvv: vvvv(&line.prefix, prefix),
+        reg: register(reg, front, tail.reg),
+        vvvv: vvvv(&line.prefix, front),
         place: Some(place),
         imm,
         tail: (bytes.len() - tail.rest.len()) as u8,
@@ -159,17 +173,18 @@ fn tail_operands<'a>(
 }
 
 /// The operands behind the opcode of a row.
+#[inline(always)]
 pub(crate) fn operands<'a>(
     row: Row,
     line: &Line,
-    prefix: &Prefix,
+    front: &Front,
     bytes: &'a [u8],
 ) -> Option<Found<'a>>
     requires { HasSize line.now.imm }
-    ensures { option_map found_of result ≡ operands_of line.now.tail row line.now (prefix_of prefix.now) bytes.now }
+    ensures { option_map found_of result ≡ operands_of line.now.tail row line.now (prefix_of front.now) bytes.now }
 {
     match &line.tail {
-        TailField::NoTail => bare_operands(row, line, prefix, bytes),
-        TailField::Modrm(reg, field) => tail_operands(row, line, reg, field, prefix, bytes),
+        TailField::NoTail => bare_operands(row, line, front, bytes),
+        TailField::Modrm(reg, field) => tail_operands(row, line, reg, field, front, bytes),
     }
 }

@@ -1,49 +1,50 @@
 //! What stands before the opcode. (Intel SDM, volume 2, 2.1.1, 2.2.1 and 2.3.5.)
 
-ghost use Rattle.std.specs.Prelude.{◌≡◌, ◌<◌, ◌/◌, ◌%◌, ◌^◌, ◌||◌, ◌==◌, ℕ, List, Option, option_map};
+ghost use Rattle.std.specs.Prelude.{◌≡◌, ◌&&◌, [], ◌<◌, ◌/◌, ◌-◌, ◌%◌, ◌^◌, ◌∷◌, ℕ, List, Some, None, option_map, IfSome, true};
 ghost use Rattle.std.specs.Int.{from_bool};
-ghost use Rattle.cax64_machine_code.specs.Prefix.{no_legacy, is_no_legacy, legacy_at, rex_of, rex_at, vex_two_byte, vex_three_byte, is_vex_map, vex_at, begins_vex, prefix_at};
+ghost use Rattle.cax64_machine_code.specs.Prefix.{no_legacy, is_no_legacy, legacy_at, rex_of, vex_two_byte, vex_three_byte, is_vex_map, begins_vex, vex_at, after_vex, prefix_at, legacy_prefix, vex_prefix};
 ghost use Rattle.cax64_machine_code.specs.declared.line.LegacySet.{LegacySet};
-ghost use Rattle.cax64_machine_code.specs.Prefix as definitions;
-ghost use Rattle.cax64_table.specs.Prefix.{rex_bits_of, vex_fields_of, prefix_of};
+ghost use Rattle.cax64_reader.specs.Front.{prefix_of};
 ghost use Rattle.cax64_reader.specs.Legacy.{added};
+ghost use Rattle.cax64_reader.specs.PrefixWith.{set_of, IsSet};
 
-use cax64_machine_code::line::LegacySet;
+use crate::front::Front;
 use cax64_table::cursor::next;
-use cax64_table::prefix::{Prefix, Rex, Vex};
+use cax64_table::prefix::PrefixNumbers;
 
-const NO_LEGACY: LegacySet = LegacySet {
-    lock: false,
-    operand_size: false,
-    repne: false,
-    rep: false,
-};
-
-/// The set with this byte added, where it is a prefix that may still come.
-fn with_prefix(seen: LegacySet, byte: u8) -> Option<LegacySet>
-    ensures { result ≡ added seen byte }
+/// The bit at this place.
+#[inline(always)]
+fn bit(byte: u8, place: u32) -> bool
+    requires { place < 8 }
+    ensures { from_bool result ≡ byte / 2 ^ place % 2 }
 {
-    let repeats = seen.repne || seen.rep;
+    (byte >> place) % 2 == 1
+}
+
+/// The number of the set with this byte added, where it is a prefix that may still come. F0, 66, F2 and F3 are its bits
+/// 1 to 4, so that it is below 8 where neither F2 nor F3 was seen.
+#[inline(always)]
+fn with_prefix(seen: u8, byte: u8) -> Option<u8>
+    requires { IsSet seen }
+    ensures is { option_map set_of result ≡ added (set_of seen) byte }
+    ensures fits { IfSome result IsSet }
+{
     match byte {
-        0xF0 if !seen.lock => Some(LegacySet { lock: true, ..seen }),
-        0x66 if !seen.operand_size => Some(LegacySet {
-            operand_size: true,
-            ..seen
-        }),
-        0xF2 if !repeats => Some(LegacySet {
-            repne: true,
-            ..seen
-        }),
-        0xF3 if !repeats => Some(LegacySet { rep: true, ..seen }),
+        0xF0 if !bit(seen, 1) => Some(seen + 2),
+        0x66 if !bit(seen, 2) => Some(seen + 4),
+        0xF2 if seen < 8 => Some(seen + 8),
+        0xF3 if seen < 8 => Some(seen + 16),
         _ => None,
     }
 }
 
-/// The legacy prefixes at the front, and what follows them.
-fn legacy(bytes: &[u8]) -> (LegacySet, &[u8])
-    ensures { ◌≡◌ {A = LegacySet × List ℕ} (result.0, result.1.now) (legacy_at no_legacy bytes.now) }
+/// The number of the legacy prefixes at the front, and what follows them.
+#[inline(always)]
+fn legacy(bytes: &[u8]) -> (u8, &[u8])
+    ensures is { ◌≡◌ {A = LegacySet × List ℕ} (set_of result.0, result.1.now) (legacy_at no_legacy bytes.now) }
+    ensures fits { IsSet result.0 }
 {
-    let mut seen = NO_LEGACY;
+    let mut seen = 0;
     let mut rest = bytes;
     while let Some((byte, behind)) = next(rest) {
         let Some(more) = with_prefix(seen, byte) else {
@@ -55,117 +56,144 @@ fn legacy(bytes: &[u8]) -> (LegacySet, &[u8])
     (seen, rest)
 }
 
-fn bit(byte: u8, place: u32) -> bool
-    requires { place < 8 }
-    ensures { from_bool result ≡ byte / 2 ^ place % 2 }
+/// Legacy prefixes and a REX byte.
+#[inline(always)]
+fn with_rex(low: u8, byte: u8) -> Front
+    requires { IsSet low }
+    ensures { prefix_of result ≡ legacy_prefix (set_of low) (Some (rex_of byte)) }
 {
-    (byte >> place) % 2 == 1
-}
-
-fn rex_bits(byte: u8) -> Rex
-    ensures { rex_bits_of result ≡ rex_of byte }
-{
-    Rex {
-        w: bit(byte, 3),
+    Front {
+        numbers: PrefixNumbers {
+            low,
+            high: 1,
+            has_high: true,
+            w: byte / 8 % 2,
+            is_free: true,
+        },
+        has_rex: true,
         r: bit(byte, 2),
         x: bit(byte, 1),
         b: bit(byte, 0),
+        vvvv: 0,
     }
 }
 
-/// The REX byte at the front, if there is one, and what follows it.
-fn rex(bytes: &[u8]) -> (Option<Rex>, &[u8])
-    ensures { ◌≡◌ {A = Option definitions.Rex × List ℕ} (option_map rex_bits_of result.0, result.1.now) (rex_at bytes.now) }
+/// Legacy prefixes alone.
+#[inline(always)]
+fn without_rex(low: u8) -> Front
+    requires { IsSet low }
+    ensures { prefix_of result ≡ legacy_prefix (set_of low) None }
 {
-    match next(bytes) {
-        None => (None, bytes),
-        Some((byte, rest)) => {
-            if byte / 16 == 4 {
-                (Some(rex_bits(byte)), rest)
-            } else {
-                (None, bytes)
-            }
-        }
-    }
-}
-
-fn two_byte(second: u8) -> Vex
-    ensures { vex_fields_of result ≡ vex_two_byte second }
-{
-    Vex {
-        w: false,
-        r: !bit(second, 7),
+    Front {
+        numbers: PrefixNumbers {
+            low,
+            high: 1,
+            has_high: false,
+            w: 0,
+            is_free: true,
+        },
+        has_rex: false,
+        r: false,
         x: false,
         b: false,
-        vvvv: 15 - second / 8 % 16,
-        l: second / 4 % 2,
-        pp: second % 4,
-        map: 1,
+        vvvv: 0,
     }
 }
 
-fn three_byte(second: u8, third: u8) -> Vex
-    ensures { vex_fields_of result ≡ vex_three_byte second third }
+/// A VEX prefix of these bits, none of them inverted, with vvvv, L and pp in its last byte.
+#[inline(always)]
+fn with_vex(r: bool, x: bool, b: bool, map: u8, w: u8, last: u8) -> Front
+    requires { map < 4 }
+    ensures { prefix_of result ≡ vex_prefix (record { w = w; r = from_bool r; x = from_bool x; b = from_bool b; vvvv = 15 - last / 8 % 16; l = last / 4 % 2; pp = last % 4; map = map }) }
 {
-    Vex {
-        w: bit(third, 7),
-        r: !bit(second, 7),
-        x: !bit(second, 6),
-        b: !bit(second, 5),
-        vvvv: 15 - third / 8 % 16,
-        l: third / 4 % 2,
-        pp: third % 4,
-        map: second % 32,
+    let vvvv = 15 - last / 8 % 16;
+    Front {
+        numbers: PrefixNumbers {
+            low: 1 + 2 * (last % 4) + 8 * map,
+            high: last / 4 % 2,
+            has_high: true,
+            w,
+            is_free: vvvv == 0,
+        },
+        has_rex: false,
+        r,
+        x,
+        b,
+        vvvv,
     }
+}
+
+/// A VEX prefix of two bytes.
+#[inline(always)]
+fn two_byte(second: u8) -> Front
+    ensures { prefix_of result ≡ vex_prefix (vex_two_byte second) }
+{
+    with_vex(!bit(second, 7), false, false, 1, 0, second)
+}
+
+/// A VEX prefix of three bytes.
+#[inline(always)]
+fn three_byte(second: u8, third: u8) -> Front
+    requires { is_vex_map (second % 32) ≡ true }
+    ensures { prefix_of result ≡ vex_prefix (vex_three_byte second third) }
+{
+    with_vex(
+        !bit(second, 7),
+        !bit(second, 6),
+        !bit(second, 5),
+        second % 32,
+        third / 128,
+        third,
+    )
 }
 
 /// An opcode map of VEX: 0F, 0F 38 or 0F 3A.
+#[inline(always)]
 fn is_map(map: u8) -> bool
     ensures { result ≡ is_vex_map map }
 {
     map == 1 || map == 2 || map == 3
 }
 
-/// The VEX prefix at the front, and what follows it.
-fn vex(bytes: &[u8]) -> Option<(Vex, &[u8])>
-    ensures { option_map (λ r. (vex_fields_of r.0, r.1.now)) result ≡ vex_at bytes.now }
+/// The VEX prefix that begins with this byte, C4 or C5, and what follows it.
+fn vex(first: u8, rest: &[u8]) -> Option<(Front, &[u8])>
+    requires { begins_vex (first ∷ []) ≡ true }
+    ensures { option_map (λ r. (prefix_of r.0, r.1.now)) result ≡ after_vex (vex_at (first ∷ rest.now)) }
 {
-    let (first, rest) = next(bytes)?;
     let (second, rest) = next(rest)?;
     if first == 0xC5 {
         return Some((two_byte(second), rest));
     }
     let (third, rest) = next(rest)?;
-    if first == 0xC4 && is_map(second % 32) {
+    if is_map(second % 32) {
         return Some((three_byte(second, third), rest));
     }
     None
 }
 
-fn has_none(set: LegacySet) -> bool
-    ensures { result ≡ is_no_legacy set }
+/// No legacy prefix was seen, and a VEX prefix begins with this byte, C4 or C5.
+#[inline(always)]
+fn begins_with_vex(low: u8, first: u8) -> bool
+    requires { IsSet low }
+    ensures { result ≡ (is_no_legacy (set_of low) && begins_vex (first ∷ [])) }
 {
-    !(set.lock || set.operand_size || set.repne || set.rep)
+    low == 0 && first / 2 == 0x62
 }
 
-fn begins_with_vex(bytes: &[u8]) -> bool
-    ensures { result ≡ begins_vex bytes.now }
-{
-    match bytes.first() {
-        Some(byte) => *byte == 0xC4 || *byte == 0xC5,
-        None => false,
-    }
-}
-
-/// The prefix at the front, and what follows it; VEX only where no legacy prefix stands before it.
-pub(crate) fn read_prefix(bytes: &[u8]) -> Option<(Prefix, &[u8])>
+/// What stands at the front, and what follows it; VEX only where no legacy prefix stands before it.
+#[inline(always)]
+pub(crate) fn read_front(bytes: &[u8]) -> Option<(Front, &[u8])>
     ensures { option_map (λ r. (prefix_of r.0, r.1.now)) result ≡ prefix_at bytes.now }
 {
-    let (set, rest) = legacy(bytes);
-    if has_none(set) && begins_with_vex(rest) {
-        let (vex, rest) = vex(rest)?;
-        return Some((Prefix::VexPrefix(vex), rest));
+    let (low, rest) = legacy(bytes);
+    let Some((first, behind)) = next(rest) else {
+        return Some((without_rex(low), rest));
+    };
+    if first / 16 == 4 {
+        return Some((with_rex(low, first), behind));
     }
-    let (rex, rest) = rex(rest);
-    Some((Prefix::LegacyPrefix(set, rex), rest))
+    if begins_with_vex(low, first) {
+        return vex(first, behind);
+    }
+    Some((without_rex(low), rest))
 }

@@ -5,18 +5,19 @@ ghost use Rattle.cax64_machine_code.specs.Reading.{find, read};
 ghost use Rattle.cax64_reader.specs.Found.{found_of};
 
 use crate::operands::{Found, operands};
-use crate::prefix::read_prefix;
+use crate::prefix::read_front;
 use cax64_machine_code::reading::Reading;
 use cax64_table::line;
-use cax64_table::lookup::row_at;
+use cax64_table::lookup::row_for;
 
+#[inline(always)]
 fn find(bytes: &[u8]) -> Option<Found<'_>>
     ensures is { option_map found_of result ≡ find bytes.now }
     ensures length { IfSome result (λ found. (1 + length found.rest.now ≤ length bytes.now) × (length bytes.now ≤ 13 + length found.rest.now)) }
 {
-    let (prefix, rest) = read_prefix(bytes)?;
-    let (row, rest) = row_at(&prefix, rest)?;
-    operands(row, &line(row), &prefix, rest)
+    let (front, rest) = read_front(bytes)?;
+    let (row, rest) = row_for(front.numbers, rest)?;
+    operands(row, &line(row), &front, rest)
 }
 
 /// Reads the instruction at the front, of which all rows of the table are known; what follows it is not read.

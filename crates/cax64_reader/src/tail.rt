@@ -19,6 +19,8 @@ pub(crate) struct Tail<'a> {
     pub rest: &'a [u8],
 }
 
+/// One byte of displacement, and what follows it.
+#[inline(always)]
 fn disp8(bytes: &[u8]) -> Option<(i32, &[u8])>
     ensures { behind result ≡ disp8_at 1 bytes.now }
 {
@@ -26,6 +28,8 @@ fn disp8(bytes: &[u8]) -> Option<(i32, &[u8])>
     Some((i32::from(n.cast_signed()), rest))
 }
 
+/// Four bytes of displacement, and what follows them.
+#[inline(always)]
 fn disp32(bytes: &[u8]) -> Option<(i32, &[u8])>
     ensures { behind result ≡ disp32_at bytes.now }
 {
@@ -35,6 +39,7 @@ fn disp32(bytes: &[u8]) -> Option<(i32, &[u8])>
 
 /// The displacement that goes with this mod.
 #[tactic(auto, unfolding(cax64_machine_code::specs::Tail::disp_at))]
+#[inline(always)]
 fn disp(mode: u8, bytes: &[u8]) -> Option<(i32, &[u8])>
     ensures { behind result ≡ disp_at mode 1 bytes.now }
 {
@@ -46,6 +51,7 @@ fn disp(mode: u8, bytes: &[u8]) -> Option<(i32, &[u8])>
 }
 
 /// The index register and its factor.
+#[inline(always)]
 fn index(x: bool, sib: u8) -> Option<(u8, u8)>
     ensures { result ≡ scaled_index (from_bool x) sib }
 {
@@ -58,6 +64,7 @@ fn index(x: bool, sib: u8) -> Option<(u8, u8)>
 
 /// The place behind a SIB byte.
 #[tactic(auto, unfolding(cax64_machine_code::specs::Tail::sib_at))]
+#[inline(always)]
 fn behind_sib(x: bool, b: bool, mode: u8, reg: u8, sib: u8, bytes: &[u8]) -> Option<Tail<'_>>
     ensures { option_map tail_of result ≡ sib_at (from_bool x) (from_bool b) 1 mode reg (sib ∷ bytes.now) }
 {
@@ -85,6 +92,7 @@ fn behind_sib(x: bool, b: bool, mode: u8, reg: u8, sib: u8, bytes: &[u8]) -> Opt
 }
 
 /// What follows a ModR/M byte whose rm is that of a SIB byte.
+#[inline(always)]
 fn with_sib(x: bool, b: bool, mode: u8, reg: u8, bytes: &[u8]) -> Option<Tail<'_>>
     ensures { option_map tail_of result ≡ sib_at (from_bool x) (from_bool b) 1 mode reg bytes.now }
 {
@@ -94,6 +102,7 @@ fn with_sib(x: bool, b: bool, mode: u8, reg: u8, bytes: &[u8]) -> Option<Tail<'_
 
 /// The place behind a ModR/M byte.
 #[tactic(auto, unfolding(cax64_machine_code::specs::Tail::read_tail))]
+#[inline(always)]
 fn behind_modrm(x: bool, b: bool, modrm: u8, bytes: &[u8]) -> Option<Tail<'_>>
     ensures { option_map tail_of result ≡ read_tail (from_bool x) (from_bool b) 1 (modrm ∷ bytes.now) }
 {
@@ -132,6 +141,7 @@ fn behind_modrm(x: bool, b: bool, modrm: u8, bytes: &[u8]) -> Option<Tail<'_>>
 }
 
 /// The tail at the front, under these bits of the prefix.
+#[inline(always)]
 pub(crate) fn read_tail(x: bool, b: bool, bytes: &[u8]) -> Option<Tail<'_>>
     ensures is { option_map tail_of result ≡ read_tail (from_bool x) (from_bool b) 1 bytes.now }
     ensures reg { IfSome result (λ t. t.reg < 8) }
