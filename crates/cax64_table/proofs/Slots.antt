@@ -1,11 +1,8 @@
-use Rattle.std.proofs.Common.{add-one, ◌≡◌, ℕ, ◌+◌, ◌-◌, ◌*◌, ◌<◌, ◌≤◌, List, [], ◌∷◌, length, refl, ap, sym, ◌∙◌, zero, suc, Bool, true, false, arith, slice_index, slice_index_or, slice_range, drop}
+use Rattle.std.proofs.Common.{◌≡◌, ℕ, ◌*◌, ◌<◌, List, [], ◌∷◌, refl, ap, sym, ◌∙◌, Bool, true, false, Option, Some, None, arith, slice_index, min}
 use Rattle.std.proofs.lemmas.Bool.{ltb-true, and_parts, agree_below, agree_below_at}
-use Rattle.std.proofs.lemmas.List.{get_or-take, get_or-drop, length-take, length-drop}
 use Rattle.std.proofs.lemmas.Bool.Decides.{nat_tests}
-use Rattle.std.proofs.lemmas.List.Elements.{All-contains}
-use Rattle.std.proofs.lemmas.List.Sums.{AllPass-from_list_all}
-use Rattle.std.specs.Prelude.{◌&&◌, ◌==◌, not, nat_lt, nat_le, is_some, unwrap_or, Contains, if◌then◌else◌}
-use Rattle.std.specs.List.{list_all, position_or_len}
+use Rattle.std.specs.List.{slice_get}
+use Rattle.std.specs.Prelude.{◌&&◌, ◌||◌, ◌==◌, not, nat_lt, is_some, unwrap_or, IfSome, if◌then◌else◌}
 use Rattle.cax64_machine_code.specs.Fields.{reg_of}
 use Rattle.cax64_machine_code.specs.Line.{digit_matches, same_bool}
 use Rattle.cax64_machine_code.specs.Rows.{line_of}
@@ -15,74 +12,48 @@ use Rattle.cax64_machine_code.specs.declared.line.TailField.TheVariants.{NoTail,
 use Rattle.cax64_machine_code.specs.declared.line.RegField.TheVariants.{Digit, Register8, Register}
 use Rattle.cax64_machine_code.specs.declared.row.Row.{Row}
 use Rattle.cax64_machine_code.specs.declared.row.Row.TheVariants.{lock_addb_mi}
-use Rattle.cax64_table.specs.Packed.{number_of}
-use Rattle.cax64_table.specs.Matching.{stands}
+use Rattle.cax64_table.specs.Packed.{number_of, bits_at, entry_of}
+use Rattle.cax64_table.specs.Matching.{stands, key_fits}
 use Rattle.cax64_table.specs.Digit.{digit_of}
-use Rattle.cax64_table.specs.Slot.{entry_for, slot_with, slot_of, InSlot}
-use Rattle.cax64_table.specs.declared.index.TheConstants.{STARTS, BY_KEY}
+use Rattle.cax64_table.specs.Slot.{entry_for, slot_with, slot_of, class_of, number_in, InSlot}
+use Rattle.cax64_table.specs.declared.index.TheConstants.{ROWS}
+use Rattle.cax64_table.specs.declared.prefix.PrefixNumbers.{PrefixNumbers}
 use Rattle.cax64_table.proofs.PrefixNumbers.{equal, same_are}
 
-le_of : (a b : ℕ) → nat_le a b ≡ true → a ≤ b
-le_of a b h = grind (arith, nat_tests)
+-- each class has a place in a slot
 
--- no slot begins before the one in front of it, or behind the last row
+classes_below : agree_below (λ low. nat_lt (class_of low) 12) (λ _. true) 256 ≡ true
+classes_below = refl
 
-abbrev rising : List ℕ → Bool
-rising [] = true
-rising (x ∷ []) = nat_le x 158
-rising (x ∷ y ∷ ys) = nat_le x y && rising (y ∷ ys)
+pub class_below : (low : ℕ) → low < 256 → class_of low < 12
+class_below low b = ltb-true (class_of low) 12 (agree_below_at (λ low. nat_lt (class_of low) 12) (λ _. true) 256 low classes_below b)
 
-rises : (xs : List ℕ) → rising xs ≡ true → (i : ℕ) → suc i < length xs → slice_index xs i ≤ slice_index xs (suc i)
-rises [] h i b = absurd (omega arith)
-rises (x ∷ []) h i b = absurd (omega arith)
-rises (x ∷ y ∷ ys) h zero b = le_of x y (and_parts (nat_le x y) (rising (y ∷ ys)) h).0
-rises (x ∷ y ∷ ys) h (suc i) b = rises (y ∷ ys) (and_parts (nat_le x y) (rising (y ∷ ys)) h).1 i (omega arith)
+-- each row stands in the list of rows
 
-all_within : (xs : List ℕ) → rising xs ≡ true → (i : ℕ) → i < length xs → slice_index xs i ≤ 158
-all_within [] h i b = absurd (omega arith)
-all_within (x ∷ []) h zero b = le_of x 158 h
-all_within (x ∷ []) h (suc i) b = absurd (omega arith)
-all_within (x ∷ y ∷ ys) h zero b =
-    let p = and_parts (nat_le x y) (rising (y ∷ ys)) h in
-    let first : x ≤ y = le_of x y p.0 in
-    let later : y ≤ 158 = all_within (y ∷ ys) p.1 zero (omega arith) in
-    omega arith
-all_within (x ∷ y ∷ ys) h (suc i) b = all_within (y ∷ ys) (and_parts (nat_le x y) (rising (y ∷ ys)) h).1 i (omega arith)
-
-starts_rise : rising STARTS ≡ true
-starts_rise = refl
-
-pub slots_rise : (i : ℕ) → i < 135 → slice_index STARTS i ≤ slice_index STARTS (i + 1)
-slots_rise i b = rw (add-one i) (rises STARTS starts_rise i (omega arith))
-
-pub slots_within : (i : ℕ) → i < 136 → slice_index STARTS i ≤ 158
-slots_within i b = all_within STARTS starts_rise i (omega arith)
-
--- each row stands in the list
-
-place_of : Row → ℕ
-place_of row = position_or_len (λ other. number_of other == number_of row) BY_KEY
-
-place_below : (row : Row) → nat_lt (place_of row) 158 ≡ true
-unfolding place_of number_of
-place_below lock_addb_mi = refl
-place_below _ = refl
-
-stands_there : (row : Row) → slice_index_or BY_KEY (place_of row) row ≡ row
-unfolding place_of number_of
+stands_there : (row : Row) → slice_get ROWS (number_of row) ≡ Some row
+unfolding number_of
 stands_there lock_addb_mi = refl
 stands_there _ = refl
 
--- it stands among the rows of its slot
+-- and in its slot, by its class, for each W that it takes
 
 digit_or_none : Row → ℕ
 digit_or_none row = unwrap_or (digit_of (line_of row).tail) 0
 
-is_in_slot : (n slot : ℕ) → Bool
-is_in_slot n slot = nat_le (slice_index STARTS slot) n && nat_lt n (slice_index STARTS (slot + 1))
+low_of : Row → ℕ
+low_of row = bits_at (entry_of row) 6 5
 
-in_slot : (row : Row) → is_in_slot (place_of row) (slot_with (entry_for (line_of row).opcode) (digit_or_none row)) ≡ true
-unfolding is_in_slot place_of number_of digit_or_none line_of
+takes : Row → ℕ → Bool
+takes row w = (bits_at (entry_of row) 4 2 == 2) || (bits_at (entry_of row) 4 2 == w)
+
+slot_for : Row → ℕ
+slot_for row = slot_with (entry_for (line_of row).opcode) (digit_or_none row)
+
+stands_for : Row → ℕ → Bool
+stands_for row w = not (takes row w) || (number_in (slot_for row) (class_of (low_of row)) w == number_of row)
+
+in_slot : (row : Row) → agree_below (stands_for row) (λ _. true) 2 ≡ true
+unfolding stands_for takes slot_for low_of number_of digit_or_none line_of
 in_slot lock_addb_mi = refl
 in_slot _ = refl
 
@@ -105,29 +76,23 @@ slot_is : (row : Row) (rest : List ℕ) → digit_matches (line_of row).tail res
 unfolding digit_or_none
 slot_is row rest m = slot_is_of (line_of row).opcode (line_of row).tail rest (has_digits row) m
 
-between : {X : Type 0} (xs : List X) (s e k : ℕ) (d : X) → k < e - s → slice_index_or (slice_range xs s e) k d ≡ slice_index_or xs (s + k) d
-between xs s e k d b = get_or-take (e - s) (drop s xs) k d b ∙ get_or-drop s xs k d
+if_taken : (t : Bool) (a b : ℕ) → (not t || (a == b)) ≡ true → t ≡ true → a ≡ b
+if_taken true a b h e = equal a b h
+if_taken false a b h e = cc
 
-length_between : {X : Type 0} (xs : List X) (s e : ℕ) → e ≤ length xs → length (slice_range xs s e) ≡ e - s
-length_between xs s e h = omega (arith, length-take (e - s) (drop s xs), length-drop s xs)
+at_most_one : (w : ℕ) → min w 1 < 2
+at_most_one w = omega arith
 
--- what stands at a place stands in a range round it
-contains_between : {X : Type 0} (xs : List X) (s e k : ℕ) (x : X) → s ≤ k → k < e → e ≤ length xs → slice_index_or xs k x ≡ x → Contains (slice_range xs s e) x
-contains_between xs s e k x from upto le h =
-    let there : s + (k - s) ≡ k = omega arith in
-    (k - s, omega (arith, length_between xs s e le), between xs s e (k - s) x (omega arith) ∙ ap (λ i. slice_index_or xs i x) there ∙ h)
-
-pub stands_in_slot : (row : Row) (opcode : Opcode) (rest : List ℕ) (slot : ℕ) → slot < 135 → slot ≡ slot_of opcode rest → (line_of row).opcode ≡ opcode → digit_matches (line_of row).tail rest ≡ true → Contains (slice_range BY_KEY (slice_index STARTS slot) (slice_index STARTS (slot + 1))) row
-unfolding is_in_slot
-stands_in_slot row opcode rest slot b s o m =
-    let e : slot ≡ slot_with (entry_for (line_of row).opcode) (digit_or_none row) = s ∙ ap (λ z. slot_of z rest) (sym o) ∙ slot_is row rest m in
-    let p = and_parts (nat_le (slice_index STARTS slot) (place_of row)) (nat_lt (place_of row) (slice_index STARTS (slot + 1))) (rw e (in_slot row)) in
-    contains_between BY_KEY (slice_index STARTS slot) (slice_index STARTS (slot + 1)) (place_of row) row (le_of _ _ p.0) (ltb-true _ _ p.1) (slots_within (slot + 1) (omega arith)) (stands_there row)
+pub row_in_slot : (numbers : PrefixNumbers) (opcode : Opcode) (rest : List ℕ) (row : Row) → (line_of row).opcode ≡ opcode → digit_matches (line_of row).tail rest ≡ true → key_fits numbers (entry_of row) ≡ true → slice_get ROWS (number_in (slot_of opcode rest) (class_of numbers.low) (min numbers.w 1)) ≡ Some row
+unfolding stands_for takes slot_for low_of
+row_in_slot numbers opcode rest row o m k =
+    let p = and_parts (bits_at (entry_of row) 6 5 == numbers.low) ((bits_at (entry_of row) 4 2 == 2) || (bits_at (entry_of row) 4 2 == min numbers.w 1)) k in
+    let low : low_of row ≡ numbers.low = equal (low_of row) numbers.low p.0 in
+    let slot : slot_of opcode rest ≡ slot_for row = ap (λ z. slot_of z rest) (sym o) ∙ slot_is row rest m in
+    let found : number_in (slot_for row) (class_of (low_of row)) (min numbers.w 1) ≡ number_of row = if_taken (takes row (min numbers.w 1)) _ _ (agree_below_at (stands_for row) (λ _. true) 2 (min numbers.w 1) (in_slot row) (at_most_one numbers.w)) p.1 in
+    rw (slot, ← low, found) (stands_there row)
 
 -- a slot has no row of another opcode or digit
-
-rows_in : ℕ → List Row
-rows_in slot = slice_range BY_KEY (slice_index STARTS slot) (slice_index STARTS (slot + 1))
 
 is_opcode : Opcode → Opcode → Bool
 is_opcode wanted found = same_bool found.escape wanted.escape && (found.byte == wanted.byte)
@@ -136,14 +101,28 @@ is_opcode wanted found = same_bool found.escape wanted.escape && (found.byte == 
 is_of : Opcode → ℕ → Row → Bool
 is_of opcode digit row = is_opcode opcode (line_of row).opcode && digit_matches (line_of row).tail ((8 * digit) ∷ [])
 
+number_is_of : Opcode → ℕ → Option Row → Bool
+number_is_of opcode digit None = true
+number_is_of opcode digit (Some row) = is_of opcode digit row
+
+-- what is asked of each number in a slot
+holds_in : (ℕ → ℕ → ℕ → Bool) → ℕ → Bool
+holds_in test slot = agree_below (λ class. agree_below (λ w. test class w (number_in slot class w)) (λ _. true) 2) (λ _. true) 12
+
+holds_at : (test : ℕ → ℕ → ℕ → Bool) (slot class w : ℕ) → holds_in test slot ≡ true → class < 12 → w < 2 → test class w (number_in slot class w) ≡ true
+unfolding holds_in
+holds_at test slot class w h c b =
+    agree_below_at (λ w. test class w (number_in slot class w)) (λ _. true) 2 w
+    (agree_below_at (λ class. agree_below (λ w. test class w (number_in slot class w)) (λ _. true) 2) (λ _. true) 12 class h c) b
+
 entry_is_of : Opcode → ℕ → Bool
-entry_is_of opcode entry = agree_below (λ digit. list_all (is_of opcode digit) (rows_in (slot_with entry digit))) (λ _. true) 8
+entry_is_of opcode entry = agree_below (λ digit. holds_in (λ _ _ n. number_is_of opcode digit (slice_get ROWS n)) (slot_with entry digit)) (λ _. true) 8
 
 all_are_of : Bool → Bool
 all_are_of escape = agree_below (λ byte. let opcode : Opcode = record { escape = escape; byte = byte } in entry_is_of opcode (entry_for opcode)) (λ _. true) 256
 
 slots_are_of : (escape : Bool) → all_are_of escape ≡ true
-unfolding all_are_of entry_is_of is_of is_opcode rows_in line_of
+unfolding all_are_of entry_is_of holds_in number_is_of is_of is_opcode line_of
 slots_are_of true = refl
 slots_are_of false = refl
 
@@ -166,30 +145,89 @@ opcode_same o found h =
     same
 
 -- what the test says of a row
-row_is_of : (o : Opcode) (digit : ℕ) (row : Row) → o.byte < 256 → digit < 8 → Contains (rows_in (slot_with (entry_for o) digit)) row → is_of o digit row ≡ true
-unfolding all_are_of entry_is_of
-row_is_of o digit row b d h =
+row_is_of : (o : Opcode) (digit class w : ℕ) (row : Row) → o.byte < 256 → digit < 8 → class < 12 → w < 2 → slice_get ROWS (number_in (slot_with (entry_for o) digit) class w) ≡ Some row → is_of o digit row ≡ true
+unfolding all_are_of entry_is_of number_is_of
+row_is_of o digit class w row b d c v h =
     let entry : entry_is_of o (entry_for o) ≡ true = agree_below_at (λ byte. let opcode : Opcode = record { escape = o.escape; byte = byte } in entry_is_of opcode (entry_for opcode)) (λ _. true) 256 o.byte (slots_are_of o.escape) b in
-    let rows : list_all (is_of o digit) (rows_in (slot_with (entry_for o) digit)) ≡ true = agree_below_at (λ digit. list_all (is_of o digit) (rows_in (slot_with (entry_for o) digit))) (λ _. true) 8 digit entry d in
-    All-contains (λ row. is_of o digit row ≡ true) (rows_in (slot_with (entry_for o) digit)) row (AllPass-from_list_all (is_of o digit) (rows_in (slot_with (entry_for o) digit)) rows) h
+    let slot : holds_in (λ _ _ n. number_is_of o digit (slice_get ROWS n)) (slot_with (entry_for o) digit) ≡ true = agree_below_at (λ digit. holds_in (λ _ _ n. number_is_of o digit (slice_get ROWS n)) (slot_with (entry_for o) digit)) (λ _. true) 8 digit entry d in
+    let there : number_is_of o digit (slice_get ROWS (number_in (slot_with (entry_for o) digit) class w)) ≡ true = holds_at (λ _ _ n. number_is_of o digit (slice_get ROWS n)) (slot_with (entry_for o) digit) class w slot c v in
+    rw h at there
 
-of_digit : (o : Opcode) (digit : ℕ) (row : Row) → o.byte < 256 → digit < 8 → Contains (rows_in (slot_with (entry_for o) digit)) row → ((line_of row).opcode ≡ o) × (digit_matches (line_of row).tail ((8 * digit) ∷ []) ≡ true)
+of_digit : (o : Opcode) (digit class w : ℕ) (row : Row) → o.byte < 256 → digit < 8 → class < 12 → w < 2 → slice_get ROWS (number_in (slot_with (entry_for o) digit) class w) ≡ Some row → ((line_of row).opcode ≡ o) × (digit_matches (line_of row).tail ((8 * digit) ∷ []) ≡ true)
 unfolding is_of
-of_digit o digit row b d h =
-    let p = and_parts (is_opcode o (line_of row).opcode) (digit_matches (line_of row).tail ((8 * digit) ∷ [])) (row_is_of o digit row b d h) in
+of_digit o digit class w row b d c v h =
+    let p = and_parts (is_opcode o (line_of row).opcode) (digit_matches (line_of row).tail ((8 * digit) ∷ [])) (row_is_of o digit class w row b d c v h) in
     (opcode_same o (line_of row).opcode p.0, p.1)
 
-in_slot_at_end : (o : Opcode) (row : Row) (t : Bool) → nat_lt (entry_for o) 128 ≡ t → o.byte < 256 → Contains (rows_in (if t then entry_for o else 0)) row → (line_of row).opcode ≡ o
-unfolding rows_in
-in_slot_at_end o row true e b h = (of_digit o 0 row b (omega arith) (rw e h)).0
-in_slot_at_end o row false e b h = absurd (omega (arith, h.1))
+-- slot 0 has no row
 
-only_of_slot : (o : Opcode) (rest : List ℕ) (row : Row) → o.byte < 256 → Contains (rows_in (slot_of o rest)) row → InSlot o rest row
-only_of_slot o [] row b h = record { opcode_is = in_slot_at_end o row (nat_lt (entry_for o) 128) refl b h; digit_is = nothing_stands (line_of row).tail }
-only_of_slot o (byte ∷ rest) row b h =
-    let p = of_digit o (reg_of byte) row b (omega arith) h in
+is_none : Option Row → Bool
+is_none None = true
+is_none (Some row) = false
+
+nothing_in_first : holds_in (λ _ _ n. is_none (slice_get ROWS n)) 0 ≡ true
+unfolding holds_in is_none
+nothing_in_first = refl
+
+none_in_first : (class w : ℕ) (row : Row) → class < 12 → w < 2 → slice_get ROWS (number_in 0 class w) ≡ Some row → ⊥
+unfolding is_none
+none_in_first class w row c v h =
+    let none : is_none (slice_get ROWS (number_in 0 class w)) ≡ true = holds_at (λ _ _ n. is_none (slice_get ROWS n)) 0 class w nothing_in_first c v in
+    let no : false ≡ true = rw h at none in
+    cc
+
+in_slot_at_end : (o : Opcode) (class w : ℕ) (row : Row) (t : Bool) → nat_lt (entry_for o) 128 ≡ t → o.byte < 256 → class < 12 → w < 2 → slice_get ROWS (number_in (if t then entry_for o else 0) class w) ≡ Some row → (line_of row).opcode ≡ o
+in_slot_at_end o class w row true e b c v h = (of_digit o 0 class w row b (omega arith) c v (rw e h)).0
+in_slot_at_end o class w row false e b c v h = absurd (none_in_first class w row c v h)
+
+only_of_slot : (o : Opcode) (rest : List ℕ) (class w : ℕ) (row : Row) → o.byte < 256 → class < 12 → w < 2 → slice_get ROWS (number_in (slot_of o rest) class w) ≡ Some row → InSlot o rest row
+only_of_slot o [] class w row b c v h = record { opcode_is = in_slot_at_end o class w row (nat_lt (entry_for o) 128) refl b c v h; digit_is = nothing_stands (line_of row).tail }
+only_of_slot o (byte ∷ rest) class w row b c v h =
+    let p = of_digit o (reg_of byte) class w row b (omega arith) c v h in
     record { opcode_is = p.0; digit_is = same_digit (line_of row).tail byte rest p.1 }
 
-pub only_in_slot : (o : Opcode) (rest : List ℕ) (slot : ℕ) (row : Row) → o.byte < 256 → slot ≡ slot_of o rest → Contains (slice_range BY_KEY (slice_index STARTS slot) (slice_index STARTS (slot + 1))) row → InSlot o rest row
-unfolding rows_in
-only_in_slot o rest slot row b s h = only_of_slot o rest row b (rw s at h)
+-- nor one of another key
+
+-- the number of each class
+LOWS : List ℕ
+LOWS = 0 ∷ 2 ∷ 4 ∷ 6 ∷ 8 ∷ 16 ∷ 9 ∷ 11 ∷ 13 ∷ 15 ∷ 23 ∷ 256 ∷ []
+
+number_is_for : ℕ → ℕ → Option Row → Bool
+number_is_for class w None = true
+number_is_for class w (Some row) = (low_of row == slice_index LOWS class) && takes row w
+
+all_are_for : agree_below (holds_in (λ class w n. number_is_for class w (slice_get ROWS n))) (λ _. true) 135 ≡ true
+unfolding holds_in number_is_for low_of takes number_of LOWS
+all_are_for = refl
+
+lows_back : agree_below (λ low. (slice_index LOWS (class_of low) == low) || (slice_index LOWS (class_of low) == 256)) (λ _. true) 256 ≡ true
+unfolding LOWS
+lows_back = refl
+
+low_back : (t : Bool) (found low : ℕ) → ((found == low) || (found == 256)) ≡ true → found < 32 → found ≡ low
+low_back t found low h b = grind (arith, nat_tests)
+
+key_of_slot : (numbers : PrefixNumbers) (slot : ℕ) (row : Row) → slot < 135 → numbers.low < 256 → slice_get ROWS (number_in slot (class_of numbers.low) (min numbers.w 1)) ≡ Some row → key_fits numbers (entry_of row) ≡ true
+unfolding number_is_for takes low_of
+key_of_slot numbers slot row s b h =
+    let class = class_of numbers.low in
+    let w = min numbers.w 1 in
+    let cells : holds_in (λ class w n. number_is_for class w (slice_get ROWS n)) slot ≡ true = agree_below_at (holds_in (λ class w n. number_is_for class w (slice_get ROWS n))) (λ _. true) 135 slot all_are_for s in
+    let there : number_is_for class w (slice_get ROWS (number_in slot class w)) ≡ true = holds_at (λ class w n. number_is_for class w (slice_get ROWS n)) slot class w cells (class_below numbers.low b) (at_most_one numbers.w) in
+    let fits : ((low_of row == slice_index LOWS class) && takes row w) ≡ true = rw h at there in
+    let p = and_parts (low_of row == slice_index LOWS class) (takes row w) fits in
+    let is : low_of row ≡ slice_index LOWS class = equal _ _ p.0 in
+    let below : slice_index LOWS class < 32 = rw (← is) (low_below row) in
+    let low : slice_index LOWS class ≡ numbers.low = low_back true _ _ (agree_below_at (λ low. (slice_index LOWS (class_of low) == low) || (slice_index LOWS (class_of low) == 256)) (λ _. true) 256 numbers.low lows_back b) below in
+    rw (is ∙ low, itself numbers.low, p.1) refl
+  where
+    low_below : (row : Row) → low_of row < 32
+    low_below row = omega arith
+
+    itself : (a : ℕ) → (a == a) ≡ true
+    itself a = grind (arith, nat_tests)
+
+pub only_in_slot : (numbers : PrefixNumbers) (o : Opcode) (rest : List ℕ) (slot : ℕ) (found : Option Row) → o.byte < 256 → numbers.low < 256 → slot < 135 → slot ≡ slot_of o rest → found ≡ slice_get ROWS (number_in slot (class_of numbers.low) (min numbers.w 1)) → IfSome found (λ row. InSlot o rest row × (key_fits numbers (entry_of row) ≡ true))
+only_in_slot numbers o rest slot None b l s e h = tt
+only_in_slot numbers o rest slot (Some row) b l s e h =
+    (only_of_slot o rest (class_of numbers.low) (min numbers.w 1) row b (class_below numbers.low l) (at_most_one numbers.w) (rw (← e) (sym h)), key_of_slot numbers slot row s l (sym h))

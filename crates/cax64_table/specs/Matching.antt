@@ -1,4 +1,4 @@
-use Rattle.std.specs.Prelude.{ℕ, ◌==◌, ◌&&◌, ◌||◌, not, Bool, true, false, if◌then◌else◌, List, [], ◌∷◌, Option, Some, option_map, option_and_then}
+use Rattle.std.specs.Prelude.{ℕ, min, nat_lt, ◌==◌, ◌&&◌, ◌||◌, not, Bool, true, false, if◌then◌else◌, List, [], ◌∷◌, Option, Some, option_map, option_and_then}
 use Rattle.cax64_machine_code.specs.declared.line.Opcode.{Opcode}
 use Rattle.cax64_machine_code.specs.declared.line.TailField.{TailField}
 use Rattle.cax64_machine_code.specs.declared.line.TailField.TheVariants.{NoTail, Modrm}
@@ -30,6 +30,19 @@ numbers_fit numbers packed =
     && ((not numbers.has_high || (bits_at packed 11 1 == numbers.high))
     && ((numbers.is_free || flag_at packed 12)
     && ((bits_at packed 4 2 == 2) || (bits_at packed 4 2 == numbers.w))))
+
+-- a row of a slot is looked up by the lowest of these numbers and W, and by 1 for a W above 1
+abbrev pub key_fits : PrefixNumbers → ℕ → Bool
+key_fits numbers packed =
+    (bits_at packed 6 5 == numbers.low)
+    && ((bits_at packed 4 2 == 2) || (bits_at packed 4 2 == min numbers.w 1))
+
+-- what this leaves open
+abbrev pub others_fit : PrefixNumbers → ℕ → Bool
+others_fit numbers packed =
+    (not numbers.has_high || (bits_at packed 11 1 == numbers.high))
+    && ((numbers.is_free || flag_at packed 12)
+    && (nat_lt numbers.w 2 || (bits_at packed 4 2 == 2)))
 
 -- what follows the opcode is there, if the row has a tail
 abbrev pub stands : TailField → List ℕ → Bool

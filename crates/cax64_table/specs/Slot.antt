@@ -1,11 +1,11 @@
-use Rattle.std.specs.Prelude.{◌≡◌, ℕ, ◌+◌, ◌-◌, nat_lt, if◌then◌else◌, List, [], ◌∷◌, slice_index}
+use Rattle.std.specs.Prelude.{◌≡◌, ℕ, ◌+◌, ◌-◌, nat_lt, if◌then◌else◌, List, [], ◌∷◌, slice_index, slice_index_or}
 use Rattle.cax64_machine_code.specs.Fields.{reg_of}
 use Rattle.cax64_machine_code.specs.Line.{digit_matches}
 use Rattle.cax64_machine_code.specs.Rows.{line_of}
 use Rattle.cax64_machine_code.specs.declared.line.Opcode.{Opcode}
 use Rattle.cax64_machine_code.specs.declared.row.Row.{Row}
 use Rattle.cax64_table.specs.Matching.{stands}
-use Rattle.cax64_table.specs.declared.index.TheConstants.{SLOTS}
+use Rattle.cax64_table.specs.declared.index.TheConstants.{CLASSES, INDEX, SLOTS}
 
 -- A row is looked up by a slot for its opcode and digit.
 
@@ -21,6 +21,14 @@ slot_with entry digit = if nat_lt entry 128 then entry else (entry - 128 + digit
 abbrev pub slot_of : Opcode → List ℕ → ℕ
 slot_of opcode [] = if nat_lt (entry_for opcode) 128 then entry_for opcode else 0
 slot_of opcode (modrm ∷ bytes) = slot_with (entry_for opcode) (reg_of modrm)
+
+-- the class of a prefix by its lowest number
+abbrev pub class_of : ℕ → ℕ
+class_of low = slice_index CLASSES low
+
+-- the number of the row in a slot, by the class of the prefix and W
+abbrev pub number_in : ℕ → ℕ → ℕ → ℕ
+number_in slot class w = slice_index (slice_index_or (slice_index_or INDEX slot []) class []) w
 
 -- a row has this opcode, and the digit that follows it, if the row has one
 pub record InSlot (opcode : Opcode) (rest : List ℕ) (row : Row) : Type 0 where

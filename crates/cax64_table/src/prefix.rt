@@ -3,7 +3,7 @@
 ghost use Rattle.std.specs.Prelude.{◌≡◌};
 ghost use Rattle.std.specs.Int.{from_bool};
 ghost use Rattle.cax64_machine_code.specs.Prefix.{w_of, r_of, x_of, b_of, vvvv_of, has_rex};
-ghost use Rattle.cax64_table.specs.Matching.{numbers_fit};
+ghost use Rattle.cax64_table.specs.Matching.{others_fit};
 ghost use Rattle.cax64_table.specs.Prefix.{prefix_of};
 ghost use Rattle.cax64_table.specs.PrefixNumbers.{map_number, numbers_of, set_number};
 
@@ -53,16 +53,14 @@ pub struct PrefixNumbers {
 }
 
 impl PrefixNumbers {
-    /// The numbers are those of a packed row.
+    /// What a key leaves open of these numbers is as a packed row has it.
     #[inline(always)]
-    pub(crate) fn fit(self, packed: u64) -> bool
-        ensures { result ≡ numbers_fit self packed }
+    pub(crate) fn fit_beside_key(self, packed: u64) -> bool
+        ensures { result ≡ others_fit self packed }
     {
-        let w = bits(packed, 4, 2);
-        bits(packed, 6, 5) == self.low
-            && (!self.has_high || bits(packed, 11, 1) == self.high)
+        (!self.has_high || bits(packed, 11, 1) == self.high)
             && (self.is_free || flag(packed, 12))
-            && (w == 2 || w == self.w)
+            && (self.w < 2 || bits(packed, 4, 2) == 2)
     }
 }
 
