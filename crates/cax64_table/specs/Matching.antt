@@ -31,7 +31,7 @@ numbers_fit numbers packed =
     && ((numbers.is_free || flag_at packed 12)
     && ((bits_at packed 4 2 == 2) || (bits_at packed 4 2 == numbers.w))))
 
--- a row of a slot is looked up by the lowest of these numbers and W, and by 1 for a W above 1
+-- a row of a slot is looked up by low and W, and by 1 for a W above 1
 abbrev pub key_fits : PrefixNumbers → ℕ → Bool
 key_fits numbers packed =
     (bits_at packed 6 5 == numbers.low)

@@ -22,7 +22,7 @@ abbrev pub slot_of : Opcode → List ℕ → ℕ
 slot_of opcode [] = if nat_lt (entry_for opcode) 128 then entry_for opcode else 0
 slot_of opcode (modrm ∷ bytes) = slot_with (entry_for opcode) (reg_of modrm)
 
--- the class of a prefix by its lowest number
+-- the class of a prefix by low
 abbrev pub class_of : ℕ → ℕ
 class_of low = slice_index CLASSES low
 

@@ -1,15 +1,14 @@
-//! Which row has an opcode, a digit and a prefix. Each opcode has a slot, or one for each digit where its rows have one; in
-//! a slot each row stands where its prefix has it, so that one look-up takes the place of a search.
+//! Which row has an opcode, a digit and a prefix. Each opcode has a slot, or one for each digit where its rows have one. A
+//! slot has a place for each class of prefixes and each W, so that one look-up takes the place of a search.
 
-ghost use Rattle.std.specs.Prelude.{◌≡◌, ◌<◌, IfSome, Some, true, min};
+ghost use Rattle.std.specs.Prelude.{◌≡◌, ◌<◌, IfSome, Some, true};
 ghost use Rattle.std.specs.List.{slice_get};
 ghost use Rattle.cax64_machine_code.specs.Line.{digit_matches};
 ghost use Rattle.cax64_machine_code.specs.Rows.{line_of};
 ghost use Rattle.cax64_machine_code.specs.declared.row.Row.{Row};
 ghost use Rattle.cax64_table.specs.Matching.{key_fits};
 ghost use Rattle.cax64_table.specs.Packed.{entry_of};
-ghost use Rattle.cax64_table.specs.Slot.{InSlot, slot_of, class_of, number_in};
-ghost use Rattle.cax64_table.specs.declared.index.TheConstants.{ROWS};
+ghost use Rattle.cax64_table.specs.Slot.{InSlot, slot_of, slot_with, class_of, number_in};
 
 use crate::prefix::PrefixNumbers;
 use cax64_machine_code::line::Opcode;
@@ -38,7 +37,7 @@ const SLOTS: [u8; 512] = [
     0, 0, 0, 0,
 ];
 
-/// The class of a prefix by its lowest number: none, F0, 66, both, F2, F3; VEX in the map 0F with nothing, 66, F3 and F2;
+/// The class of a prefix by the number `low`: none, F0, 66, both, F2, F3; VEX in the map 0F with nothing, 66, F3 and F2;
 /// VEX in the map 0F 38 with F2. No row has any other, which is the last class.
 const CLASSES: [u8; 256] = [
     0, 11, 1, 11, 2, 11, 3, 11, 4, 6, 11, 7, 11, 8, 11, 9, 5, 11, 11, 11, 11, 11, 11, 10, 11, 11,
@@ -80,10 +79,12 @@ macro_rules! by_w {
     ($without:ident, $with:ident) => { [number!($without), number!($with)] };
 }
 
-/// No row.
+/// A slot without a row.
 macro_rules! none {
     () => { [NO_ROW, NO_ROW, NO_ROW, NO_ROW, NO_ROW, NO_ROW, NO_ROW, NO_ROW, NO_ROW, NO_ROW, NO_ROW, NO_ROW] };
 }
+
+// The places of a slot that has these rows, in the order of the classes. A row is for either W where nothing is said.
 
 /// A row without prefixes.
 macro_rules! plain {
@@ -105,12 +106,12 @@ macro_rules! lock_32_or_64 {
     ($without:ident, $with:ident) => { [NO_ROW, by_w!($without, $with), NO_ROW, NO_ROW, NO_ROW, NO_ROW, NO_ROW, NO_ROW, NO_ROW, NO_ROW, NO_ROW, NO_ROW] };
 }
 
-/// A row behind 66, and two without it, of which one has W.
+/// A row behind 66, without W, and two without prefixes, the second with W.
 macro_rules! by_width {
     ($word:ident, $without:ident, $with:ident) => { [by_w!($without, $with), NO_ROW, without_w!($word), NO_ROW, NO_ROW, NO_ROW, NO_ROW, NO_ROW, NO_ROW, NO_ROW, NO_ROW, NO_ROW] };
 }
 
-/// The same behind F0.
+/// The same rows, all behind F0.
 macro_rules! lock_by_width {
     ($word:ident, $without:ident, $with:ident) => { [NO_ROW, by_w!($without, $with), NO_ROW, without_w!($word), NO_ROW, NO_ROW, NO_ROW, NO_ROW, NO_ROW, NO_ROW, NO_ROW, NO_ROW] };
 }
@@ -130,12 +131,12 @@ macro_rules! by_prefix {
     ($ps:ident, $pd:ident, $ss:ident, $sd:ident) => { [any!($ps), NO_ROW, any!($pd), NO_ROW, any!($sd), any!($ss), NO_ROW, NO_ROW, NO_ROW, NO_ROW, NO_ROW, NO_ROW] };
 }
 
-/// A row of VEX in the map 0F, with 66.
+/// A row of VEX in the map 0F, with 66 and without W.
 macro_rules! vex_66 {
     ($row:ident) => { [NO_ROW, NO_ROW, NO_ROW, NO_ROW, NO_ROW, NO_ROW, NO_ROW, without_w!($row), NO_ROW, NO_ROW, NO_ROW, NO_ROW] };
 }
 
-/// Rows of VEX in the map 0F, with nothing, 66, F3 and F2.
+/// Rows of VEX in the map 0F, with nothing, 66, F3 and F2, all without W.
 macro_rules! vex_by_prefix {
     ($ps:ident, $pd:ident, $ss:ident, $sd:ident) => { [NO_ROW, NO_ROW, NO_ROW, NO_ROW, NO_ROW, NO_ROW, without_w!($ps), without_w!($pd), without_w!($ss), without_w!($sd), NO_ROW, NO_ROW] };
 }
@@ -145,7 +146,8 @@ macro_rules! vex_f2 {
     ($without:ident, $with:ident) => { [NO_ROW, NO_ROW, NO_ROW, NO_ROW, NO_ROW, NO_ROW, NO_ROW, NO_ROW, NO_ROW, NO_ROW, by_w!($without, $with), NO_ROW] };
 }
 
-/// The number of the row in each slot, by the class of the prefix and W. Beside it stands the opcode, with the digit.
+/// The number of the row in each slot, by the class of the prefix and W. Beside it stands the opcode, with the digit. The
+/// last slots have no opcode: a slot and a digit are never more than their last number.
 const INDEX: [[[u8; 2]; 12]; 135] = [
     none!(), // no opcode
     lock!(lock_addb_mr), // 00
@@ -275,13 +277,13 @@ const INDEX: [[[u8; 2]; 12]; 135] = [
     none!(), // 0F C7 /5
     none!(), // 0F C7 /6
     none!(), // 0F C7 /7
-    none!(), // none
-    none!(), // none
-    none!(), // none
-    none!(), // none
-    none!(), // none
-    none!(), // none
-    none!(), // none
+    none!(), // no opcode
+    none!(), // no opcode
+    none!(), // no opcode
+    none!(), // no opcode
+    none!(), // no opcode
+    none!(), // no opcode
+    none!(), // no opcode
 ];
 
 /// The rows by number.
@@ -446,21 +448,28 @@ const ROWS: [Row; 158] = [
     Row::nopw_rm,
 ];
 
-/// The slot of an opcode, and of the digit of the next byte where its rows have digits. The digit is chosen without a
-/// branch, which would often be predicted wrongly.
+/// The slot of an entry of [`SLOTS`], and of a digit where it has one for each. Nothing is tested: a branch would often be
+/// predicted wrongly.
+#[inline(always)]
+fn slot_with(entry: u8, digit: u8) -> usize
+    requires { digit < 8 }
+    ensures is { result ≡ slot_with entry digit }
+    ensures below { result < 135 }
+{
+    usize::from(entry % 128 + entry / 128 * digit)
+}
+
+/// The slot of an opcode, and of the digit of the next byte where its rows have digits.
 #[inline(always)]
 fn slot(opcode: Opcode, rest: &[u8]) -> usize
     ensures is { result ≡ slot_of opcode rest.now }
     ensures below { result < 135 }
 {
     let number = usize::from(opcode.byte) + if opcode.escape { 256 } else { 0 };
-    let slot = SLOTS[number];
+    let entry = SLOTS[number];
     match rest.first() {
-        Some(modrm) => {
-            let digit = if slot < 128 { 0 } else { modrm / 8 % 8 };
-            usize::from(slot % 128 + digit)
-        }
-        None if slot < 128 => usize::from(slot),
+        Some(modrm) => slot_with(entry, modrm / 8 % 8),
+        None if entry < 128 => usize::from(entry),
         None => 0,
     }
 }
@@ -493,8 +502,8 @@ fn row_at(rows: &[Row], place: usize) -> Option<Row>
     rows.get(place).copied()
 }
 
-/// The row that has this opcode, the digit that the next byte holds, if the opcode's rows have digits, and the lowest of
-/// these numbers; and where W is above 1, which no row has, one that leaves W open.
+/// The row of this opcode, of the digit that the next byte holds, if the opcode's rows have digits, of this `low` and of
+/// this W, for which 1 stands where it is above.
 #[inline(always)]
 pub(crate) fn row_of_key(numbers: PrefixNumbers, opcode: Opcode, rest: &[u8]) -> Option<Row>
     ensures only { IfSome result (λ row. InSlot opcode rest.now row × (key_fits numbers (entry_of row) ≡ true)) }
