@@ -1,12 +1,23 @@
 //! Numbers as texts, digit by digit: the formatting of `write!` is made for more than that, and takes several times as
-//! long.
+//! long. It stays where the room may not do for all of a number, since it leaves nothing of what is refused.
 
-ghost use Rattle.std.specs.Prelude.{◌≡◌, ◌++◌, ◌∷◌, ◌<◌, ◌≤◌, [], OnOk, false, string_bytes};
+ghost use Rattle.std.specs.Prelude.{◌≡◌, ◌++◌, ◌∷◌, ◌-◌, ◌<◌, ◌≤◌, [], OnOk, false, nat_le, string_bytes, string_capacity, string_len};
 ghost use Rattle.std.specs.Fmt.{decimal, digit_glyph, digits};
 ghost use Rattle.cax64_address.specs.Digits.{eight_digits, four_digits, two_digits};
 ghost use Rattle.cax64_address.specs.Text.{hexadecimal, short_number};
 
 use std::alloc::{AllocError, Allocator};
+
+/// The most hexadecimal digits of a number.
+const DIGITS: usize = 16;
+
+/// Whether so many bytes can be added with no more memory.
+#[inline(always)]
+pub fn has_room<A: Allocator>(out: &String<A>, bytes: usize) -> bool
+    ensures { result ≡ nat_le bytes (string_capacity out.now - string_len out.now) }
+{
+    bytes <= out.capacity().saturating_sub(out.len())
+}
 
 /// A hexadecimal digit.
 #[inline(always)]
@@ -125,10 +136,22 @@ pub(crate) fn push_decimal<A: Allocator>(out: &mut String<A>, byte: u8) -> Resul
     push_digit(out, byte % 10)
 }
 
+/// Adds the hexadecimal digits where there may be no room for them.
+#[cold]
+#[inline(never)]
+fn format_hex_digits<A: Allocator>(out: &mut String<A>, number: u64) -> Result<(), AllocError>
+    ensures { OnOk result (string_bytes out.new ≡ string_bytes out.old ++ digits 16 false number) }
+{
+    write!(out, "{number:x}")
+}
+
 /// Adds the hexadecimal digits, in lower case and without leading zeros.
 pub fn push_hex_digits<A: Allocator>(out: &mut String<A>, number: u64) -> Result<(), AllocError>
     ensures { OnOk result (string_bytes out.new ≡ string_bytes out.old ++ digits 16 false number) }
 {
+    if !has_room(out, DIGITS) {
+        return format_hex_digits(out, number);
+    }
     if number < 4_294_967_296 {
         return push_hex32(out, number as u32);
     }
@@ -136,10 +159,22 @@ pub fn push_hex_digits<A: Allocator>(out: &mut String<A>, number: u64) -> Result
     push_eight(out, (number % 4_294_967_296) as u32)
 }
 
+/// Adds `0x` and the hexadecimal digits where there may be no room for them.
+#[cold]
+#[inline(never)]
+fn format_hexadecimal<A: Allocator>(out: &mut String<A>, number: u64) -> Result<(), AllocError>
+    ensures { OnOk result (string_bytes out.new ≡ string_bytes out.old ++ hexadecimal number) }
+{
+    write!(out, "0x{number:x}")
+}
+
 /// Adds `0x` and the hexadecimal digits.
 pub fn push_hexadecimal<A: Allocator>(out: &mut String<A>, number: u64) -> Result<(), AllocError>
     ensures { OnOk result (string_bytes out.new ≡ string_bytes out.old ++ hexadecimal number) }
 {
+    if !has_room(out, 2 + DIGITS) {
+        return format_hexadecimal(out, number);
+    }
     out.push('0')?;
     out.push('x')?;
     push_hex_digits(out, number)

@@ -6,7 +6,7 @@ ghost use Rattle.cax64_address.specs.Text.{magnitude_text, offset_text, late_tex
 ghost use Rattle.cax64_address.specs.declared.text.Dialect.TheVariants.{Att, Xed};
 
 use crate::amode::{Amode, Scale};
-use crate::number::{push_decimal, push_hexadecimal, push_short_number};
+use crate::number::{has_room, push_decimal, push_hexadecimal, push_short_number};
 use crate::offset::{AmodeOffset, AmodeOffsetPlusKnownOffset};
 use crate::operand::{GprMem, XmmMem};
 use cax64_register::{AsReg, Size};
@@ -23,6 +23,9 @@ pub enum Dialect {
 
 /// Room for the text of any address of the hardware's registers.
 const ROOM: usize = 64;
+
+/// Room for the text of any key.
+const LATE_ROOM: usize = 13;
 
 fn push_magnitude<A: Allocator>(
     out: &mut String<A>,
@@ -72,6 +75,26 @@ impl AmodeOffset {
     }
 }
 
+/// Adds the key of a late offset where there may be no room for it.
+#[cold]
+#[inline(never)]
+fn format_late<A: Allocator>(out: &mut String<A>, key: u8) -> Result<(), AllocError>
+    ensures { OnOk result (string_bytes out.new ≡ string_bytes out.old ++ late_text (Some key)) }
+{
+    write!(out, "<offset:{key}>+")
+}
+
+fn push_late<A: Allocator>(out: &mut String<A>, key: u8) -> Result<(), AllocError>
+    ensures { OnOk result (string_bytes out.new ≡ string_bytes out.old ++ late_text (Some key)) }
+{
+    if !has_room(out, LATE_ROOM) {
+        return format_late(out, key);
+    }
+    out.push_str("<offset:")?;
+    push_decimal(out, key)?;
+    out.push_str(">+")
+}
+
 impl AmodeOffsetPlusKnownOffset {
     /// Adds the text to `out`.
     pub fn push_to<A: Allocator>(
@@ -82,9 +105,7 @@ impl AmodeOffsetPlusKnownOffset {
         ensures { OnOk result (string_bytes out.new ≡ string_bytes out.old ++ late_text self.now.offset ++ offset_text dialect self.now.simm32) }
     {
         if let Some(key) = self.offset {
-            out.push_str("<offset:")?;
-            push_decimal(out, key)?;
-            out.push_str(">+")?;
+            push_late(out, key)?;
         }
         self.simm32.push_to(out, dialect)
     }
@@ -105,22 +126,21 @@ impl AmodeOffsetPlusKnownOffset {
     }
 }
 
-/// What stands behind an index, up to the end.
-fn scale_end(dialect: Dialect, scale: Scale) -> &'static str
-    ensures { result.now ≡ scale_text dialect scale ++ codes ")" }
+fn scale_text(dialect: Dialect, scale: Scale) -> &'static str
+    ensures { result.now ≡ scale_text dialect scale }
 {
     match dialect {
         Dialect::Att => match scale {
-            Scale::One => ")",
-            Scale::Two => ", 2)",
-            Scale::Four => ", 4)",
-            Scale::Eight => ", 8)",
+            Scale::One => "",
+            Scale::Two => ", 2",
+            Scale::Four => ", 4",
+            Scale::Eight => ", 8",
         },
         Dialect::Xed => match scale {
-            Scale::One => ",1)",
-            Scale::Two => ",2)",
-            Scale::Four => ",4)",
-            Scale::Eight => ",8)",
+            Scale::One => ",1",
+            Scale::Two => ",2",
+            Scale::Four => ",4",
+            Scale::Eight => ",8",
         },
     }
 }
@@ -151,7 +171,8 @@ fn push_indexed<R: AsReg, A: Allocator + Copy>(
     base.push_to(out, alloc, Some(Size::Quadword))?;
     out.push_str(comma(dialect))?;
     index.push_to(out, alloc, Some(Size::Quadword))?;
-    out.push_str(scale_end(dialect, scale))
+    out.push_str(scale_text(dialect, scale))?;
+    out.push(')')
 }
 
 impl<R: AsReg> Amode<R> {

@@ -7,23 +7,14 @@ use Rattle.cax64_operand.specs.OperandList.{list_of}
 use Rattle.cax64_operand.specs.declared.operand.Operands.{Operands}
 use Rattle.cax64_operand.specs.declared.operand.Operands.TheVariants as operands
 use Rattle.cax64_text.specs.Names.{Names}
-use Rattle.cax64_text.specs.Operand.{all_nameable, has_register, listed, named_predicate, print_order}
-use Rattle.cax64_text.specs.Slots.{listed_slots, no_slots, nop_slots, slots_in_order, slots_nameable, slots_text, with_slot}
+use Rattle.cax64_text.specs.Operand.{has_register, listed, named_predicate, print_order}
+use Rattle.cax64_text.specs.Slots.{listed_slots, no_slots, nop_slots, slots_in_order, slots_text, with_slot}
 use Rattle.cax64_text.specs.Style.{is_forward, style_of}
 use Rattle.cax64_text.specs.Text.{head, text}
 use Rattle.cax64_text.specs.declared.slots.Slots.{Slots}
 
 abbrev pub slots_of : {R A B C D E F : Type 0} → Operands R A B C D E F → Slots R A B C D E F
 slots_of o = fold no_slots with_slot nop_slots o
-
-pub nameable_slots : {R A B C D E F : Type 0} (n : Names A B C D E F) (o : Operands R A B C D E F) → slots_nameable n (slots_of o) ≡ all_nameable n (list_of o)
-nameable_slots n operands.Zero = refl
-nameable_slots n (operands.One a) = refl
-nameable_slots n (operands.Two a b) = refl
-nameable_slots n (operands.Three a b c) = refl
-nameable_slots n (operands.Four a b c d) = refl
-nameable_slots n (operands.Five a b c d e) = refl
-nameable_slots n (operands.Nop nop) = refl
 
 listed_in_order : {R A B C D E F : Type 0} (n : Names A B C D E F) (d : Dialect) (row : Row) (forward : Bool) (o : Operands R A B C D E F) → listed_slots n d row true (slots_in_order forward (slots_of o)) ≡ listed n d row true (print_order forward (list_of o))
 listed_in_order n d row true operands.Zero = refl

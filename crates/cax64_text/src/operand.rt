@@ -6,7 +6,7 @@ ghost use Rattle.cax64_text.specs.Operand.{target_text, imm_text, named_imm, imm
 
 use crate::names::RegisterNames;
 use crate::piece::{add_imm, add_operand};
-use cax64_address::number::{push_hex_digits, push_hexadecimal, push_short_number};
+use cax64_address::number::{has_room, push_hex_digits, push_hexadecimal, push_short_number};
 use cax64_address::operand::{GprMem, XmmMem};
 use cax64_address::text::Dialect;
 use cax64_machine_code::row::Row;
@@ -28,9 +28,24 @@ pub(crate) fn push_target<A: Allocator>(
     }
 }
 
+/// Room for the text of any immediate.
+const IMM_ROOM: usize = 19;
+
+/// Adds a number where there may be no room for it: the formatting leaves nothing of what is refused.
+#[cold]
+#[inline(never)]
+fn format_number<A: Allocator>(out: &mut String<A>, bits: u64) -> Result<(), AllocError>
+    ensures { OnOk result (string_bytes out.new ≡ string_bytes out.old ++ immediate_text.imm_text bits) }
+{
+    write!(out, "$0x{bits:x}")
+}
+
 pub(crate) fn push_number<A: Allocator>(out: &mut String<A>, bits: u64) -> Result<(), AllocError>
     ensures { OnOk result (string_bytes out.new ≡ string_bytes out.old ++ immediate_text.imm_text bits) }
 {
+    if !has_room(out, IMM_ROOM) {
+        return format_number(out, bits);
+    }
     out.push('$')?;
     out.push('0')?;
     out.push('x')?;
