@@ -1,7 +1,6 @@
-use Rattle.std.proofs.Common.{◌≡◌, ℕ, List, [], ◌∷◌, Bool, true, false, refl, ap, sym, ◌∙◌, Option, Some, None, arith}
+use Rattle.std.proofs.Common.{◌≡◌, ℕ, List, [], ◌∷◌, Bool, true, false, refl, ap, sym, ◌∙◌, Option, Some, None}
 use Rattle.std.specs.Prelude.{◌==◌, ◌||◌, not, if◌then◌else◌, option_map}
 use Rattle.std.proofs.lemmas.Bool.{and_parts}
-use Rattle.std.proofs.lemmas.Bool.Decides.{nat_tests}
 use Rattle.cax64_machine_code.specs.Line.{prefix_matches, digit_matches, after, opcode_at, opcode_bytes}
 use Rattle.cax64_machine_code.specs.Prefix.{Prefix}
 use Rattle.cax64_machine_code.specs.Reading.{matched_at, or_later, row_at}
@@ -13,16 +12,8 @@ use Rattle.cax64_machine_code.proofs.Matched.{row_found}
 use Rattle.cax64_machine_code.proofs.Uniqueness.{behind, some_if}
 use Rattle.cax64_table.specs.Cursor.{next_byte}
 use Rattle.cax64_table.specs.Matching.{front_opcode, escaped_opcode, plain_opcode}
-use Rattle.cax64_table.proofs.Wanted.{fits}
-
-equal : (a b : ℕ) → (a == b) ≡ true → a ≡ b
-equal a b h = grind (arith, nat_tests)
-
-itself : (a : ℕ) → (a == a) ≡ true
-itself a = grind (arith, nat_tests)
-
-some_same : {A : Type 0} (a b : A) → ◌≡◌ {A = Option A} (Some a) (Some b) → a ≡ b
-some_same a b e = cc
+use Rattle.cax64_table.proofs.PrefixNumbers.{equal, itself}
+use Rattle.cax64_table.proofs.Wanted.{fits, some_same}
 
 -- the parts of what is read
 pub parts_same : {A B : Type 0} (a c : A) (b d : B) → ◌≡◌ {A = Option (A × B)} (Some (a, b)) (Some (c, d)) → (a ≡ c) × (b ≡ d)

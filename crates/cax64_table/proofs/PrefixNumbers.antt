@@ -31,7 +31,7 @@ low_is _ = refl
 pub equal : (a b : ℕ) → (a == b) ≡ true → a ≡ b
 equal a b h = grind (arith, nat_tests)
 
-itself : (a : ℕ) → (a == a) ≡ true
+pub itself : (a : ℕ) → (a == a) ≡ true
 itself a = grind (arith, nat_tests)
 
 not_equal : (a b : ℕ) → a ≢ b → (a == b) ≡ false

@@ -18,7 +18,7 @@ use Rattle.cax64_table.specs.Digit.{digit_of}
 use Rattle.cax64_table.specs.Slot.{entry_for, slot_with, slot_of, class_of, number_in, InSlot}
 use Rattle.cax64_table.specs.declared.index.TheConstants.{ROWS}
 use Rattle.cax64_table.specs.declared.prefix.PrefixNumbers.{PrefixNumbers}
-use Rattle.cax64_table.proofs.PrefixNumbers.{equal, same_are}
+use Rattle.cax64_table.proofs.PrefixNumbers.{equal, itself, same_are}
 
 -- each class has a place in a slot
 
@@ -204,8 +204,8 @@ lows_back : agree_below (λ low. (slice_index LOWS (class_of low) == low) || (sl
 unfolding LOWS
 lows_back = refl
 
-low_back : (t : Bool) (found low : ℕ) → ((found == low) || (found == 256)) ≡ true → found < 32 → found ≡ low
-low_back t found low h b = grind (arith, nat_tests)
+low_back : (found low : ℕ) → ((found == low) || (found == 256)) ≡ true → found < 32 → found ≡ low
+low_back found low h b = grind (arith, nat_tests)
 
 key_of_slot : (numbers : PrefixNumbers) (slot : ℕ) (row : Row) → slot < 135 → numbers.low < 256 → slice_get ROWS (number_in slot (class_of numbers.low) (min numbers.w 1)) ≡ Some row → key_fits numbers (entry_of row) ≡ true
 unfolding number_is_for takes low_of
@@ -218,14 +218,11 @@ key_of_slot numbers slot row s b h =
     let p = and_parts (low_of row == slice_index LOWS class) (takes row w) fits in
     let is : low_of row ≡ slice_index LOWS class = equal _ _ p.0 in
     let below : slice_index LOWS class < 32 = rw (← is) (low_below row) in
-    let low : slice_index LOWS class ≡ numbers.low = low_back true _ _ (agree_below_at (λ low. (slice_index LOWS (class_of low) == low) || (slice_index LOWS (class_of low) == 256)) (λ _. true) 256 numbers.low lows_back b) below in
+    let low : slice_index LOWS class ≡ numbers.low = low_back _ _ (agree_below_at (λ low. (slice_index LOWS (class_of low) == low) || (slice_index LOWS (class_of low) == 256)) (λ _. true) 256 numbers.low lows_back b) below in
     rw (is ∙ low, itself numbers.low, p.1) refl
   where
     low_below : (row : Row) → low_of row < 32
     low_below row = omega arith
-
-    itself : (a : ℕ) → (a == a) ≡ true
-    itself a = grind (arith, nat_tests)
 
 pub only_in_slot : (numbers : PrefixNumbers) (o : Opcode) (rest : List ℕ) (slot : ℕ) (found : Option Row) → o.byte < 256 → numbers.low < 256 → slot < 135 → slot ≡ slot_of o rest → found ≡ slice_get ROWS (number_in slot (class_of numbers.low) (min numbers.w 1)) → IfSome found (λ row. InSlot o rest row × (key_fits numbers (entry_of row) ≡ true))
 only_in_slot numbers o rest slot None b l s e h = tt

@@ -73,7 +73,7 @@ fit_parts numbers row h =
     and_parts (key_fits numbers (entry_of row)) (others_fit numbers (entry_of row))
     (regrouped (bits_at (entry_of row) 6 5 == numbers.low) (not numbers.has_high || (bits_at (entry_of row) 11 1 == numbers.high)) (numbers.is_free || flag_at (entry_of row) 12) ((bits_at (entry_of row) 4 2 == 2) || (bits_at (entry_of row) 4 2 == numbers.w)) ((bits_at (entry_of row) 4 2 == 2) || (bits_at (entry_of row) 4 2 == min numbers.w 1)) (nat_lt numbers.w 2 || (bits_at (entry_of row) 4 2 == 2)) h (w_split (bits_at (entry_of row) 4 2) numbers.w (ltb-true _ _ (takes_w row))))
 
-some_same : {A : Type 0} (a b : A) → ◌≡◌ {A = Option A} (Some a) (Some b) → a ≡ b
+pub some_same : {A : Type 0} (a b : A) → ◌≡◌ {A = Option A} (Some a) (Some b) → a ≡ b
 some_same a b e = cc
 
 beside : PrefixNumbers → List ℕ → Row → Bool

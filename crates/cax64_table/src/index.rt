@@ -448,15 +448,18 @@ const ROWS: [Row; 158] = [
     Row::nopw_rm,
 ];
 
-/// The slot of an entry of [`SLOTS`], and of a digit where it has one for each. Nothing is tested: a branch would often be
-/// predicted wrongly.
+/// The slot of an entry of [`SLOTS`], and of a digit where it has one for each.
 #[inline(always)]
 fn slot_with(entry: u8, digit: u8) -> usize
     requires { digit < 8 }
     ensures is { result ≡ slot_with entry digit }
     ensures below { result < 135 }
 {
-    usize::from(entry % 128 + entry / 128 * digit)
+    if entry < 128 {
+        usize::from(entry)
+    } else {
+        usize::from(entry - 128 + digit)
+    }
 }
 
 /// The slot of an opcode, and of the digit of the next byte where its rows have digits.
