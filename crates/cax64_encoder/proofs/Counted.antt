@@ -6,7 +6,7 @@ use Rattle.cax64_sink.specs.Puts.{puts}
 use Rattle.cax64_sink.specs.Rest.{long_actions, word_actions, is_imm_len}
 use Rattle.cax64_sink.specs.Run.{all_bytes}
 use Rattle.cax64_sink.proofs.PutRuns.{all_bytes-puts}
-use Rattle.cax64_sink.proofs.Rests.{each_len}
+use Rattle.cax64_sink.proofs.Rests.{rest_length}
 use Rattle.cax64_sink.specs.declared.DeferredTarget.{DeferredTarget}
 use Rattle.cax64_encoder.specs.Code.{trap_actions, code_actions}
 use Rattle.cax64_encoder.specs.declared.code.Code.{Code}
@@ -22,10 +22,8 @@ long_length : (long : Option ℕ) → length (all_bytes (long_actions long)) ≡
 long_length None = refl
 long_length (Some word) = refl
 
-word_length : (len word : ℕ) → is_imm_len len ≡ true → length (all_bytes (word_actions len word)) ≡ len
-word_length len word h = each_len (λ n. length (all_bytes (word_actions n word)) ≡ n) refl refl refl refl len h
-
 pub counted : (code : Code) → is_imm_len code.imm_len ≡ true → length (all_bytes (code_actions code)) ≡ length code.front + 4 * from_bool (is_some code.long) + code.imm_len
 counted code h =
+    let word : length (all_bytes (word_actions code.imm_len code.imm)) ≡ 0 + code.imm_len = rest_length None code.imm code.imm_len h in
     five_lengths (trap_actions code.trap) (puts code.front) (target_actions code.target) (long_actions code.long) (word_actions code.imm_len code.imm) (trap_bytes code.trap)
-    ∙ omega (arith, ap length (all_bytes-puts code.front), target_length code.target, long_length code.long, word_length code.imm_len code.imm h)
+    ∙ omega (arith, ap length (all_bytes-puts code.front), target_length code.target, long_length code.long, word)

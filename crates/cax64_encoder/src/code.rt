@@ -59,7 +59,7 @@ impl Code {
         sink.put_rest(self.long, self.imm, self.imm_len)
     }
 
-    /// The number of bytes. None of them is made for it.
+    /// The number of bytes. None of them is put.
     #[inline(always)]
     pub fn len(&self) -> u8
         requires is { IsCode self.now }

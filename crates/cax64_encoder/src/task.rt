@@ -43,7 +43,7 @@ impl<'a, R: Registers, S: CodeSink> Task<R, &'a S> for Checked {
     }
 }
 
-/// How much room the instruction takes. Nothing of its code is put, and of the bytes none is made.
+/// How much room the instruction takes. Nothing of its code is put.
 impl<'a, R: Registers, S: CodeSink> Task<R, Measuring<'a, S>> for Content {
     type Answer = RoomNeeded;
 
