@@ -2,9 +2,11 @@
 
 use crate::making::{FIRST, POOL, call_to, code_of, compare_with, push};
 use cax64_encoder::instruction::Instruction;
-use cax64_sink::{Constant, DeferredTarget, Label, Recorder, SinkError};
+use cax64_sink::{CodeSink, Constant, DeferredTarget, Label, Recorder, SinkError};
 use linked_list_allocator::LocalHeap;
 use std::alloc::{AllocError, Allocator, Global};
+use std::collections::HashMap;
+use std::hash::{BuildHasherDefault, FoldHasher};
 use x64_code_buffer::{BindError, CodeBuffer};
 
 /// What takes memory until it is wanted.
@@ -153,6 +155,58 @@ fn a_growth_for_a_large_key_is_refused(rt: HostRuntime) {
     let refused = far_refusals(rt.alloc()).expect(&rt, "memory");
     let constants = refused.expect(&rt, "a bound constant");
     assert!(rt; constants > 1);
+}
+
+/// How many constants with keys from 0 on are bound in a heap of so many bytes, each to a place of its own, before memory
+/// is refused; None where one isn't at its place then.
+fn bound_in_order(alloc: Global, free: usize) -> Result<Option<u32>, AllocError> {
+    let heap = LocalHeap::new(alloc, free)?;
+    let mut buffer = CodeBuffer::new(&heap);
+    let mut bound: u32 = 0;
+    for key in 0..1_000u32 {
+        if buffer.put1(0).is_err() || buffer.bind_constant(Constant(key)).is_err() {
+            break;
+        }
+        bound = key.saturating_add(1);
+    }
+    for key in 0..bound {
+        let place = buffer.place_of(DeferredTarget::Constant(Constant(key)));
+        if place != Some((key as usize).saturating_add(1)) {
+            return Ok(None);
+        }
+    }
+    let next = buffer.place_of(DeferredTarget::Constant(Constant(bound)));
+    Ok(if next.is_none() { Some(bound) } else { None })
+}
+
+/// How many there would be in a map alone.
+fn bound_in_a_map(alloc: Global, free: usize) -> Result<u32, AllocError> {
+    let heap = LocalHeap::new(alloc, free)?;
+    let mut recorder = Recorder::new(&heap);
+    let mut places: HashMap<u32, usize, BuildHasherDefault<FoldHasher>, &LocalHeap> = HashMap::new(
+        &heap,
+    );
+    for key in 0..1_000u32 {
+        if recorder.put1(0).is_err() || places.insert(key, recorder.bytes().len()).is_err() {
+            return Ok(key);
+        }
+    }
+    Ok(1_000)
+}
+
+#[test]
+fn constants_are_bound_where_their_list_cannot_grow(rt: HostRuntime) -> Result<(), AllocError> {
+    for blocks in 1..64usize {
+        let bound = bound_in_order(rt.alloc(), 128 * blocks)?.expect(&rt, "their places");
+        let in_a_map = bound_in_a_map(rt.alloc(), 128 * blocks)?;
+        assert!(rt; bound >= in_a_map, "{bound} for {in_a_map}");
+    }
+    // A list of so many can't be doubled in such a heap, and there is memory for some more in a map.
+    for (free, listed) in [(1536, 32u32), (2560, 64), (5120, 128)] {
+        let bound = bound_in_order(rt.alloc(), free)?.expect(&rt, "their places");
+        assert!(rt; bound > listed && bound < 2 * listed, "{bound}");
+    }
+    Ok(())
 }
 
 /// Whether room for an instruction is made in a heap of so many bytes.

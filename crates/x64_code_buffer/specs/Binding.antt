@@ -1,21 +1,17 @@
 -- What labels and constants are bound to.
 use Rattle.std.specs.Prelude.{◌≡◌, ◌≢◌, ℕ, nat_lt, nat_eq, if◌then◌else◌, Option, Some, None, Result, Ok, Err, slice_index_or}
 use Rattle.std.specs.HashMap.{get}
+use Rattle.std.specs.Option.{option_or}
 use Rattle.cax64_sink.specs.declared.DeferredTarget.{DeferredTarget}
 use Rattle.cax64_sink.specs.declared.DeferredTarget.TheVariants as target
 use Rattle.x64_code_buffer.specs.declared.errors.BindError.{BindError}
 use Rattle.x64_code_buffer.specs.declared.errors.BindError.TheVariants.{Unknown, Twice}
 use Rattle.x64_code_buffer.specs.declared.bindings.Bindings.{Bindings}
 
--- the first of two places, if there is one
-abbrev pub first_place : Option ℕ → Option ℕ → Option ℕ
-first_place None later = later
-first_place (Some place) later = Some place
-
 -- the place that a target is bound to
 abbrev pub place_bound : {A : Type 0} → Bindings A → DeferredTarget → Option ℕ
 place_bound b (target.Label label) = slice_index_or b.labels.items label.0 None
-place_bound b (target.Constant constant) = first_place (slice_index_or b.listed.items constant.0 None) (get nat_eq b.others constant.0)
+place_bound b (target.Constant constant) = option_or (slice_index_or b.listed.items constant.0 None) (get nat_eq b.others constant.0)
 place_bound b target.None = None
 
 -- no binding changes

@@ -1,6 +1,6 @@
 //! What labels and constants are bound to.
 
-ghost use Rattle.std.specs.Prelude.{◌≡◌, ◌↔◌, ◌+◌, ◌^◌, ◌⊎◌, ◌<◌, ◌≤◌, Some, None, Ok, Err, IfOk, IfErr, OnOk, OnErr, MatchOption, if◌then◌else◌, is_ok, length, nat_eq, vec_len};
+ghost use Rattle.std.specs.Prelude.{◌≡◌, ◌↔◌, ◌+◌, ◌^◌, ◌⊎◌, ◌<◌, ◌≤◌, Some, None, Ok, Err, IfOk, OnOk, OnErr, MatchOption, if◌then◌else◌, is_ok, length, nat_eq, vec_len};
 ghost use Rattle.std.specs.HashMap.{get};
 ghost use Rattle.std.below.core.specs.declared.int.u32.TheConstants.{MAX};
 ghost use Rattle.x64_code_buffer.specs.declared.errors.BindError.{BindError};
@@ -8,7 +8,7 @@ ghost use Rattle.cax64_sink.specs.declared.SinkError.{SinkError};
 
 use crate::errors::BindError;
 use cax64_sink::{Constant, DeferredTarget, Label, SinkError};
-use std::alloc::Allocator;
+use std::alloc::{AllocError, Allocator};
 use std::collections::HashMap;
 use std::hash::{BuildHasherDefault, FoldHasher};
 
@@ -20,8 +20,8 @@ const SMALL: usize = 32;
 
 /// The places of the labels that were given, by number, and of the constants that are bound.
 ///
-/// Constants are mostly numbered from 0 on. Those with a small key, or the next one behind the list, are listed by key: that
-/// takes one block of memory and no hashing. A map has all others.
+/// Constants are mostly numbered from 0 on. Those with a small key, or the next one behind the list, are listed by key, where
+/// there is memory for the list: it takes one block, and finds a constant without hashing. A map has all others.
 #[derive(Drop)]
 pub struct Bindings<A: Allocator> {
     labels: Vec<Option<usize>, A>,
@@ -139,7 +139,7 @@ impl<A: Allocator + Clone> Bindings<A> {
         }
     }
 
-    /// Binds a constant that the list is to have.
+    /// Binds a constant that the list is to have. Where the list can't grow, the map has it.
     fn list_constant(&mut self, constant: Constant, place: usize) -> Result<(), BindError>
         ensures answer { MatchOption (place_bound self.old (DeferredTarget.Constant constant)) ((result ≡ Ok tt) ⊎ (result ≡ Err BindError.NoMemory)) (λ _. result ≡ Err BindError.Twice) }
         ensures binds { OnOk result (AddsBinding (DeferredTarget.Constant constant) place (place_bound self.old) (place_bound self.new)) }
@@ -150,25 +150,25 @@ impl<A: Allocator + Clone> Bindings<A> {
             return Err(BindError::Twice);
         }
         let key = constant.0 as usize;
-        self.list_up_to(key)?;
+        if self.list_up_to(key).is_err() {
+            return self.bind_other(constant, place);
+        }
         self.listed[key] = Some(place);
         Ok(())
     }
 
     /// Makes the list long enough for a key.
-    fn list_up_to(&mut self, key: usize) -> Result<(), BindError>
+    fn list_up_to(&mut self, key: usize) -> Result<(), AllocError>
         requires { key < 2 ^ 32 }
         ensures there { OnOk result (key < length self.new.listed.items) }
-        ensures error { IfErr result (λ e. e ≡ BindError.NoMemory) }
+        ensures short { OnErr result (length self.new.listed.items ≤ key) }
         ensures places { SamePlaces (place_bound self.old) (place_bound self.new) }
         ensures labels { length self.new.labels.items ≡ length self.old.labels.items }
     {
         if key < self.listed.len() {
             return Ok(());
         }
-        self.listed
-            .resize(key + 1, None)
-            .map_err(|_| BindError::NoMemory)
+        self.listed.resize(key + 1, None)
     }
 
     /// Binds a constant that the map is to have. One that it has gets its place back.
