@@ -17,3 +17,5 @@ mod lists;
 mod numbers;
 #[cfg(test)]
 mod parts;
+#[cfg(test)]
+mod refusals;

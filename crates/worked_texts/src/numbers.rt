@@ -3,13 +3,16 @@
 use cax64_address::number::{push_hex_digits, push_hexadecimal, push_short_number};
 use std::alloc::{AllocError, Global};
 
+/// Room for `0x` and the digits of any number: where there is less, they aren't made one by one.
+const ROOM: usize = 18;
+
 /// Whether a number prints as the formatting prints it: its digits, these behind `0x`, and as a short number.
 fn prints(alloc: Global, number: u64) -> Result<bool, AllocError> {
-    let mut digits = String::new(alloc);
+    let mut digits = String::with_capacity(alloc, ROOM)?;
     push_hex_digits(&mut digits, number)?;
-    let mut hexadecimal = String::new(alloc);
+    let mut hexadecimal = String::with_capacity(alloc, ROOM)?;
     push_hexadecimal(&mut hexadecimal, number)?;
-    let mut short = String::new(alloc);
+    let mut short = String::with_capacity(alloc, ROOM)?;
     push_short_number(&mut short, number)?;
     let want_digits = format!(in alloc; "{number:x}")?;
     let want_hexadecimal = format!(in alloc; "0x{number:x}")?;
