@@ -209,6 +209,34 @@ fn constants_are_bound_where_their_list_cannot_grow(rt: HostRuntime) -> Result<(
     Ok(())
 }
 
+/// Whether a constant whose list can't grow keeps its place when the list grows past its key.
+fn keeps_its_place(alloc: Global) -> Result<bool, AllocError> {
+    let heap = LocalHeap::new(alloc, 4096)?;
+    // A list up to this key takes 496 bytes, and the map less.
+    let held: Vec<u8, &LocalHeap> = Vec::with_capacity(&heap, 4096 - 480)?;
+    let key = Constant(30);
+    let mut buffer = CodeBuffer::new(&heap);
+    let bound = buffer.bind_constant(key);
+    drop(held);
+    let put = buffer.put1(0);
+    let later = buffer.bind_constant(Constant(31));
+    let again = buffer.bind_constant(key);
+    let place = buffer.place_of(DeferredTarget::Constant(key));
+    Ok(
+        bound == Ok(())
+            && put == Ok(())
+            && later == Ok(())
+            && again == Err(BindError::Twice)
+            && place == Some(0),
+    )
+}
+
+#[test]
+fn a_constant_whose_list_cannot_grow_keeps_its_place(rt: HostRuntime) -> Result<(), AllocError> {
+    assert!(rt; keeps_its_place(rt.alloc())?);
+    Ok(())
+}
+
 /// Whether room for an instruction is made in a heap of so many bytes.
 fn is_room_made(alloc: Global, free: usize) -> Result<bool, AllocError> {
     let heap = LocalHeap::new(alloc, free)?;
