@@ -1,16 +1,20 @@
 //! `rol` by one. (Intel SDM, volume 2, `RCL/RCR/ROL/ROR`.)
 
-ghost use Rattle.std.specs.Prelude.{◌≡◌};
+ghost use Rattle.std.specs.Prelude.{◌≡◌, IsTrue, IfOk, string_bytes};
+ghost use Rattle.cax64_address.specs.declared.text.Dialect.TheVariants.{Xed};
 ghost use Rattle.cax64_machine_code.specs.declared.row.Row.TheVariants as row;
 ghost use Rattle.cax64_operand.specs.declared.operand.Operand.TheVariants.{ReadWriteGprMem};
 ghost use Rattle.cax64_operand.specs.declared.operand.Operands.{Operands};
 ghost use Rattle.cax64_operand.specs.declared.operand.Operands.TheVariants.{One};
 ghost use Rattle.cax64_register.specs.declared.gpr.Size.TheVariants.{Byte, Doubleword, Quadword, Word};
+ghost use Rattle.cax64_text.specs.Text.{nameable, text};
 
 use cax64_address::operand::GprMem;
 use cax64_machine_code::row::Row;
 use cax64_operand::{Operand, RegisterVisitor, RowAndOperands, Task, of_one};
 use cax64_register::{Registers, Size};
+use cax64_text::{RegisterNames, xed_string};
+use std::alloc::{AllocError, Allocator};
 use std::marker::Model;
 
 /// Rotate 8 bits `rm8` left once.
@@ -30,6 +34,14 @@ impl<R: Registers> rolb_m1<R> {
         ensures { result ≡ One (ReadWriteGprMem rm8 Byte) }
     {
         rolb_m1 { rm8 }
+    }
+
+    /// The text as XED prints it. Fails where there is no memory.
+    pub fn to_string_xed<A: Allocator + Copy>(&self, alloc: A) -> Result<String<A>, AllocError>
+        requires { IsTrue (nameable ⟦<R as RegisterNames>⟧.names self.now) }
+        ensures { IfOk result (λ t. string_bytes t ≡ text ⟦<R as RegisterNames>⟧.names Xed row.rolb_m1 self.now) }
+    {
+        xed_string(self, alloc)
     }
 }
 
@@ -73,6 +85,14 @@ impl<R: Registers> rolw_m1<R> {
     {
         rolw_m1 { rm16 }
     }
+
+    /// The text as XED prints it. Fails where there is no memory.
+    pub fn to_string_xed<A: Allocator + Copy>(&self, alloc: A) -> Result<String<A>, AllocError>
+        requires { IsTrue (nameable ⟦<R as RegisterNames>⟧.names self.now) }
+        ensures { IfOk result (λ t. string_bytes t ≡ text ⟦<R as RegisterNames>⟧.names Xed row.rolw_m1 self.now) }
+    {
+        xed_string(self, alloc)
+    }
 }
 
 impl<R: Registers> RowAndOperands for rolw_m1<R> {
@@ -115,6 +135,14 @@ impl<R: Registers> roll_m1<R> {
     {
         roll_m1 { rm32 }
     }
+
+    /// The text as XED prints it. Fails where there is no memory.
+    pub fn to_string_xed<A: Allocator + Copy>(&self, alloc: A) -> Result<String<A>, AllocError>
+        requires { IsTrue (nameable ⟦<R as RegisterNames>⟧.names self.now) }
+        ensures { IfOk result (λ t. string_bytes t ≡ text ⟦<R as RegisterNames>⟧.names Xed row.roll_m1 self.now) }
+    {
+        xed_string(self, alloc)
+    }
 }
 
 impl<R: Registers> RowAndOperands for roll_m1<R> {
@@ -156,6 +184,14 @@ impl<R: Registers> rolq_m1<R> {
         ensures { result ≡ One (ReadWriteGprMem rm64 Quadword) }
     {
         rolq_m1 { rm64 }
+    }
+
+    /// The text as XED prints it. Fails where there is no memory.
+    pub fn to_string_xed<A: Allocator + Copy>(&self, alloc: A) -> Result<String<A>, AllocError>
+        requires { IsTrue (nameable ⟦<R as RegisterNames>⟧.names self.now) }
+        ensures { IfOk result (λ t. string_bytes t ≡ text ⟦<R as RegisterNames>⟧.names Xed row.rolq_m1 self.now) }
+    {
+        xed_string(self, alloc)
     }
 }
 

@@ -1,16 +1,20 @@
 //! `shl` by one. (Intel SDM, volume 2, `SAL/SAR/SHL/SHR`.)
 
-ghost use Rattle.std.specs.Prelude.{◌≡◌};
+ghost use Rattle.std.specs.Prelude.{◌≡◌, IsTrue, IfOk, string_bytes};
+ghost use Rattle.cax64_address.specs.declared.text.Dialect.TheVariants.{Xed};
 ghost use Rattle.cax64_machine_code.specs.declared.row.Row.TheVariants as row;
 ghost use Rattle.cax64_operand.specs.declared.operand.Operand.TheVariants.{ReadWriteGprMem};
 ghost use Rattle.cax64_operand.specs.declared.operand.Operands.{Operands};
 ghost use Rattle.cax64_operand.specs.declared.operand.Operands.TheVariants.{One};
 ghost use Rattle.cax64_register.specs.declared.gpr.Size.TheVariants.{Byte, Doubleword, Quadword, Word};
+ghost use Rattle.cax64_text.specs.Text.{nameable, text};
 
 use cax64_address::operand::GprMem;
 use cax64_machine_code::row::Row;
 use cax64_operand::{Operand, RegisterVisitor, RowAndOperands, Task, of_one};
 use cax64_register::{Registers, Size};
+use cax64_text::{RegisterNames, xed_string};
+use std::alloc::{AllocError, Allocator};
 use std::marker::Model;
 
 /// Multiply `rm8` by 2, once.
@@ -30,6 +34,14 @@ impl<R: Registers> shlb_m1<R> {
         ensures { result ≡ One (ReadWriteGprMem rm8 Byte) }
     {
         shlb_m1 { rm8 }
+    }
+
+    /// The text as XED prints it. Fails where there is no memory.
+    pub fn to_string_xed<A: Allocator + Copy>(&self, alloc: A) -> Result<String<A>, AllocError>
+        requires { IsTrue (nameable ⟦<R as RegisterNames>⟧.names self.now) }
+        ensures { IfOk result (λ t. string_bytes t ≡ text ⟦<R as RegisterNames>⟧.names Xed row.shlb_m1 self.now) }
+    {
+        xed_string(self, alloc)
     }
 }
 
@@ -73,6 +85,14 @@ impl<R: Registers> shlw_m1<R> {
     {
         shlw_m1 { rm16 }
     }
+
+    /// The text as XED prints it. Fails where there is no memory.
+    pub fn to_string_xed<A: Allocator + Copy>(&self, alloc: A) -> Result<String<A>, AllocError>
+        requires { IsTrue (nameable ⟦<R as RegisterNames>⟧.names self.now) }
+        ensures { IfOk result (λ t. string_bytes t ≡ text ⟦<R as RegisterNames>⟧.names Xed row.shlw_m1 self.now) }
+    {
+        xed_string(self, alloc)
+    }
 }
 
 impl<R: Registers> RowAndOperands for shlw_m1<R> {
@@ -115,6 +135,14 @@ impl<R: Registers> shll_m1<R> {
     {
         shll_m1 { rm32 }
     }
+
+    /// The text as XED prints it. Fails where there is no memory.
+    pub fn to_string_xed<A: Allocator + Copy>(&self, alloc: A) -> Result<String<A>, AllocError>
+        requires { IsTrue (nameable ⟦<R as RegisterNames>⟧.names self.now) }
+        ensures { IfOk result (λ t. string_bytes t ≡ text ⟦<R as RegisterNames>⟧.names Xed row.shll_m1 self.now) }
+    {
+        xed_string(self, alloc)
+    }
 }
 
 impl<R: Registers> RowAndOperands for shll_m1<R> {
@@ -156,6 +184,14 @@ impl<R: Registers> shlq_m1<R> {
         ensures { result ≡ One (ReadWriteGprMem rm64 Quadword) }
     {
         shlq_m1 { rm64 }
+    }
+
+    /// The text as XED prints it. Fails where there is no memory.
+    pub fn to_string_xed<A: Allocator + Copy>(&self, alloc: A) -> Result<String<A>, AllocError>
+        requires { IsTrue (nameable ⟦<R as RegisterNames>⟧.names self.now) }
+        ensures { IfOk result (λ t. string_bytes t ≡ text ⟦<R as RegisterNames>⟧.names Xed row.shlq_m1 self.now) }
+    {
+        xed_string(self, alloc)
     }
 }
 

@@ -1,16 +1,20 @@
 //! `xchg`. (Intel SDM, volume 2, `XCHG`.)
 
-ghost use Rattle.std.specs.Prelude.{◌≡◌};
+ghost use Rattle.std.specs.Prelude.{◌≡◌, IsTrue, IfOk, string_bytes};
+ghost use Rattle.cax64_address.specs.declared.text.Dialect.TheVariants.{Xed};
 ghost use Rattle.cax64_machine_code.specs.declared.row.Row.TheVariants as row;
 ghost use Rattle.cax64_operand.specs.declared.operand.Operand.TheVariants.{ReadAmode, ReadWriteGpr};
 ghost use Rattle.cax64_operand.specs.declared.operand.Operands.{Operands};
 ghost use Rattle.cax64_operand.specs.declared.operand.Operands.TheVariants.{Two};
 ghost use Rattle.cax64_register.specs.declared.gpr.Size.TheVariants.{Byte, Doubleword, Quadword, Word};
+ghost use Rattle.cax64_text.specs.Text.{nameable, text};
 
 use cax64_address::amode::Amode;
 use cax64_machine_code::row::Row;
 use cax64_operand::{Operand, RegisterVisitor, RowAndOperands, Task, of_two};
 use cax64_register::{Gpr, Registers, Size};
+use cax64_text::{RegisterNames, xed_string};
+use std::alloc::{AllocError, Allocator};
 use std::marker::Model;
 
 /// Exchange byte from `m8` with `r8`.
@@ -31,6 +35,14 @@ impl<R: Registers> xchgb_rm<R> {
         ensures { result ≡ Two (ReadWriteGpr r8 Byte) (ReadAmode m8) }
     {
         xchgb_rm { r8, m8 }
+    }
+
+    /// The text as XED prints it. Fails where there is no memory.
+    pub fn to_string_xed<A: Allocator + Copy>(&self, alloc: A) -> Result<String<A>, AllocError>
+        requires { IsTrue (nameable ⟦<R as RegisterNames>⟧.names self.now) }
+        ensures { IfOk result (λ t. string_bytes t ≡ text ⟦<R as RegisterNames>⟧.names Xed row.xchgb_rm self.now) }
+    {
+        xed_string(self, alloc)
     }
 }
 
@@ -79,6 +91,14 @@ impl<R: Registers> xchgw_rm<R> {
     {
         xchgw_rm { r16, m16 }
     }
+
+    /// The text as XED prints it. Fails where there is no memory.
+    pub fn to_string_xed<A: Allocator + Copy>(&self, alloc: A) -> Result<String<A>, AllocError>
+        requires { IsTrue (nameable ⟦<R as RegisterNames>⟧.names self.now) }
+        ensures { IfOk result (λ t. string_bytes t ≡ text ⟦<R as RegisterNames>⟧.names Xed row.xchgw_rm self.now) }
+    {
+        xed_string(self, alloc)
+    }
 }
 
 impl<R: Registers> RowAndOperands for xchgw_rm<R> {
@@ -126,6 +146,14 @@ impl<R: Registers> xchgl_rm<R> {
     {
         xchgl_rm { r32, m32 }
     }
+
+    /// The text as XED prints it. Fails where there is no memory.
+    pub fn to_string_xed<A: Allocator + Copy>(&self, alloc: A) -> Result<String<A>, AllocError>
+        requires { IsTrue (nameable ⟦<R as RegisterNames>⟧.names self.now) }
+        ensures { IfOk result (λ t. string_bytes t ≡ text ⟦<R as RegisterNames>⟧.names Xed row.xchgl_rm self.now) }
+    {
+        xed_string(self, alloc)
+    }
 }
 
 impl<R: Registers> RowAndOperands for xchgl_rm<R> {
@@ -172,6 +200,14 @@ impl<R: Registers> xchgq_rm<R> {
         ensures { result ≡ Two (ReadWriteGpr r64 Quadword) (ReadAmode m64) }
     {
         xchgq_rm { r64, m64 }
+    }
+
+    /// The text as XED prints it. Fails where there is no memory.
+    pub fn to_string_xed<A: Allocator + Copy>(&self, alloc: A) -> Result<String<A>, AllocError>
+        requires { IsTrue (nameable ⟦<R as RegisterNames>⟧.names self.now) }
+        ensures { IfOk result (λ t. string_bytes t ≡ text ⟦<R as RegisterNames>⟧.names Xed row.xchgq_rm self.now) }
+    {
+        xed_string(self, alloc)
     }
 }
 

@@ -182,7 +182,7 @@ fn a_loop_reads_back(rt: HostRuntime) {
 }
 
 /// Keys of constants, small and large, in order and not.
-const KEYS: [u32; 10] = [0, 31, 7, 32, 33, 100, u32::MAX, 34, 36, 35];
+const KEYS: [u32; 12] = [0, 31, 7, 32, 23, 33, 100, u32::MAX, 34, 36, 35, 16];
 
 /// A buffer with a constant at each byte, by their keys.
 fn with_constants(alloc: Global) -> Result<Option<CodeBuffer<Global>>, SinkError> {

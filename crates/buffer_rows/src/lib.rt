@@ -9,3 +9,7 @@ mod growths;
 mod making;
 #[cfg(test)]
 mod messages;
+#[cfg(test)]
+mod reuse;
+#[cfg(test)]
+mod small_heaps;

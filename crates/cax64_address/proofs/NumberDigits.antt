@@ -1,7 +1,8 @@
 -- The digits of a number are those of its front, and then a fixed number of others.
-use Rattle.std.proofs.Common.{◌≡◌, ℕ, zero, suc, ◌+◌, ◌/◌, ◌%◌, ◌^◌, ◌<◌, ◌≤◌, arith, refl, ap, sym, ◌∙◌, Bool, false, cond, List, [], ◌∷◌, ◌++◌, append_assoc, ◌⊎◌, inl, inr}
+use Rattle.std.proofs.Common.{◌≡◌, ℕ, zero, suc, ◌+◌, ◌/◌, ◌%◌, ◌^◌, ◌<◌, ◌≤◌, arith, refl, ap, sym, ◌∙◌, Bool, false, cond, List, [], ◌∷◌, ◌++◌, length, append_assoc, ◌⊎◌, inl, inr}
 use Rattle.std.specs.Fmt.{decimal, digit_glyph, digits, digits_onto}
 use Rattle.std.proofs.lemmas.Fmt.{decimal_step}
+use Rattle.std.proofs.lemmas.List.{length_push}
 use Rattle.cax64_address.specs.Digits.{two_digits, four_digits, eight_digits}
 use borrow.Author.Tests.{eq-eqb, ne_eqb, lt-ltb}
 
@@ -67,6 +68,24 @@ hex_eight n h small =
     let high : n / 65536 % 65536 ≡ n % 4294967296 / 65536 = omega arith in
     let low : n % 65536 ≡ n % 4294967296 % 65536 = omega arith in
     rw (hex_four n (omega arith) small, hex_four (n / 65536) (omega arith) (omega arith), append_assoc, front, high, low) refl
+
+-- how many digits there are
+
+spell-length-le : (k n : ℕ) (acc : List ℕ) → length (spell k n acc) ≤ k + length acc
+spell-length-le zero n acc = omega arith
+spell-length-le (suc k) n acc = elim (split_at n 16) [
+  | inl l ↦ rw (spell_last k n acc l) (omega arith)
+  | inr l ↦ rw (spell_next k n acc l) (omega (arith, spell-length-le k (n / 16) (last n ∷ acc)))
+]
+
+pub hex_at_most : (n : ℕ) → n < 2 ^ 64 → length (digits 16 false n) ≤ 16
+hex_at_most n small = rw (← digits_is_spell n, spell_enough 63 15 n [] (omega arith) (omega arith)) (spell-length-le 16 n [])
+
+pub hex_length_one : (n : ℕ) → n < 16 → length (digits 16 false n) ≡ 1
+hex_length_one n h = rw (← digits_is_spell n, spell_last 63 n [] h) refl
+
+pub hex_length_more : (n : ℕ) → 16 ≤ n → n < 2 ^ 64 → length (digits 16 false n) ≡ length (digits 16 false (n / 16)) + 1
+hex_length_more n h small = ap length (hex_step n h small) ∙ length_push (digits 16 false (n / 16)) (last n)
 
 -- the digits of the front, and then the others
 

@@ -105,6 +105,7 @@ impl Disp {
     #[tactic(auto, using(cax64_sink::proofs::Runs::ran_none, cax64_sink::proofs::Runs::ran_one))]
     pub fn emit<S: CodeSink>(self, sink: &mut S) -> Result<(), SinkError>
         ensures runs { Ran (disp_actions self) (S.state sink.old) (S.state sink.new) result }
+        ensures beside { S.may_become sink.old sink.new }
         ensures room { HasRoom (S.state sink.old).byte_room (class_length self) → IsOk result }
         ensures byte_room { FallsBy (S.state sink.old).byte_room (S.state sink.new).byte_room (class_length self) }
         ensures notice_room { FallsBy (S.state sink.old).notice_room (S.state sink.new).notice_room 0 }

@@ -8,5 +8,6 @@ pub mod memory;
 pub mod number;
 pub mod offset;
 pub mod operand;
+mod refused;
 pub mod tail;
 pub mod text;

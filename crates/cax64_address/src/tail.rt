@@ -37,7 +37,8 @@ pub struct TailCode {
 #[tactic(auto, using(cax64_sink::proofs::Runs::ran_none, cax64_sink::proofs::Runs::ran_one))]
 #[inline(always)]
 fn put_optional<S: CodeSink>(sink: &mut S, byte: Option<u8>) -> Result<(), SinkError>
-    ensures { Ran (byte_actions byte) (S.state sink.old) (S.state sink.new) result }
+    ensures run { Ran (byte_actions byte) (S.state sink.old) (S.state sink.new) result }
+    ensures beside { S.may_become sink.old sink.new }
 {
     match byte {
         Some(byte) => sink.put1(byte),
@@ -52,7 +53,8 @@ pub fn use_optional<S: CodeSink>(
     sink: &mut S,
     target: Option<DeferredTarget>,
 ) -> Result<(), SinkError>
-    ensures { Ran (target_actions target) (S.state sink.old) (S.state sink.new) result }
+    ensures run { Ran (target_actions target) (S.state sink.old) (S.state sink.new) result }
+    ensures beside { S.may_become sink.old sink.new }
 {
     match target {
         Some(target) => sink.use_target(target),
@@ -64,7 +66,8 @@ pub fn use_optional<S: CodeSink>(
 #[tactic(auto, using(cax64_sink::proofs::Runs::ran_none, cax64_sink::proofs::Runs::ran_one))]
 #[inline(always)]
 pub fn put_long<S: CodeSink>(sink: &mut S, long: Option<u32>) -> Result<(), SinkError>
-    ensures { Ran (long_actions long) (S.state sink.old) (S.state sink.new) result }
+    ensures run { Ran (long_actions long) (S.state sink.old) (S.state sink.new) result }
+    ensures beside { S.may_become sink.old sink.new }
 {
     match long {
         Some(word) => sink.put4(word),
@@ -75,7 +78,8 @@ pub fn put_long<S: CodeSink>(sink: &mut S, long: Option<u32>) -> Result<(), Sink
 impl TailCode {
     /// Puts each byte by itself, and four bytes of displacement at once.
     pub fn put<S: CodeSink>(self, sink: &mut S) -> Result<(), SinkError>
-        ensures { Ran (tail_actions self) (S.state sink.old) (S.state sink.new) result }
+        ensures run { Ran (tail_actions self) (S.state sink.old) (S.state sink.new) result }
+        ensures beside { S.may_become sink.old sink.new }
     {
         sink.put1(self.modrm)?;
         put_optional(sink, self.sib)?;
@@ -230,6 +234,7 @@ pub fn emit_modrm_sib_disp<R: AsReg, S: CodeSink>(
     ensures leaves { OnErr result (LeavesTail (tail_meant R.enc (S.state sink.old).offsets enc_g mem_e.now bytes_at_end evex_scaling) (S.state sink.old) (S.state sink.new)) }
     ensures error { IfErr result (λ e. (S.state sink.old).answers e ≡ true) }
     ensures keeps { Keeps (S.state sink.old) (S.state sink.new) }
+    ensures beside { S.may_become sink.old sink.new }
     ensures enough { HasRoom (S.state sink.old).byte_room 6 → HasRoom (S.state sink.old).notice_room 1 → IsOk result }
     ensures room { HasRoom (S.state sink.old).byte_room (tail_length (tail_meant R.enc (S.state sink.old).offsets enc_g mem_e.now bytes_at_end evex_scaling)) → HasRoom (S.state sink.old).notice_room (target_count mem_e.now) → IsOk result }
     ensures byte_room { FallsBy (S.state sink.old).byte_room (S.state sink.new).byte_room (tail_length (tail_meant R.enc (S.state sink.old).offsets enc_g mem_e.now bytes_at_end evex_scaling)) }

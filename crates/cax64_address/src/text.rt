@@ -1,14 +1,16 @@
 //! Texts of displacements and of memory operands.
 
-ghost use Rattle.std.specs.Prelude.{◌≡◌, ◌++◌, IsTrue, IfOk, OnOk, Some, codes, string_bytes};
+ghost use Rattle.std.specs.Prelude.{◌≡◌, ◌++◌, IsTrue, IfOk, OnErr, OnOk, Some, codes, string_bytes};
+ghost use Rattle.cax64_machine_code.specs.Sequence.{IsFront};
 ghost use Rattle.cax64_register.specs.declared.gpr.Size.TheVariants.{Quadword};
 ghost use Rattle.cax64_address.specs.Text.{magnitude_text, offset_text, late_text, comma, scale_text, amode_text, amode_nameable, gpr_mem_text, gpr_mem_nameable, xmm_mem_text, xmm_mem_nameable};
 ghost use Rattle.cax64_address.specs.declared.text.Dialect.TheVariants.{Att, Xed};
 
 use crate::amode::{Amode, Scale};
-use crate::number::{has_room, push_decimal, push_hexadecimal, push_short_number};
+use crate::number::{add_decimal, add_hexadecimal, add_short_number};
 use crate::offset::{AmodeOffset, AmodeOffsetPlusKnownOffset};
 use crate::operand::{GprMem, XmmMem};
+use crate::refused::or_taken_back;
 use cax64_register::{AsReg, Size};
 use std::alloc::{AllocError, Allocator};
 
@@ -24,30 +26,24 @@ pub enum Dialect {
 /// Room for the text of any address of the hardware's registers.
 const ROOM: usize = 64;
 
-/// Room for the text of any key.
-const LATE_ROOM: usize = 13;
-
-fn push_magnitude<A: Allocator>(
+fn add_magnitude<A: Allocator>(
     out: &mut String<A>,
     dialect: Dialect,
     magnitude: u32,
 ) -> Result<(), AllocError>
-    ensures { OnOk result (string_bytes out.new ≡ string_bytes out.old ++ magnitude_text dialect magnitude) }
+    ensures text { OnOk result (string_bytes out.new ≡ string_bytes out.old ++ magnitude_text dialect magnitude) }
+    ensures front { IsFront (string_bytes out.old) (string_bytes out.new) }
 {
     match dialect {
-        Dialect::Att => push_short_number(out, u64::from(magnitude)),
-        Dialect::Xed => push_hexadecimal(out, u64::from(magnitude)),
+        Dialect::Att => add_short_number(out, u64::from(magnitude)),
+        Dialect::Xed => add_hexadecimal(out, u64::from(magnitude)),
     }
 }
 
 impl AmodeOffset {
-    /// Adds the text to `out`.
-    pub fn push_to<A: Allocator>(
-        &self,
-        out: &mut String<A>,
-        dialect: Dialect,
-    ) -> Result<(), AllocError>
-        ensures { OnOk result (string_bytes out.new ≡ string_bytes out.old ++ offset_text dialect self.now) }
+    fn add_to<A: Allocator>(&self, out: &mut String<A>, dialect: Dialect) -> Result<(), AllocError>
+        ensures text { OnOk result (string_bytes out.new ≡ string_bytes out.old ++ offset_text dialect self.now) }
+        ensures front { IsFront (string_bytes out.old) (string_bytes out.new) }
     {
         let value = self.value();
         if value == 0 {
@@ -56,7 +52,23 @@ impl AmodeOffset {
         if value < 0 {
             out.push('-')?;
         }
-        push_magnitude(out, dialect, value.unsigned_abs())
+        add_magnitude(out, dialect, value.unsigned_abs())
+    }
+
+    /// Adds the text to `out`.
+    ///
+    /// Fails where there is no memory, and then leaves the text as it was.
+    pub fn push_to<A: Allocator>(
+        &self,
+        out: &mut String<A>,
+        dialect: Dialect,
+    ) -> Result<(), AllocError>
+        ensures text { OnOk result (string_bytes out.new ≡ string_bytes out.old ++ offset_text dialect self.now) }
+        ensures kept { OnErr result (string_bytes out.new ≡ string_bytes out.old) }
+    {
+        let len = out.len();
+        let added = self.add_to(out, dialect);
+        or_taken_back(out, len, added)
     }
 
     /// The text: nothing for no displacement.
@@ -75,39 +87,40 @@ impl AmodeOffset {
     }
 }
 
-/// Adds the key of a late offset where there may be no room for it.
-#[cold]
-#[inline(never)]
-fn format_late<A: Allocator>(out: &mut String<A>, key: u8) -> Result<(), AllocError>
-    ensures { OnOk result (string_bytes out.new ≡ string_bytes out.old ++ late_text (Some key)) }
+fn add_late<A: Allocator>(out: &mut String<A>, key: u8) -> Result<(), AllocError>
+    ensures text { OnOk result (string_bytes out.new ≡ string_bytes out.old ++ late_text (Some key)) }
+    ensures front { IsFront (string_bytes out.old) (string_bytes out.new) }
 {
-    write!(out, "<offset:{key}>+")
-}
-
-fn push_late<A: Allocator>(out: &mut String<A>, key: u8) -> Result<(), AllocError>
-    ensures { OnOk result (string_bytes out.new ≡ string_bytes out.old ++ late_text (Some key)) }
-{
-    if !has_room(out, LATE_ROOM) {
-        return format_late(out, key);
-    }
     out.push_str("<offset:")?;
-    push_decimal(out, key)?;
+    add_decimal(out, key)?;
     out.push_str(">+")
 }
 
 impl AmodeOffsetPlusKnownOffset {
+    fn add_to<A: Allocator>(&self, out: &mut String<A>, dialect: Dialect) -> Result<(), AllocError>
+        ensures text { OnOk result (string_bytes out.new ≡ string_bytes out.old ++ late_text self.now.offset ++ offset_text dialect self.now.simm32) }
+        ensures front { IsFront (string_bytes out.old) (string_bytes out.new) }
+    {
+        if let Some(key) = self.offset {
+            add_late(out, key)?;
+        }
+        self.simm32.add_to(out, dialect)
+    }
+
     /// Adds the text to `out`.
+    ///
+    /// Fails where there is no memory, and then leaves the text as it was.
     pub fn push_to<A: Allocator>(
         &self,
         out: &mut String<A>,
         dialect: Dialect,
     ) -> Result<(), AllocError>
-        ensures { OnOk result (string_bytes out.new ≡ string_bytes out.old ++ late_text self.now.offset ++ offset_text dialect self.now.simm32) }
+        ensures text { OnOk result (string_bytes out.new ≡ string_bytes out.old ++ late_text self.now.offset ++ offset_text dialect self.now.simm32) }
+        ensures kept { OnErr result (string_bytes out.new ≡ string_bytes out.old) }
     {
-        if let Some(key) = self.offset {
-            push_late(out, key)?;
-        }
-        self.simm32.push_to(out, dialect)
+        let len = out.len();
+        let added = self.add_to(out, dialect);
+        or_taken_back(out, len, added)
     }
 
     /// The text: the key of the late offset, and the displacement.
@@ -155,7 +168,7 @@ fn comma(dialect: Dialect) -> &'static str
 }
 
 /// Adds what stands in parentheses where there is an index.
-fn push_indexed<R: AsReg, A: Allocator + Copy>(
+fn add_indexed<R: AsReg, A: Allocator + Copy>(
     out: &mut String<A>,
     alloc: A,
     dialect: Dialect,
@@ -165,7 +178,8 @@ fn push_indexed<R: AsReg, A: Allocator + Copy>(
 ) -> Result<(), AllocError>
     requires base { IsTrue (R.nameable base) }
     requires index { IsTrue (R.nameable index) }
-    ensures { OnOk result (string_bytes out.new ≡ string_bytes out.old ++ codes "(" ++ R.text base (Some Quadword) ++ comma dialect ++ R.text index (Some Quadword) ++ scale_text dialect scale ++ codes ")") }
+    ensures text { OnOk result (string_bytes out.new ≡ string_bytes out.old ++ codes "(" ++ R.text base (Some Quadword) ++ comma dialect ++ R.text index (Some Quadword) ++ scale_text dialect scale ++ codes ")") }
+    ensures front { IsFront (string_bytes out.old) (string_bytes out.new) }
 {
     out.push('(')?;
     base.push_to(out, alloc, Some(Size::Quadword))?;
@@ -189,21 +203,19 @@ impl<R: AsReg> Amode<R> {
         }
     }
 
-    /// Adds the text to `out`.
-    ///
-    /// Fails where there is no memory.
-    pub fn push_to<A: Allocator + Copy>(
+    fn add_to<A: Allocator + Copy>(
         &self,
         out: &mut String<A>,
         alloc: A,
         dialect: Dialect,
     ) -> Result<(), AllocError>
         requires { IsTrue (amode_nameable R.nameable self.now) }
-        ensures { OnOk result (string_bytes out.new ≡ string_bytes out.old ++ amode_text R.text dialect self.now) }
+        ensures text { OnOk result (string_bytes out.new ≡ string_bytes out.old ++ amode_text R.text dialect self.now) }
+        ensures front { IsFront (string_bytes out.old) (string_bytes out.new) }
     {
         match *self {
             Amode::ImmReg { base, simm32, .. } => {
-                simm32.push_to(out, dialect)?;
+                simm32.add_to(out, dialect)?;
                 out.push('(')?;
                 base.push_to(out, alloc, Some(Size::Quadword))?;
                 out.push(')')
@@ -215,11 +227,29 @@ impl<R: AsReg> Amode<R> {
                 simm32,
                 ..
             } => {
-                simm32.push_to(out, dialect)?;
-                push_indexed(out, alloc, dialect, base, *index.as_ref(), scale)
+                simm32.add_to(out, dialect)?;
+                add_indexed(out, alloc, dialect, base, *index.as_ref(), scale)
             }
             Amode::RipRelative { .. } => out.push_str("(%rip)"),
         }
+    }
+
+    /// Adds the text to `out`.
+    ///
+    /// Fails where there is no memory, and then leaves the text as it was.
+    pub fn push_to<A: Allocator + Copy>(
+        &self,
+        out: &mut String<A>,
+        alloc: A,
+        dialect: Dialect,
+    ) -> Result<(), AllocError>
+        requires { IsTrue (amode_nameable R.nameable self.now) }
+        ensures text { OnOk result (string_bytes out.new ≡ string_bytes out.old ++ amode_text R.text dialect self.now) }
+        ensures kept { OnErr result (string_bytes out.new ≡ string_bytes out.old) }
+    {
+        let len = out.len();
+        let added = self.add_to(out, alloc, dialect);
+        or_taken_back(out, len, added)
     }
 
     /// The text, with base and index at 64 bits.
@@ -251,6 +281,8 @@ impl<R: AsReg, M: AsReg> GprMem<R, M> {
     }
 
     /// Adds the text to `out`.
+    ///
+    /// Fails where there is no memory, and then leaves the text as it was.
     pub fn push_to<A: Allocator + Copy>(
         &self,
         out: &mut String<A>,
@@ -259,7 +291,8 @@ impl<R: AsReg, M: AsReg> GprMem<R, M> {
         size: Size,
     ) -> Result<(), AllocError>
         requires { IsTrue (gpr_mem_nameable R.nameable M.nameable self.now) }
-        ensures { OnOk result (string_bytes out.new ≡ string_bytes out.old ++ gpr_mem_text R.text M.text dialect self.now size) }
+        ensures text { OnOk result (string_bytes out.new ≡ string_bytes out.old ++ gpr_mem_text R.text M.text dialect self.now size) }
+        ensures kept { OnErr result (string_bytes out.new ≡ string_bytes out.old) }
     {
         match self {
             GprMem::Gpr(reg) => reg.push_to(out, alloc, Some(size)),
@@ -312,6 +345,8 @@ impl<R: AsReg, M: AsReg> XmmMem<R, M> {
     }
 
     /// Adds the text to `out`.
+    ///
+    /// Fails where there is no memory, and then leaves the text as it was.
     pub fn push_to<A: Allocator + Copy>(
         &self,
         out: &mut String<A>,
@@ -319,7 +354,8 @@ impl<R: AsReg, M: AsReg> XmmMem<R, M> {
         dialect: Dialect,
     ) -> Result<(), AllocError>
         requires { IsTrue (xmm_mem_nameable R.nameable M.nameable self.now) }
-        ensures { OnOk result (string_bytes out.new ≡ string_bytes out.old ++ xmm_mem_text R.text M.text dialect self.now) }
+        ensures text { OnOk result (string_bytes out.new ≡ string_bytes out.old ++ xmm_mem_text R.text M.text dialect self.now) }
+        ensures kept { OnErr result (string_bytes out.new ≡ string_bytes out.old) }
     {
         match self {
             XmmMem::Xmm(reg) => reg.push_to(out, alloc, None),

@@ -28,6 +28,7 @@ pub fn encode_all<R: Registers, S: CodeSink>(insts: &[Inst<R>], sink: &mut S) ->
     ensures front { IsFront (S.state sink.old).bytes (S.state sink.new).bytes }
     ensures error { IfErr result (λ e. (S.state sink.old).answers e.error ≡ true) }
     ensures keeps { Keeps (S.state sink.old) (S.state sink.new) }
+    ensures beside { S.may_become sink.old sink.new }
     ensures enough { HasRoom (S.state sink.old).byte_room (13 * length insts.now) → HasRoom (S.state sink.old).notice_room (length insts.now) → IsOk result }
     ensures room { let ms = meants ⟦<Inst<R> as Instruction>⟧.meant (S.state sink.old) insts.now in (j : ℕ) → j ≤ length insts.now → HasRoom (S.state sink.old).byte_room (total_len (take j ms)) → HasRoom (S.state sink.old).notice_room (total_notices (take j ms)) → IfErr result (λ e. j ≤ e.whole) }
     ensures byte_room { FallsBy (S.state sink.old).byte_room (S.state sink.new).byte_room (list_len (S.state sink.old) ⟦<Inst<R> as Instruction>⟧.meant insts.now) }
@@ -38,7 +39,8 @@ pub fn encode_all<R: Registers, S: CodeSink>(insts: &[Inst<R>], sink: &mut S) ->
 
 /// Puts all instructions one behind the other, and tells the recorder of their traps and targets, or does nothing.
 ///
-/// Room for all of them is made at once, before the first is put.
+/// Room for all of them is made at once, before the first is put; so who reserves for several lists, and then puts them,
+/// isn't refused.
 pub fn encode_all_whole<R: Registers, A: Allocator>(
     insts: &[Inst<R>],
     recorder: &mut Recorder<A>,
@@ -50,6 +52,8 @@ pub fn encode_all_whole<R: Registers, A: Allocator>(
     ensures front { IsFront (recorder_state recorder.old).bytes (recorder_state recorder.new).bytes }
     ensures error { IfErr result (λ e. e ≡ SinkError.NoMemory) }
     ensures keeps { Keeps (recorder_state recorder.old) (recorder_state recorder.new) }
+    ensures byte_room { FallsBy (recorder_state recorder.old).byte_room (recorder_state recorder.new).byte_room (list_len (recorder_state recorder.old) ⟦<Inst<R> as Instruction>⟧.meant insts.now) }
+    ensures notice_room { FallsBy (recorder_state recorder.old).notice_room (recorder_state recorder.new).notice_room (list_notices (recorder_state recorder.old) ⟦<Inst<R> as Instruction>⟧.meant insts.now) }
     ensures room { HasRoom (recorder_state recorder.old).byte_room (list_len (recorder_state recorder.old) ⟦<Inst<R> as Instruction>⟧.meant insts.now) → HasRoom (recorder_state recorder.old).notice_room (list_notices (recorder_state recorder.old) ⟦<Inst<R> as Instruction>⟧.meant insts.now) → IsOk result }
 {
     encode_each_whole(insts, recorder)

@@ -4,10 +4,10 @@ use Rattle.std.proofs.lemmas.Bool.Decides.{nat_tests}
 use Rattle.cax64_address.specs.Emitted as address
 use Rattle.cax64_address.specs.Emitted.{target_actions}
 use Rattle.cax64_address.specs.declared.tail.TailCode.{TailCode}
-use Rattle.cax64_machine_code.specs.Len.{opcode_len}
 use Rattle.cax64_machine_code.specs.Line.{opcode_bytes}
 use Rattle.cax64_machine_code.specs.Prefix.{Rex}
 use Rattle.cax64_machine_code.specs.declared.line.Line.{Line}
+use Rattle.cax64_machine_code.specs.declared.line.Opcode.{Opcode}
 use Rattle.cax64_prefix.specs.Rex.{rex_byte, rex_bytes}
 use Rattle.cax64_address.specs.declared.amode.Amode.{Amode}
 use Rattle.cax64_machine_code.specs.Reading.{Parts}
@@ -47,15 +47,22 @@ code_is own trap prefix opcode tail front target long word imm w e f = rw (w, e,
 pub encodes_same : {M : Type 0} (parts : Parts) (memory : Option (Amode M)) (a b : List Action) → a ≡ b → EncodesParts parts memory b → EncodesParts parts memory a
 encodes_same parts memory a b e h = rw e h
 
--- They are few, by what is tested of a line.
-pub front_few : (line : Line) (prefix : List ℕ) → is_line line ≡ true → length prefix ≤ prefix_size line.prefix → length prefix + length (opcode_bytes line.opcode) ≤ 5
-front_few line prefix h size =
-    let facts = line_facts line h in
-    let most : prefix_size line.prefix + opcode_len line.opcode ≤ 5 = grind (arith, nat_tests, facts.front) in
-    omega (arith, size, most, opcode_length line.opcode)
+opcode_few : (opcode : Opcode) → length (opcode_bytes opcode) ≤ 2
+opcode_few opcode = rw (opcode_length opcode) (by_escape opcode.escape)
+  where
+    by_escape : (escape : Bool) → (if escape then 2 else 1) ≤ 2
+    by_escape true = omega arith
+    by_escape false = omega arith
 
-pub opcode_some : (line : Line) → 1 ≤ length (opcode_bytes line.opcode)
-opcode_some line = rw (opcode_length line.opcode) (by_escape line.opcode.escape)
+-- They are few, by what is tested of a line, whatever the opcode is.
+pub front_few : (line : Line) (prefix written : List ℕ) (opcode : Opcode) → is_line line ≡ true → length prefix ≤ prefix_size line.prefix → written ≡ opcode_bytes opcode → length prefix + length written ≤ 5
+front_few line prefix written opcode h size is =
+    let facts = line_facts line h in
+    let most : prefix_size line.prefix ≤ 3 = grind (arith, nat_tests, facts.front) in
+    rw is (omega (arith, size, most, opcode_few opcode))
+
+pub opcode_some : (written : List ℕ) (opcode : Opcode) → written ≡ opcode_bytes opcode → 1 ≤ length written
+opcode_some written opcode is = rw (is, opcode_length opcode) (by_escape opcode.escape)
   where
     by_escape : (escape : Bool) → 1 ≤ (if escape then 2 else 1)
     by_escape true = omega arith

@@ -55,6 +55,8 @@ run_leaves {acts = acts} {s} {t} (Err e) h run =
       bytes = left.bytes;
       are_bytes = h.written.are_bytes;
       reads = h.written.reads;
+      shortest = h.written.shortest;
+      length = h.length;
       exact = h.exact;
       front = record { rest = part.0; whole = part.1; proper = not_empty part.0 part.2 };
       told_left = all_notices left.done (length s.bytes);

@@ -47,7 +47,7 @@ pub record LineFacts (line : Line) : Type 0 where
   pub digit : is_digit line.tail ≡ true
   pub once : is_8bit_once line.tail ≡ true
   pub vex_8bit : not (is_vex line.prefix && has_8bit line.tail) ≡ true
-  pub front : nat_le (prefix_size line.prefix + opcode_len line.opcode) 5 ≡ true
+  pub front : nat_le (prefix_size line.prefix) 3 ≡ true
   pub size : nat_le (prefix_size line.prefix + (opcode_len line.opcode + (tail_size line.tail + imm_bytes line.imm))) 13 ≡ true
 
 pub line_facts : (line : Line) → is_line line ≡ true → LineFacts line
@@ -60,7 +60,7 @@ line_facts line h =
     let p5 = and_parts (is_digit line.tail) _ p4.1 in
     let p6 = and_parts (is_8bit_once line.tail) _ p5.1 in
     let p7 = and_parts (not (is_vex line.prefix && has_8bit line.tail)) _ p6.1 in
-    let p8 = and_parts (nat_le (prefix_size line.prefix + opcode_len line.opcode) 5) _ p7.1 in
+    let p8 = and_parts (nat_le (prefix_size line.prefix) 3) _ p7.1 in
     record { plain = p0.0; byte = p1.0; prefix = p2.0; w = p3.0; bare_w = p4.0; digit = p5.0; once = p6.0; vex_8bit = p7.0; front = p8.0; size = p8.1 }
 
 -- the bit W of a row; 0 is written where either is read

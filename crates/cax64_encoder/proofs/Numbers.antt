@@ -33,7 +33,7 @@ use Rattle.cax64_operand.specs.declared.immediate.ImmOperand.TheVariants.{Imm8, 
 use Rattle.cax64_prefix.specs.Rex.{is_special_if_8bit}
 use Rattle.cax64_register.specs.Real.{is_real, is_real_non_rsp}
 use Rattle.cax64_sink.specs.Call.{Action, put}
-use Rattle.cax64_sink.specs.Rest.{word_actions, is_imm_len}
+use Rattle.cax64_sink.specs.Rest.{word_actions}
 use Rattle.cax64_encoder.specs.Encodes.{EncodesParts, TailPartOf, form_parts}
 use Rattle.cax64_encoder.specs.Form.{Form, with_roles, is_absent, is_no_place, reg_fits, place_fits, tail_fits, vvvv_fits, fits}
 use Rattle.cax64_encoder.specs.Form as forms
@@ -227,30 +227,6 @@ none_put (Simm size) h = cc
 pub imm_put : (field : ImmField) (imm : Option ImmOperand) → imm_fits field imm ≡ true → word_actions (imm_bytes field) (optional_imm_word imm) ≡ optional_imm_actions imm
 imm_put field None h = none_put field h
 imm_put field (Some imm) h = let p = and_parts (imm_has_size field imm) (imm_in_range imm) h in word_put field imm p.0 p.1
-
--- and its size is one that there is
-
-size_is : (field : ImmField) (imm : ImmOperand) → imm_has_size field imm ≡ true → is_imm_len (imm_bytes field) ≡ true
-size_is NoImm imm h = cc
-size_is (Imm size) (Imm8 v) h = rw (is_number size 1 h) refl
-size_is (Imm size) (Imm16 v) h = rw (is_number size 2 h) refl
-size_is (Imm size) (Imm32 v) h = rw (is_number size 4 h) refl
-size_is (Imm size) (Simm8 v) h = cc
-size_is (Imm size) (Simm32 v) h = cc
-size_is (Simm size) (Imm8 v) h = cc
-size_is (Simm size) (Imm16 v) h = cc
-size_is (Simm size) (Imm32 v) h = cc
-size_is (Simm size) (Simm8 v) h = rw (is_number size 1 h) refl
-size_is (Simm size) (Simm32 v) h = rw (is_number size 4 h) refl
-
-none_is : (field : ImmField) → is_no_imm field ≡ true → is_imm_len (imm_bytes field) ≡ true
-none_is NoImm h = refl
-none_is (Imm size) h = cc
-none_is (Simm size) h = cc
-
-pub imm_sized : (field : ImmField) (imm : Option ImmOperand) → imm_fits field imm ≡ true → is_imm_len (imm_bytes field) ≡ true
-imm_sized field None h = none_is field h
-imm_sized field (Some imm) h = let p = and_parts (imm_has_size field imm) (imm_in_range imm) h in size_is field imm p.0
 
 pub imm_fit : {M : Type 0} (line : Line) (form : Form M) → fits line form ≡ true → imm_fits line.imm form.imm ≡ true
 imm_fit line form h = (and_parts (vvvv_fits line.prefix form.vvvv) (imm_fits line.imm form.imm) (and_parts (tail_fits line.tail form.reg form.place) _ h).1).1

@@ -29,19 +29,21 @@ pub record AddsInstruction {M : Type 0} (m : Meant M) (old new : State) : Type 0
   pub length : length added ≡ len m
   pub exact : IfSome m.exact (λ very. added ≡ very)
 
--- A sink has got a proper front of a string that reads as what is meant with nothing left, and a front of its notices.
+-- A sink has got a proper front of a string that would be the whole instruction, as above, and a front of its notices.
 pub record LeavesInstruction {M : Type 0} (m : Meant M) (old new : State) : Type 0 where
   pub left : List ℕ
   pub whole : List ℕ
   pub bytes : new.bytes ≡ old.bytes ++ left
   pub are_bytes : IsBytes whole
   pub reads : ReadsAs m.parts whole
+  pub shortest : ShortestFor m.memory whole reads.reading
   pub exact : IfSome m.exact (λ very. whole ≡ very)
   pub front : IsProperFront left whole
   pub told_left : List Notice
   pub told_later : List Notice
   pub notices : new.notices ≡ (if old.records then old.notices ++ told_left else old.notices)
   pub notices_front : told_left ++ told_later ≡ notices_of m.memory (length old.bytes) reads.reading
+  pub length : length whole ≡ len m
 
 -- What an instruction means, which may depend on the offsets that a sink knows; and the same words of it.
 abbrev pub Meaning : Type 0 → Type 0

@@ -72,5 +72,5 @@ is_line line =
     && (is_digit line.tail
     && (is_8bit_once line.tail
     && (not (is_vex line.prefix && has_8bit line.tail)
-    && (nat_le (prefix_size line.prefix + opcode_len line.opcode) 5
+    && (nat_le (prefix_size line.prefix) 3
     && nat_le (prefix_size line.prefix + (opcode_len line.opcode + (tail_size line.tail + imm_bytes line.imm))) 13))))))))

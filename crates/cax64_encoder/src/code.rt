@@ -37,7 +37,8 @@ pub struct Code {
 #[tactic(auto, using(cax64_sink::proofs::Runs::ran_none, cax64_sink::proofs::Runs::ran_one))]
 #[inline(always)]
 fn put_trap<S: CodeSink>(sink: &mut S, trap: Option<TrapCode>) -> Result<(), SinkError>
-    ensures { Ran (trap_actions trap) (S.state sink.old) (S.state sink.new) result }
+    ensures run { Ran (trap_actions trap) (S.state sink.old) (S.state sink.new) result }
+    ensures beside { S.may_become sink.old sink.new }
 {
     match trap {
         Some(code) => sink.add_trap(code),
@@ -51,7 +52,8 @@ impl Code {
     #[inline(always)]
     pub fn put<S: CodeSink>(&self, sink: &mut S) -> Result<(), SinkError>
         requires { IsCode self.now }
-        ensures { Ran (code_actions self.now) (S.state sink.old) (S.state sink.new) result }
+        ensures run { Ran (code_actions self.now) (S.state sink.old) (S.state sink.new) result }
+        ensures beside { S.may_become sink.old sink.new }
     {
         put_trap(sink, self.trap)?;
         self.front.put(sink)?;

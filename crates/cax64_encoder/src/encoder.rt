@@ -1,13 +1,11 @@
 //! From a row of the table and operands to the code of an instruction.
 
-ghost use Rattle.std.specs.Prelude.{◌≡◌, ◌∷◌, [], ◌==◌, ◌<◌, ◌≤◌, ◌/◌, ◌&&◌, ◌||◌, ◌↔◌, nat_le, true, false, IsTrue, IsSome, Option, option_map, length};
+ghost use Rattle.std.specs.Prelude.{◌≡◌, ◌∷◌, [], ◌==◌, ◌<◌, ◌≤◌, ◌/◌, ◌&&◌, ◌||◌, ◌↔◌, nat_le, IsTrue, IsSome, Option, option_map, length};
 ghost use Rattle.std.specs.Int.{from_bool};
 ghost use Rattle.cax64_address.specs.Emitted as address;
 ghost use Rattle.cax64_address.specs.Memory.{memory_actions};
 ghost use Rattle.cax64_encoder.specs.Code.{IsCode, tail_actions, code_actions};
-ghost use Rattle.cax64_encoder.specs.Content.{no_content, nop_content, with_content};
 ghost use Rattle.cax64_encoder.specs.Encodes.{TailPartOf, EncodesParts, EncodesAs, form_parts};
-ghost use Rattle.cax64_encoder.specs.Fault.{is_encodable};
 ghost use Rattle.cax64_encoder.specs.Form.{is_no_place, vvvv_fits, fits};
 ghost use Rattle.cax64_encoder.specs.Line.{has_tail};
 ghost use Rattle.cax64_encoder.specs.Meant.{meant_of};
@@ -22,8 +20,6 @@ ghost use Rattle.cax64_machine_code.specs.Len.{tail_len, len_of};
 ghost use Rattle.cax64_machine_code.specs.Prefix.{rex_bits};
 ghost use Rattle.cax64_machine_code.specs.Rows.{line_of};
 ghost use Rattle.cax64_prefix.specs.Rex.{is_special_if_8bit};
-ghost use Rattle.cax64_operand.specs.Fold.{fold};
-ghost use Rattle.cax64_operand.specs.Shape.{HasShape};
 ghost use Rattle.cax64_operand.specs.declared.operand.Operands.{Operands};
 ghost use Rattle.cax64_sink.specs.Call.{put};
 ghost use Rattle.cax64_sink.specs.Run.{all_bytes};
@@ -38,7 +34,7 @@ use cax64_address::disp::encode_modrm;
 use cax64_address::memory::{MemoryTail, memory_tail};
 use cax64_address::tail::{TailCode, relative_tail};
 use cax64_machine_code::row::Row;
-use cax64_operand::{RegisterFamily, RowAndOperands, fold_operands, row_of};
+use cax64_operand::RegisterFamily;
 use cax64_prefix::rex::{RexPrefix, is_special_if_8bit};
 use cax64_prefix::vex::VexPrefix;
 use cax64_register::Registers;
@@ -208,24 +204,4 @@ pub(crate) fn code_for<R: Registers, S: CodeSink>(row: Row, content: &Content, s
             code_of(row, &content.form, displacement)
         }
     }
-}
-
-/// What is kept of the operands of an instruction. It stands by itself: within its caller, what is kept of each kind would
-/// be laid out beside the row of each kind, and the jump to the one wouldn't tell the jump to the other.
-#[inline(never)]
-fn content_of<I: RowAndOperands>(inst: &I) -> Content
-    ensures value { result ≡ fold no_content (with_content ⟦<I::Family as RegisterFamily>⟧.family) nop_content (I.operands_of inst.now) }
-    ensures shape { HasShape (I.row_of inst.now) (I.operands_of inst.now) }
-{
-    fold_operands(inst)
-}
-
-/// The sink calls that write an instruction.
-pub fn code_in<I: RowAndOperands, S: CodeSink>(inst: &I, sink: &S) -> Code
-    requires { IsTrue (is_encodable (S.state sink.now).offsets (meant_of ⟦<I::Family as RegisterFamily>⟧.family (I.row_of inst.now) (I.operands_of inst.now) (S.state sink.now).offsets)) }
-    ensures encodes { EncodesAs (meant_of ⟦<I::Family as RegisterFamily>⟧.family (I.row_of inst.now) (I.operands_of inst.now) (S.state sink.now).offsets) (code_actions result) }
-    ensures is { IsCode result }
-{
-    let content = content_of(inst);
-    code_for::<I::Family, S>(row_of(inst), &content, sink)
 }

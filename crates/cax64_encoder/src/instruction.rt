@@ -1,6 +1,6 @@
 //! What every instruction can do, over its row and its operands.
 
-ghost use Rattle.std.specs.Prelude.{◌≡◌, ◌≤◌, ◌↔◌, ℕ, ℤ, true, Option, None, IsTrue, OnOk, OnErr, IfErr, IsOk};
+ghost use Rattle.std.specs.Prelude.{◌≡◌, ◌≤◌, ◌↔◌, ℕ, ℤ, true, Option, None, refl, IsTrue, OnOk, OnErr, IfErr, IsOk};
 ghost use Rattle.cax64_encoder.specs.Fault.{is_encodable, fault_of_meant};
 ghost use Rattle.cax64_encoder.specs.Instruction.{Meaning, can_encode_in, fault_in, len_in, notices_in, Adds, Leaves};
 ghost use Rattle.cax64_encoder.specs.Meant.{Meant, meant_of};
@@ -8,6 +8,7 @@ ghost use Rattle.cax64_encoder.specs.Notices.{notice_count};
 ghost use Rattle.cax64_encoder.specs.Relative.{ReadsRelative};
 ghost use Rattle.cax64_machine_code.specs.Sequence.{IsFront};
 ghost use Rattle.cax64_machine_code.specs.declared.row.Row.{Row};
+ghost use Rattle.cax64_operand.specs.Shape.{HasShape};
 ghost use Rattle.cax64_operand.specs.Visit.{OperandsRun};
 ghost use Rattle.cax64_operand.specs.declared.operand.Operands.{Operands};
 ghost use Rattle.cax64_sink.specs.Keeps.{Keeps};
@@ -18,32 +19,26 @@ use crate::content::Content;
 use crate::fault::{Fault, listed_fault};
 use crate::room::{Counting, Measuring, RoomNeeded};
 use cax64_machine_code::row::Row;
-use cax64_operand::{RegisterFamily, RegisterVisitor, RowAndOperands, row_of};
+use cax64_operand::{HasOperands, ItsRow, RegisterFamily, RegisterVisitor, RowAndOperands};
 use cax64_register::Registers;
 use cax64_sink::{CodeSink, SinkError};
 
 /// An instruction: all that it does follows from its row and its operands.
-pub trait Instruction {
-    /// The registers; plain numbers where it has none.
-    type Family: Registers;
-
-    ghost row_of: { Self → Row };
-
-    ghost operands_of: { Self → Operands Self.Family Self.Family.ReadGpr Self.Family.ReadWriteGpr Self.Family.WriteGpr Self.Family.ReadXmm Self.Family.ReadWriteXmm Self.Family.WriteXmm };
-
+pub trait Instruction: HasOperands {
     // What it means, for the offsets that a sink knows.
     ghost meant: { Self → (ℕ → Option ℤ) → Meant Self.Family.ReadGpr };
 
     /// The row of the table, as a reading of the bytes has it.
     fn row(&self) -> Row
-        ensures row { result ≡ row_of self.now }
+        ensures row { result ≡ Self.row_of self.now }
+        ensures shape { HasShape (Self.row_of self.now) (Self.operands_of self.now) }
         ensures meant { (offsets : ℕ → Option ℤ) → result ≡ (meant self.now offsets).parts.row };
 
     /// Goes over the registers in the order of the operands, and puts what the visitor gives in their place. Memory is its
     /// base, then its index. All else stays.
     fn visit<V: RegisterVisitor<Self::Family>>(&mut self, visitor: &mut V)
-        ensures run { OperandsRun Self.Family.WriteGpr.eq V.steps visitor.old (operands_of self.old) (operands_of self.new) visitor.new }
-        ensures row { row_of self.new ≡ row_of self.old };
+        ensures run { OperandsRun Self.Family.WriteGpr.eq V.steps visitor.old (Self.operands_of self.old) (Self.operands_of self.new) visitor.new }
+        ensures row { Self.row_of self.new ≡ Self.row_of self.old };
 
     /// Why the instruction can't be encoded for this sink: the first register, in the order of visits, that isn't as it
     /// has to be, or else the late offset. `None` where it can.
@@ -89,25 +84,25 @@ pub trait Instruction {
         ensures front { IsFront (S.state sink.old).bytes (S.state sink.new).bytes }
         ensures error { IfErr result (λ e. (S.state sink.old).answers e ≡ true) }
         ensures keeps { Keeps (S.state sink.old) (S.state sink.new) }
+        ensures beside { S.may_become sink.old sink.new }
         ensures enough { HasRoom (S.state sink.old).byte_room 13 → HasRoom (S.state sink.old).notice_room 1 → IsOk result }
         ensures room { HasRoom (S.state sink.old).byte_room (len_in (S.state sink.old) (meant self.now)) → HasRoom (S.state sink.old).notice_room (notices_in (S.state sink.old) (meant self.now)) → IsOk result }
         ensures byte_room { FallsBy (S.state sink.old).byte_room (S.state sink.new).byte_room (len_in (S.state sink.old) (meant self.now)) }
         ensures notice_room { FallsBy (S.state sink.old).notice_room (S.state sink.new).notice_room (notices_in (S.state sink.old) (meant self.now)) }
         ensures most { len_in (S.state sink.old) (meant self.now) ≤ 13 }
         ensures relative { ReadsRelative (meant self.now (S.state sink.old).offsets) };
+
+    // What it means is what its row means with its operands.
+    ghost follows: { (i : Self) (offsets : ℕ → Option ℤ) → meant i offsets ≡ meant_of ⟦<Self::Family as RegisterFamily>⟧.family (Self.row_of i) (Self.operands_of i) offsets };
 }
 
 impl<I: RowAndOperands> Instruction for I {
-    type Family = I::Family;
-
-    ghost row_of = { I.row_of };
-
-    ghost operands_of = { I.operands_of };
-
     ghost meant = { λ i offsets. meant_of ⟦<I::Family as RegisterFamily>⟧.family (I.row_of i) (I.operands_of i) offsets };
 
+    ghost follows = { λ i offsets. refl };
+
     fn row(&self) -> Row {
-        row_of(self)
+        self.hand_to::<ItsRow, ()>(&mut ())
     }
 
     fn visit<V: RegisterVisitor<I::Family>>(&mut self, visitor: &mut V) {

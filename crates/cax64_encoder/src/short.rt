@@ -106,7 +106,8 @@ impl Short {
     #[inline(always)]
     pub fn put<S: CodeSink>(&self, sink: &mut S) -> Result<(), SinkError>
         requires { 1 ≤ length self.now }
-        ensures { Ran (puts self.now) (S.state sink.old) (S.state sink.new) result }
+        ensures run { Ran (puts self.now) (S.state sink.old) (S.state sink.new) result }
+        ensures beside { S.may_become sink.old sink.new }
     {
         sink.put_low_bytes(self.word, self.len)
     }

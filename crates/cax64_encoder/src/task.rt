@@ -20,7 +20,7 @@ impl<R: Registers, S: CodeSink> Task<R, S> for Content {
 
     ghost asks = { λ row content sink. Asked R ⟦<R as RegisterFamily>⟧.family (S.state sink).offsets row content };
 
-    ghost answers = { λ row content old new result. Answered R ⟦<R as RegisterFamily>⟧.family row content (S.state old) (S.state new) result };
+    ghost answers = { λ row content old new result. Answered R ⟦<R as RegisterFamily>⟧.family row content (S.state old) (S.state new) result × S.may_become old new };
 
     #[inline(always)]
     fn take(self, row: Row, sink: &mut S) -> Result<(), SinkError> {

@@ -50,7 +50,8 @@ impl Imm32 {
 
     /// Puts the four bytes, the lowest first. The sink's refusal is passed on.
     pub fn encode<S: CodeSink>(&self, sink: &mut S) -> Result<(), SinkError>
-        ensures { Step (put (to_le_bytes w32 self.now)) (S.state sink.old) (S.state sink.new) result }
+        ensures step { Step (put (to_le_bytes w32 self.now)) (S.state sink.old) (S.state sink.new) result }
+        ensures beside { S.may_become sink.old sink.new }
     {
         sink.put4(self.value())
     }

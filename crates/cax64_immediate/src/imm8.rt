@@ -50,7 +50,8 @@ impl Imm8 {
 
     /// Puts the byte. The sink's refusal is passed on.
     pub fn encode<S: CodeSink>(&self, sink: &mut S) -> Result<(), SinkError>
-        ensures { Step (put (self.now ∷ [])) (S.state sink.old) (S.state sink.new) result }
+        ensures step { Step (put (self.now ∷ [])) (S.state sink.old) (S.state sink.new) result }
+        ensures beside { S.may_become sink.old sink.new }
     {
         sink.put1(self.value())
     }

@@ -50,7 +50,8 @@ impl Simm16 {
 
     /// Puts the two bytes of the two's complement, the lowest first. The sink's refusal is passed on.
     pub fn encode<S: CodeSink>(&self, sink: &mut S) -> Result<(), SinkError>
-        ensures { Step (put (to_le_bytes w16 (cast_unsigned w16 self.now))) (S.state sink.old) (S.state sink.new) result }
+        ensures step { Step (put (to_le_bytes w16 (cast_unsigned w16 self.now))) (S.state sink.old) (S.state sink.new) result }
+        ensures beside { S.may_become sink.old sink.new }
     {
         sink.put2(self.value().cast_unsigned())
     }

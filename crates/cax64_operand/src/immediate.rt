@@ -1,7 +1,7 @@
 //! Immediates, by what they are to an instruction.
 
-ghost use Rattle.std.specs.Prelude.{◌≡◌, Some};
-ghost use Rattle.cax64_operand.specs.Immediate.{imm_of, imm_size};
+ghost use Rattle.std.specs.Prelude.{◌≡◌};
+ghost use Rattle.cax64_operand.specs.Immediate.{imm_of};
 
 use cax64_immediate::Extension;
 
@@ -50,21 +50,6 @@ impl Immediate {
             Immediate::Distance32(value) => ImmOperand::Simm32(value),
             Immediate::Predicate(value) => ImmOperand::Imm8(value),
             Immediate::VexPredicate(value) => ImmOperand::Imm8(value),
-        }
-    }
-}
-
-impl ImmOperand {
-    /// How many bytes it has.
-    pub fn size(self) -> u8
-        ensures { result ≡ imm_size (Some self) }
-    {
-        match self {
-            ImmOperand::Imm8(_) => 1,
-            ImmOperand::Simm8(_) => 1,
-            ImmOperand::Imm16(_) => 2,
-            ImmOperand::Imm32(_) => 4,
-            ImmOperand::Simm32(_) => 4,
         }
     }
 }

@@ -14,7 +14,26 @@ use crate::visitor::RegisterVisitor;
 use cax64_machine_code::row::Row;
 use cax64_register::Registers;
 
-/// An instruction is a row of the table and the operands in the order of visits. All that it means follows from these.
+/// What is an instruction: something with a row of the table and operands in the order of visits. What it means and what
+/// it says of itself both follow from these.
+pub trait HasOperands {
+    /// The registers; plain numbers where it has none.
+    type Family: Registers;
+
+    ghost row_of: { Self → Row };
+
+    ghost operands_of: { Self → Operands Self.Family Self.Family.ReadGpr Self.Family.ReadWriteGpr Self.Family.WriteGpr Self.Family.ReadXmm Self.Family.ReadWriteXmm Self.Family.WriteXmm };
+}
+
+impl<I: RowAndOperands> HasOperands for I {
+    type Family = I::Family;
+
+    ghost row_of = { I.row_of };
+
+    ghost operands_of = { I.operands_of };
+}
+
+/// An instruction that gives its row and its operands in one call. All that it can do follows from these.
 pub trait RowAndOperands {
     /// The registers; plain numbers where it has none.
     type Family: Registers;

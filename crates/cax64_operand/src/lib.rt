@@ -14,7 +14,7 @@ pub mod visitor;
 pub use family::RegisterFamily;
 pub use fold::{FromOperands, of_five, of_four, of_one, of_three, of_two};
 pub use immediate::{ImmOperand, Immediate};
-pub use instruction::{Numbers, RowAndOperands, fold_operands, operands_of, row_of};
+pub use instruction::{HasOperands, Numbers, RowAndOperands, fold_operands, operands_of, row_of};
 pub use nop::Nop;
 pub use operand::{Operand, Operands};
 pub use task::{ItsRow, Made, Task};

@@ -200,6 +200,7 @@ impl EvexPrefix {
     /// Puts the four bytes.
     pub fn encode<S: CodeSink>(&self, sink: &mut S) -> Result<(), SinkError>
         ensures puts { Ran (puts self.now) (S.state sink.old) (S.state sink.new) result }
+        ensures beside { S.may_become sink.old sink.new }
         ensures adds { IfOk result (λ _. (S.state sink.new).bytes ≡ (S.state sink.old).bytes ++ self.now) }
         ensures size { length self.now ≡ 4 }
     {

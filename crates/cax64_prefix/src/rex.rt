@@ -156,6 +156,7 @@ impl RexPrefix {
     #[tactic(auto, using(cax64_sink::proofs::Runs::ran_none, cax64_sink::proofs::Runs::ran_one))]
     pub fn encode<S: CodeSink>(&self, sink: &mut S) -> Result<(), SinkError>
         ensures puts { Ran (puts (rex_bytes self.now)) (S.state sink.old) (S.state sink.new) result }
+        ensures beside { S.may_become sink.old sink.new }
         ensures adds { IfOk result (λ _. (S.state sink.new).bytes ≡ (S.state sink.old).bytes ++ rex_bytes self.now) }
         ensures reads { RexReadsBack self.now }
     {

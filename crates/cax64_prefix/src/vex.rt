@@ -91,6 +91,7 @@ impl VexPrefix {
     /// Puts C5 or C4, and the held bytes.
     pub fn encode<S: CodeSink>(&self, sink: &mut S) -> Result<(), SinkError>
         ensures puts { Ran (puts (vex_bytes self.now)) (S.state sink.old) (S.state sink.new) result }
+        ensures beside { S.may_become sink.old sink.new }
         ensures adds { IfOk result (λ _. (S.state sink.new).bytes ≡ (S.state sink.old).bytes ++ vex_bytes self.now) }
     {
         match *self {

@@ -1,5 +1,5 @@
 //! What the assembler asks of a register type.
-ghost use Rattle.std.specs.Prelude.{◌≡◌, ◌<◌, ◌++◌, ℕ, Bool, true, IsTrue, IfOk, OnOk, List, Option, nat_lt, string_bytes};
+ghost use Rattle.std.specs.Prelude.{◌≡◌, ◌<◌, ◌++◌, ℕ, Bool, true, IsTrue, IfOk, OnErr, OnOk, List, Option, nat_lt, string_bytes};
 ghost use Rattle.std.proofs.Common.{rules};
 ghost use Rattle.cax64_register.specs.declared.gpr.Size.{Size};
 ghost use Rattle.cax64_register.specs.Real.{is_real};
@@ -65,7 +65,7 @@ pub trait AsReg: Copy + Clone + PartialEq {
 
     /// Adds that text to `out`. A family whose names need no String of their own can say so here.
     ///
-    /// Fails where there is no memory.
+    /// Fails where there is no memory, and then leaves the text as it was.
     fn push_to<A: Allocator + Copy>(
         &self,
         out: &mut String<A>,
@@ -73,7 +73,8 @@ pub trait AsReg: Copy + Clone + PartialEq {
         size: Option<Size>,
     ) -> Result<(), AllocError>
         requires { IsTrue (nameable self.now) }
-        ensures { OnOk result (string_bytes out.new ≡ string_bytes out.old ++ text self.now size) }
+        ensures text { OnOk result (string_bytes out.new ≡ string_bytes out.old ++ text self.now size) }
+        ensures kept { OnErr result (string_bytes out.new ≡ string_bytes out.old) }
     {
         let name = self.to_string(alloc, size)?;
         out.push_str(name.as_str())

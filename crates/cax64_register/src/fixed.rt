@@ -27,6 +27,22 @@ impl<R, const E: u8> Fixed<R, E> {
     }
 }
 
+impl<R: AsReg, const E: u8> Fixed<R, E> {
+    /// The text of the register held, at this size, or at none.
+    ///
+    /// Fails where there is no memory.
+    pub fn to_string<A: Allocator + Copy>(
+        &self,
+        alloc: A,
+        size: Option<Size>,
+    ) -> Result<String<A>, AllocError>
+        requires { IsTrue (R.nameable self.now.0) }
+        ensures { IfOk result (λ t. string_bytes t ≡ R.text self.now.0 size) }
+    {
+        self.0.to_string(alloc, size)
+    }
+}
+
 impl<R, const E: u8> From<R> for Fixed<R, E> {
     ghost from_gives = { λ reg fixed. fixed.0 ≡ reg };
 

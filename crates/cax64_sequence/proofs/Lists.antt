@@ -281,7 +281,7 @@ refused_late meant xs i j x old now within e bytes notices refused byte_room not
     ]
 
 -- a room that falls by less falls by no more than all
-falls_less : (old new : Room) (n all : ℕ) → n ≤ all → FallsBy old new n → FallsBy old new all
+pub falls_less : (old new : Room) (n all : ℕ) → n ≤ all → FallsBy old new n → FallsBy old new all
 falls_less old new n all h falls count room = falls count (less_room old (count + all) (count + n) (omega arith) room)
 
 -- what was taken of a list that stopped lowers the rooms by no more than the list

@@ -37,6 +37,7 @@ pub fn encode_each<I: Instruction, S: CodeSink>(insts: &[I], sink: &mut S) -> Re
     ensures front { IsFront (S.state sink.old).bytes (S.state sink.new).bytes }
     ensures error { IfErr result (λ e. (S.state sink.old).answers e.error ≡ true) }
     ensures keeps { Keeps (S.state sink.old) (S.state sink.new) }
+    ensures beside { S.may_become sink.old sink.new }
     ensures enough { HasRoom (S.state sink.old).byte_room (13 * length insts.now) → HasRoom (S.state sink.old).notice_room (length insts.now) → IsOk result }
     ensures room { let ms = meants I.meant (S.state sink.old) insts.now in (j : ℕ) → j ≤ length insts.now → HasRoom (S.state sink.old).byte_room (total_len (take j ms)) → HasRoom (S.state sink.old).notice_room (total_notices (take j ms)) → IfErr result (λ e. j ≤ e.whole) }
     ensures byte_room { FallsBy (S.state sink.old).byte_room (S.state sink.new).byte_room (list_len (S.state sink.old) I.meant insts.now) }

@@ -6,7 +6,7 @@ ghost use Rattle.cax64_machine_code.specs.Sequence.{IsFront};
 ghost use Rattle.cax64_sequence.specs.List.{AddsList, StaysAs, list_len, list_notices};
 ghost use Rattle.cax64_sink.specs.Keeps.{Keeps};
 ghost use Rattle.cax64_sink.specs.Recorder.{recorder_state};
-ghost use Rattle.cax64_sink.specs.Room.{HasRoom};
+ghost use Rattle.cax64_sink.specs.Room.{HasRoom, FallsBy};
 
 use crate::sequence::encode_each;
 use cax64_encoder::instruction::Instruction;
@@ -32,7 +32,8 @@ fn measure<I: Instruction, S: CodeSink>(insts: &[I], sink: &S) -> (usize, usize)
 
 /// Puts all instructions of a list of one type, or none.
 ///
-/// Room for all of them is made at once, before the first is put.
+/// Room for all of them is made at once, before the first is put; so who reserves for several lists, and then puts them,
+/// isn't refused.
 pub fn encode_each_whole<I: Instruction, A: Allocator>(
     insts: &[I],
     recorder: &mut Recorder<A>,
@@ -44,6 +45,8 @@ pub fn encode_each_whole<I: Instruction, A: Allocator>(
     ensures front { IsFront (recorder_state recorder.old).bytes (recorder_state recorder.new).bytes }
     ensures error { IfErr result (λ e. e ≡ SinkError.NoMemory) }
     ensures keeps { Keeps (recorder_state recorder.old) (recorder_state recorder.new) }
+    ensures byte_room { FallsBy (recorder_state recorder.old).byte_room (recorder_state recorder.new).byte_room (list_len (recorder_state recorder.old) I.meant insts.now) }
+    ensures notice_room { FallsBy (recorder_state recorder.old).notice_room (recorder_state recorder.new).notice_room (list_notices (recorder_state recorder.old) I.meant insts.now) }
     ensures room { HasRoom (recorder_state recorder.old).byte_room (list_len (recorder_state recorder.old) I.meant insts.now) → HasRoom (recorder_state recorder.old).notice_room (list_notices (recorder_state recorder.old) I.meant insts.now) → IsOk result }
 {
     let (bytes, notices) = measure(insts, &*recorder);

@@ -1,4 +1,4 @@
-use Rattle.std.proofs.Common.{◌≡◌, ℕ, ◌+◌, ◌≤◌, arith, List, ◌++◌, Option, Some, None, refl, ap, sym, ◌∙◌, length, ℤ, Result, Ok, Err}
+use Rattle.std.proofs.Common.{◌≡◌, ℕ, ◌+◌, ◌≤◌, arith, List, ◌++◌, Option, Some, None, refl, ap, sym, subst, ◌∙◌, length, ℤ, Result, Ok, Err}
 use Rattle.std.specs.Prelude.{IfSome, MatchOption, OnOk}
 use Rattle.std.proofs.lemmas.List.{length-append}
 use Rattle.cax64_machine_code.specs.Fields.{IsBytes}
@@ -48,6 +48,12 @@ shortest f row operands offsets bytes reading shape short hb h same =
     let is = len_is row (nop_of operands) (operands_meant f.read_gpr row (roles_of f (list_of operands)) offsets) _ refl shape short in
     let least = string_least (meant_of f row operands offsets).parts bytes reading hb h same in
     rw is least
+
+-- the same of what is meant by row and operands
+pub meant_shortest : {R A B C D E F : Type 0} (f : Family A B C D E F) (row : Row) (operands : Operands R A B C D E F) (offsets : ℕ → Option ℤ) (meant : Meant A) (bytes : List ℕ) (reading : Reading) → meant ≡ meant_of f row operands offsets → HasShape row operands → IfSome meant.exact (λ very. length very ≤ 3) → IsBytes bytes → read bytes ≡ Some reading → Same reading meant.parts → len meant ≤ length bytes
+meant_shortest {A = A} f row operands offsets meant bytes reading e =
+    let P : Meant A → Type 0 = λ m. HasShape row operands → IfSome m.exact (λ very. length very ≤ 3) → IsBytes bytes → read bytes ≡ Some reading → Same reading m.parts → len m ≤ length bytes in
+    subst P (sym e) (shortest f row operands offsets bytes reading)
 
 -- what was added has as many bytes as the instruction has
 pub added_shortest : {M : Type 0} (m : Meant M) (old new : State) (result : Result (Unit {0}) SinkError) → OnOk result (AddsInstruction m old new) → ((bytes : List ℕ) (reading : Reading) → IsBytes bytes → read bytes ≡ Some reading → Same reading m.parts → len m ≤ length bytes) → OnOk result ((bytes : List ℕ) (reading : Reading) → IsBytes bytes → read bytes ≡ Some reading → Same reading m.parts → length new.bytes ≤ length old.bytes + length bytes)

@@ -9,7 +9,6 @@ ghost use Rattle.cax64_machine_code.specs.Sequence.{Same};
 ghost use Rattle.cax64_machine_code.specs.declared.reading.Reading.{Reading};
 
 use cax64_encoder::Instruction;
-use cax64_operand::{RowAndOperands, operands_of};
 
 /// `len_of` is the least number of bytes of an instruction: no string of bytes that is read as these parts is shorter,
 /// and what is read of it has no fewer. It does nothing: its clauses are the law.
@@ -25,12 +24,12 @@ pub fn len_is_least()
 
 /// No string of bytes that is read as an instruction is shorter than what [`Instruction::encode`] adds for it, whatever
 /// its registers are and whatever offsets a sink knows. The no-operations of four to nine bytes, whose length is what
-/// they are asked for, are left out. It asks for the operands, since their shape comes with them, and does nothing else.
-pub fn whole_instruction_is_shortest<I: RowAndOperands>(inst: &I)
+/// they are asked for, are left out. It asks for the row, since the shape of the operands comes with it, and does nothing else.
+pub fn whole_instruction_is_shortest<I: Instruction>(inst: &I)
     ensures { (offsets : ℕ → Option ℤ) (bytes : List ℕ) (reading : Reading)
-        → IfSome (⟦<I as Instruction>⟧.meant inst.now offsets).exact (λ very. length very ≤ 3)
-        → IsBytes bytes → read bytes ≡ Some reading → Same reading (⟦<I as Instruction>⟧.meant inst.now offsets).parts
-        → len (⟦<I as Instruction>⟧.meant inst.now offsets) ≤ length bytes }
+        → IfSome (I.meant inst.now offsets).exact (λ very. length very ≤ 3)
+        → IsBytes bytes → read bytes ≡ Some reading → Same reading (I.meant inst.now offsets).parts
+        → len (I.meant inst.now offsets) ≤ length bytes }
 {
-    let _operands = operands_of(inst);
+    let _row = inst.row();
 }

@@ -11,7 +11,6 @@ use crate::laws::{len_is_least, whole_instruction_is_shortest};
 use cax64_encoder::Instruction;
 use cax64_machine_code::reading::{Place, Reading, RegView};
 use cax64_machine_code::row::Row;
-use cax64_operand::RowAndOperands;
 use cax64_sink::{CodeSink, SinkError};
 
 /// What no string of bytes is shorter than: an immediate alone; a shift of `%al`, whose digit needs no REX byte, and of
@@ -40,17 +39,14 @@ pub fn lengths_of_a_shift()
 
 /// Encodes an instruction that isn't a no-operation of four bytes or more. What it adds is no longer than any string of
 /// bytes that is read as the instruction.
-pub fn encode_shortest<I: RowAndOperands, S: CodeSink>(
-    inst: &I,
-    sink: &mut S,
-) -> Result<(), SinkError>
-    requires encodable { IsTrue (can_encode_in (S.state sink.old) (⟦<I as Instruction>⟧.meant inst.now)) }
-    requires short { IfSome (⟦<I as Instruction>⟧.meant inst.now (S.state sink.old).offsets).exact (λ very. length very ≤ 3) }
+pub fn encode_shortest<I: Instruction, S: CodeSink>(inst: &I, sink: &mut S) -> Result<(), SinkError>
+    requires encodable { IsTrue (can_encode_in (S.state sink.old) (I.meant inst.now)) }
+    requires short { IfSome (I.meant inst.now (S.state sink.old).offsets).exact (λ very. length very ≤ 3) }
     ensures shortest { OnOk result ((bytes : List ℕ) (reading : Reading)
-        → IsBytes bytes → read bytes ≡ Some reading → Same reading (⟦<I as Instruction>⟧.meant inst.now (S.state sink.old).offsets).parts
+        → IsBytes bytes → read bytes ≡ Some reading → Same reading (I.meant inst.now (S.state sink.old).offsets).parts
         → length (S.state sink.new).bytes ≤ length (S.state sink.old).bytes + length bytes) }
-    ensures adds { OnOk result (Adds (⟦<I as Instruction>⟧.meant inst.now) (S.state sink.old) (S.state sink.new)) }
-    ensures leaves { OnErr result (Leaves (⟦<I as Instruction>⟧.meant inst.now) (S.state sink.old) (S.state sink.new)) }
+    ensures adds { OnOk result (Adds (I.meant inst.now) (S.state sink.old) (S.state sink.new)) }
+    ensures leaves { OnErr result (Leaves (I.meant inst.now) (S.state sink.old) (S.state sink.new)) }
     ensures enough { HasRoom (S.state sink.old).byte_room 13 → HasRoom (S.state sink.old).notice_room 1 → IsOk result }
 {
     whole_instruction_is_shortest(inst);

@@ -1,4 +1,4 @@
--- A sink that was emptied.
+-- A sink that was emptied, or lost its notices.
 use Rattle.std.specs.Prelude.{ℕ, ◌+◌, [], length}
 use Rattle.cax64_sink.specs.Room.{Room, endless, count}
 use Rattle.cax64_sink.specs.Sink.{State}
@@ -14,5 +14,12 @@ cleared s = record s {
   bytes = [];
   notices = [];
   byte_room = more_room s.byte_room (length s.bytes);
+  notice_room = more_room s.notice_room (length s.notices);
+}
+
+-- the state without notices, whose places are room again
+abbrev pub without_notices : State → State
+without_notices s = record s {
+  notices = [];
   notice_room = more_room s.notice_room (length s.notices);
 }

@@ -82,6 +82,10 @@ impl<const N: usize> CodeSink for FixedSink<N> {
 
     ghost state = { fixed_sink_state };
 
+    ghost may_stay = { λ _. tt };
+
+    ghost may_go_on = { λ _ _ _ _ _. tt };
+
     fn put1(&mut self, value: u8) -> Result<(), SinkError> {
         self.append_one(value)
     }

@@ -90,27 +90,36 @@ pub enum Notice {
 pub trait CodeSink {
     ghost state: { Self → State };
 
+    // What a call makes of all that `state` doesn't show, from the sink before it to the sink after it. By default that may
+    // be anything.
+    ghost may_become: { Self → Self → Type 0 } = { λ _ _. Unit {0} };
+
     /// Puts one byte.
     fn put1(&mut self, value: u8) -> Result<(), SinkError>
-        ensures { Step (put (value ∷ [])) (state self.old) (state self.new) result };
+        ensures step { Step (put (value ∷ [])) (state self.old) (state self.new) result }
+        ensures beside { may_become self.old self.new };
 
     /// Puts two bytes, the lowest first.
     fn put2(&mut self, value: u16) -> Result<(), SinkError>
-        ensures { Step (put (to_le_bytes w16 value)) (state self.old) (state self.new) result };
+        ensures step { Step (put (to_le_bytes w16 value)) (state self.old) (state self.new) result }
+        ensures beside { may_become self.old self.new };
 
     /// Puts four bytes, the lowest first.
     fn put4(&mut self, value: u32) -> Result<(), SinkError>
-        ensures { Step (put (to_le_bytes w32 value)) (state self.old) (state self.new) result };
+        ensures step { Step (put (to_le_bytes w32 value)) (state self.old) (state self.new) result }
+        ensures beside { may_become self.old self.new };
 
     /// Puts eight bytes, the lowest first.
     fn put8(&mut self, value: u64) -> Result<(), SinkError>
-        ensures { Step (put (to_le_bytes w64 value)) (state self.old) (state self.new) result };
+        ensures step { Step (put (to_le_bytes w64 value)) (state self.old) (state self.new) result }
+        ensures beside { may_become self.old self.new };
 
     /// Puts the lowest bytes of a word, one to eight, as one by one, the lowest first.
     fn put_low_bytes(&mut self, word: u64, count: u8) -> Result<(), SinkError>
         requires least { 1 ≤ count }
         requires most { count ≤ 8 }
-        ensures { Ran (puts (take count (to_le_bytes w64 word))) (state self.old) (state self.new) result }
+        ensures run { Ran (puts (take count (to_le_bytes w64 word))) (state self.old) (state self.new) result }
+        ensures beside { may_become self.old self.new }
     {
         for byte in &word.to_le_bytes()[..usize::from(count)] {
             self.put1(*byte)?;
@@ -125,7 +134,8 @@ pub trait CodeSink {
     /// The room may be larger afterwards than these calls would leave it.
     fn put_rest(&mut self, long: Option<u32>, imm: u32, imm_len: u8) -> Result<(), SinkError>
         requires { IsTrue (is_imm_len imm_len) }
-        ensures { RanRoomier (rest_actions long imm_len imm) (state self.old) (state self.new) result }
+        ensures run { RanRoomier (rest_actions long imm_len imm) (state self.old) (state self.new) result }
+        ensures beside { may_become self.old self.new }
     {
         if let Some(word) = long {
             self.put4(word)?;
@@ -144,11 +154,13 @@ pub trait CodeSink {
 
     /// Says that the instruction that begins here may trap.
     fn add_trap(&mut self, code: TrapCode) -> Result<(), SinkError>
-        ensures { Step (trap code) (state self.old) (state self.new) result };
+        ensures step { Step (trap code) (state self.old) (state self.new) result }
+        ensures beside { may_become self.old self.new };
 
     /// Says that the four bytes that come next are to refer to `place`.
     fn use_target(&mut self, place: DeferredTarget) -> Result<(), SinkError>
-        ensures { Step (target place) (state self.old) (state self.new) result };
+        ensures step { Step (target place) (state self.old) (state self.new) result }
+        ensures beside { may_become self.old self.new };
 
     /// Whether the value of `offset` is known.
     fn knows_offset(&self, offset: KnownOffset) -> bool
@@ -158,4 +170,10 @@ pub trait CodeSink {
     fn known_offset(&self, offset: KnownOffset) -> i32
         requires { IsSome ((state self.now).offsets offset) }
         ensures { (state self.now).offsets offset ≡ Some result };
+
+    // A call that changes nothing is one.
+    ghost may_stay: { (s : Self) → may_become s s };
+
+    // Two calls are one.
+    ghost may_go_on: { (s t u : Self) → may_become s t → may_become t u → may_become s u };
 }

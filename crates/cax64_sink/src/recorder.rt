@@ -5,7 +5,7 @@ ghost use Rattle.std.specs.Int.{to_le_bytes, w32};
 ghost use Rattle.cax64_sink.specs.Room.{HasRoom, FallsBy, count};
 
 use crate::known::Known;
-use crate::vec::make_room;
+use crate::vec::{grow_ahead, make_room};
 use crate::{CodeSink, DeferredTarget, KnownOffset, Notice, SinkError, TrapCode};
 use std::alloc::Allocator;
 
@@ -38,7 +38,7 @@ impl<A: Allocator + Copy> Recorder<A> {
 
 impl<A: Allocator> Recorder<A> {
     ghost use Rattle.cax64_sink.specs.Recorder.{recorder_state, with_offset, with_patch};
-    ghost use Rattle.cax64_sink.specs.Cleared.{cleared};
+    ghost use Rattle.cax64_sink.specs.Cleared.{cleared, without_notices};
     ghost use Rattle.cax64_sink.specs.Vec.{vec_state};
 
     /// Makes `offset` known, or replaces its value. Takes no memory.
@@ -64,7 +64,9 @@ impl<A: Allocator> Recorder<A> {
 
     /// Makes room for so many more bytes and notices.
     ///
-    /// The rooms may be larger after a refusal than before.
+    /// A list that has to grow asks for twice its room, as `Vec::reserve` does, so that many calls take time in proportion
+    /// to what they make room for; and where that is refused, for exactly what is missing. The rooms may be larger after a
+    /// refusal than before.
     pub fn reserve(&mut self, bytes: usize, notices: usize) -> Result<(), SinkError>
         ensures bytes { (recorder_state self.new).bytes ≡ (recorder_state self.old).bytes }
         ensures notices { (recorder_state self.new).notices ≡ (recorder_state self.old).notices }
@@ -78,10 +80,29 @@ impl<A: Allocator> Recorder<A> {
         ensures succeeds { HasRoom (recorder_state self.old).byte_room bytes → HasRoom (recorder_state self.old).notice_room notices → IsOk result }
         ensures no_memory { IfErr result (λ e. e ≡ SinkError.NoMemory) }
     {
+        make_room(&mut self.code, bytes)?;
+        make_room(&mut self.told, notices)
+    }
+
+    /// Makes room as [`reserve`](Self::reserve) does, for callers that will ask for as much again and again. The first block
+    /// for bytes has room for two such calls, where there is memory for it.
+    pub fn reserve_ahead(&mut self, bytes: usize, notices: usize) -> Result<(), SinkError>
+        ensures bytes { (recorder_state self.new).bytes ≡ (recorder_state self.old).bytes }
+        ensures notices { (recorder_state self.new).notices ≡ (recorder_state self.old).notices }
+        ensures offsets { (recorder_state self.new).offsets ≡ (recorder_state self.old).offsets }
+
+        ensures room_for_bytes { OnOk result (HasRoom (recorder_state self.new).byte_room bytes) }
+        ensures room_for_notices { OnOk result (HasRoom (recorder_state self.new).notice_room notices) }
+        ensures byte_room_stays { FallsBy (recorder_state self.old).byte_room (recorder_state self.new).byte_room 0 }
+        ensures notice_room_stays { FallsBy (recorder_state self.old).notice_room (recorder_state self.new).notice_room 0 }
+
+        ensures succeeds { HasRoom (recorder_state self.old).byte_room bytes → HasRoom (recorder_state self.old).notice_room notices → IsOk result }
+        ensures no_memory { IfErr result (λ e. e ≡ SinkError.NoMemory) }
+    {
         if self.code.capacity() - self.code.len() < bytes {
-            make_room(&mut self.code, bytes)?;
+            grow_ahead(&mut self.code, bytes)?;
         }
-        self.told.reserve(notices).map_err(|_| SinkError::NoMemory)
+        make_room(&mut self.told, notices)
     }
 
     /// Forgets bytes and notices, and keeps the offsets that were set and all memory.
@@ -89,6 +110,13 @@ impl<A: Allocator> Recorder<A> {
         ensures { recorder_state self.new ≡ cleared (recorder_state self.old) }
     {
         self.code.clear();
+        self.told.clear();
+    }
+
+    /// Forgets the notices, and keeps their memory.
+    pub fn clear_notices(&mut self)
+        ensures { recorder_state self.new ≡ without_notices (recorder_state self.old) }
+    {
         self.told.clear();
     }
 
@@ -114,6 +142,10 @@ impl<A: Allocator> CodeSink for Recorder<A> {
     ghost use Rattle.cax64_sink.specs.Recorder.{recorder_state};
 
     ghost state = { recorder_state };
+
+    ghost may_stay = { λ _. tt };
+
+    ghost may_go_on = { λ _ _ _ _ _. tt };
 
     fn put1(&mut self, value: u8) -> Result<(), SinkError> {
         self.code.put1(value)

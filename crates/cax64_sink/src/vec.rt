@@ -11,23 +11,37 @@ ghost use Rattle.cax64_sink.specs.Vec.{vec_state};
 use crate::{CodeSink, DeferredTarget, KnownOffset, SinkError, TrapCode};
 use std::alloc::Allocator;
 
-/// For how many bytes the first block of memory has room, where there is memory for so many.
-const FIRST_ROOM: usize = 64;
-
-/// Makes room for so many more bytes. A first block is as large as a small function, which isn't moved each time that it has
-/// grown by an instruction then. Where it's refused, one for what was asked for may not be.
-#[inline(never)]
-pub(crate) fn make_room<A: Allocator>(vec: &mut Vec<u8, A>, bytes: usize) -> Result<(), SinkError>
+/// Makes room for so many more items, and for some behind them. Where that is refused, room for these alone may not be.
+pub(crate) fn make_room<T, A: Allocator>(vec: &mut Vec<T, A>, count: usize) -> Result<(), SinkError>
     ensures items { vec.new.items ≡ vec.old.items }
-    ensures room { OnOk result (bytes ≤ vec_capacity vec.new - vec_len vec.new) }
+    ensures room { OnOk result (count ≤ vec_capacity vec.new - vec_len vec.new) }
     ensures capacity { vec_capacity vec.old ≤ vec_capacity vec.new }
-    ensures succeeds { bytes ≤ vec_capacity vec.old - vec_len vec.old → IsOk result }
+    ensures succeeds { count ≤ vec_capacity vec.old - vec_len vec.old → IsOk result }
     ensures no_memory { IfErr result (λ e. e ≡ SinkError.NoMemory) }
 {
-    if vec.capacity() == 0 && bytes < FIRST_ROOM && vec.reserve(FIRST_ROOM).is_ok() {
+    if vec.reserve(count).is_ok() {
         return Ok(());
     }
-    vec.reserve(bytes).map_err(|_| SinkError::NoMemory)
+    vec.reserve_exact(count).map_err(|_| SinkError::NoMemory)
+}
+
+/// Makes room for so many more items where as many are asked for again and again. A first block is for twice as many, which
+/// is what the second call would make of it: so no other call finds less memory.
+#[inline(never)]
+pub(crate) fn grow_ahead<T, A: Allocator>(
+    vec: &mut Vec<T, A>,
+    count: usize,
+) -> Result<(), SinkError>
+    ensures items { vec.new.items ≡ vec.old.items }
+    ensures room { OnOk result (count ≤ vec_capacity vec.new - vec_len vec.new) }
+    ensures capacity { vec_capacity vec.old ≤ vec_capacity vec.new }
+    ensures succeeds { count ≤ vec_capacity vec.old - vec_len vec.old → IsOk result }
+    ensures no_memory { IfErr result (λ e. e ≡ SinkError.NoMemory) }
+{
+    if vec.capacity() == 0 && vec.reserve(count.saturating_mul(2)).is_ok() {
+        return Ok(());
+    }
+    make_room(vec, count)
 }
 
 /// Puts some bytes at once.
@@ -113,6 +127,10 @@ fn rest_word(long: Option<u32>, imm: u32) -> u64
 
 impl<A: Allocator> CodeSink for Vec<u8, A> {
     ghost state = { vec_state };
+
+    ghost may_stay = { λ _. tt };
+
+    ghost may_go_on = { λ _ _ _ _ _. tt };
 
     fn put1(&mut self, value: u8) -> Result<(), SinkError> {
         push_one(self, value)

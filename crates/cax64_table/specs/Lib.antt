@@ -1,6 +1,5 @@
 -- What the clauses of public functions say.
 pub mod Cursor
-pub mod Prefix
 pub mod PrefixNumbers
 pub mod Digit
 pub mod Numbers

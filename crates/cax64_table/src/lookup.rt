@@ -9,14 +9,13 @@ ghost use Rattle.cax64_machine_code.specs.declared.row.Row.{Row};
 ghost use Rattle.cax64_table.specs.Cursor.{behind};
 ghost use Rattle.cax64_table.specs.Matching.{front_opcode, is_wanted, others_fit, stands};
 ghost use Rattle.cax64_table.specs.Packed.{entry_of, tail_field};
-ghost use Rattle.cax64_table.specs.Prefix.{prefix_of};
 ghost use Rattle.cax64_table.specs.PrefixNumbers.{numbers_of};
 ghost use Rattle.cax64_table.specs.Slot.{InSlot};
 
 use crate::cursor::next;
 use crate::index::row_of_key;
 use crate::packed::{bits, entry};
-use crate::prefix::{Prefix, PrefixNumbers};
+use crate::prefix::PrefixNumbers;
 use cax64_machine_code::line::Opcode;
 use cax64_machine_code::row::Row;
 
@@ -86,12 +85,4 @@ pub fn row_for<'a>(numbers: PrefixNumbers, bytes: &'a [u8]) -> Option<(Row, &'a 
     let (opcode, rest) = opcode_at(bytes)?;
     let row = row_with(numbers, opcode, rest)?;
     Some((row, rest))
-}
-
-/// The row that a prefix and the bytes behind it match, and what follows its opcode.
-#[inline(always)]
-pub fn row_at<'a>(prefix: &Prefix, bytes: &'a [u8]) -> Option<(Row, &'a [u8])>
-    ensures { behind result ≡ row_at all_rows (prefix_of prefix.now) bytes.now }
-{
-    row_for(prefix.numbers(), bytes)
 }

@@ -62,6 +62,10 @@ impl<A: Allocator> CodeSink for CallRecorder<A> {
 
     ghost state = { call_recorder_state };
 
+    ghost may_stay = { λ _. tt };
+
+    ghost may_go_on = { λ _ _ _ _ _. tt };
+
     fn put1(&mut self, value: u8) -> Result<(), SinkError> {
         self.keep("put1")?;
         self.recorder.put1(value)

@@ -1,11 +1,14 @@
-//! What tests need: registers that aren't plain numbers, a sink that refuses after so many calls, and one that keeps the
-//! names of its calls.
+//! What tests need: registers that aren't plain numbers, a sink that refuses after so many calls, one that keeps the names
+//! of its calls, a heap that refuses memory, and runs in such heaps.
 #![tactic(auto)]
 
 pub mod call_recorder;
 pub mod families;
+pub mod growth;
+pub mod heap;
 pub mod refusing_sink;
 
 pub use call_recorder::CallRecorder;
 pub use families::{All, Few, Named, Virtual};
+pub use heap::TestHeap;
 pub use refusing_sink::RefusingSink;

@@ -54,6 +54,10 @@ impl<A: Allocator> CodeSink for RefusingSink<A> {
 
     ghost state = { refusing_state };
 
+    ghost may_stay = { λ _. tt };
+
+    ghost may_go_on = { λ _ _ _ _ _. tt };
+
     fn put1(&mut self, value: u8) -> Result<(), SinkError> {
         self.pass()?;
         self.recorder.put1(value)

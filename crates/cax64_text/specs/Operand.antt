@@ -1,5 +1,5 @@
 -- Texts of operands.
-use Rattle.std.specs.Prelude.{ℕ, nat_lt, not, Bool, true, false, ◌&&◌, ◌||◌, if◌then◌else◌, ℤ, pos, negsuc, ◌+ℤ◌, Option, Some, None, List, [], ◌∷◌, ◌++◌, reverse, codes}
+use Rattle.std.specs.Prelude.{ℕ, ◌+◌, nat_lt, not, Bool, true, false, ◌&&◌, ◌||◌, if◌then◌else◌, ℤ, pos, negsuc, ◌+ℤ◌, Option, Some, None, List, [], ◌∷◌, ◌++◌, reverse, codes}
 use Rattle.std.specs.Int.{cast_unsigned, w64}
 use Rattle.cax64_address.specs.Text.{short_number, hexadecimal, amode_text, amode_nameable, gpr_mem_text, gpr_mem_nameable, xmm_mem_text, xmm_mem_nameable}
 use Rattle.cax64_address.specs.declared.operand.GprMem.TheVariants as gpr_mem
@@ -7,13 +7,20 @@ use Rattle.cax64_address.specs.declared.operand.XmmMem.TheVariants as xmm_mem
 use Rattle.cax64_address.specs.declared.text.Dialect.{Dialect}
 use Rattle.cax64_address.specs.declared.text.Dialect.TheVariants.{Att, Xed}
 use Rattle.cax64_immediate.specs.Text as immediate_text
+use Rattle.cax64_machine_code.specs.Len.{opcode_len}
+use Rattle.cax64_machine_code.specs.Line.{imm_bytes}
+use Rattle.cax64_machine_code.specs.Rows.{line_of}
+use Rattle.cax64_machine_code.specs.declared.line.Line.{Line}
 use Rattle.cax64_machine_code.specs.declared.row.Row.{Row}
 use Rattle.cax64_operand.specs.declared.immediate.Immediate.{Immediate}
 use Rattle.cax64_operand.specs.declared.immediate.Immediate.TheVariants as imm
 use Rattle.cax64_operand.specs.declared.operand.Operand.{Operand}
 use Rattle.cax64_operand.specs.declared.operand.Operand.TheVariants.{ReadGpr, ReadWriteGpr, WriteGpr, WriteTwoGprs, FixedReadGpr, FixedReadWriteGpr, ReadXmm, ReadWriteXmm, WriteXmm, ReadAmode, ReadGprMem, ReadWriteGprMem, ReadXmmMem, Imm}
 use Rattle.cax64_text.specs.Names.{Names}
-use Rattle.cax64_text.specs.Style.{branch_length}
+
+-- how many bytes an opcode and its immediate have: all that a branch by a distance has, which asks for no prefix
+abbrev pub opcode_and_imm_len : Line → ℕ
+opcode_and_imm_len line = opcode_len line.opcode + imm_bytes line.imm
 
 -- A branch's target, counted from the branch itself: one decimal digit up to 9, else the two's complement of 64 bits.
 abbrev pub target_text : Dialect → ℤ → List ℕ
@@ -27,8 +34,8 @@ imm_text d row (imm.Imm16 v) = immediate_text.imm_text v
 imm_text d row (imm.Imm32 v) = immediate_text.imm_text v
 imm_text d row (imm.Simm8 v extension) = immediate_text.imm_text (immediate_text.extended8 extension v)
 imm_text d row (imm.Simm32 v extension) = immediate_text.imm_text (immediate_text.extended32 extension v)
-imm_text d row (imm.Distance8 v) = target_text d (v +ℤ pos (branch_length row))
-imm_text d row (imm.Distance32 v) = target_text d (v +ℤ pos (branch_length row))
+imm_text d row (imm.Distance8 v) = target_text d (v +ℤ pos (opcode_and_imm_len (line_of row)))
+imm_text d row (imm.Distance32 v) = target_text d (v +ℤ pos (opcode_and_imm_len (line_of row)))
 imm_text d row (imm.Predicate v) = immediate_text.imm_text v
 imm_text d row (imm.VexPredicate v) = immediate_text.imm_text v
 

@@ -1,5 +1,5 @@
 -- When two memory operands print alike.
-use Rattle.std.specs.Prelude.{◌≡◌, ◌<◌, ℕ, ⊤, IsTrue, ℤ, pos, List, Option, Some, None}
+use Rattle.std.specs.Prelude.{◌≡◌, ◌<◌, ℕ, ⊤, IsTrue, pos, List, Option, Some, None}
 use Rattle.cax64_address.specs.Offset.{fits_i32}
 use Rattle.cax64_address.specs.declared.amode.Amode.{Amode}
 use Rattle.cax64_address.specs.declared.amode.Amode.TheVariants.{ImmReg, ImmRegRegShift, RipRelative}

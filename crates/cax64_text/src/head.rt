@@ -5,7 +5,7 @@ ghost use Rattle.cax64_text.specs.Style.{style_of};
 ghost use Rattle.cax64_text.specs.Text.{att_head, compare_head, head, nop_text, predicate_name, xed_head};
 
 use crate::mnemonic::{mnemonic, row_mnemonic, shift_name};
-use crate::style::{Style, after_predicate, before_predicate, marker};
+use crate::style::{Elements, Encoding, Style, after_predicate, before_predicate, marker};
 use cax64_address::text::Dialect;
 use cax64_machine_code::row::Row;
 use cax64_operand::Nop;
@@ -55,17 +55,19 @@ fn predicate_name(value: u8) -> &'static str
 
 fn push_compare<A: Allocator>(
     out: &mut String<A>,
+    encoding: Encoding,
+    elements: Elements,
     row: Row,
     named: Option<u8>,
 ) -> Result<(), AllocError>
     requires { IfSome named (λ v. v < 32) }
-    ensures { OnOk result (string_bytes out.new ≡ string_bytes out.old ++ compare_head row named) }
+    ensures { OnOk result (string_bytes out.new ≡ string_bytes out.old ++ compare_head encoding elements row named) }
 {
     match named {
         Some(value) => {
-            out.push_str(before_predicate(row))?;
+            out.push_str(before_predicate(encoding))?;
             out.push_str(predicate_name(value))?;
-            out.push_str(after_predicate(row))
+            out.push_str(after_predicate(elements))
         }
         None => out.push_str(row_mnemonic(row)),
     }
@@ -99,8 +101,8 @@ fn push_att<A: Allocator>(
             out.push_str(row_mnemonic(row))?;
             out.push_str(" *")
         }
-        Style::Compare => {
-            push_compare(out, row, named)?;
+        Style::Compare(encoding, elements) => {
+            push_compare(out, encoding, elements, row, named)?;
             out.push_str(" ")
         }
     }
@@ -137,9 +139,9 @@ fn push_xed<A: Allocator>(
             out.push_str(if register { "jmp" } else { row_mnemonic(row) })?;
             out.push_str(" ")
         }
-        Style::Compare => {
+        Style::Compare(_, elements) => {
             out.push_str(row_mnemonic(row))?;
-            out.push_str(if register { "" } else { marker(row) })?;
+            out.push_str(if register { "" } else { marker(elements) })?;
             out.push_str(" ")
         }
     }

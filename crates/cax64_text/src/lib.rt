@@ -7,7 +7,6 @@ mod folds;
 pub mod head;
 pub mod instruction;
 pub mod laws;
-pub mod list;
 pub mod mnemonic;
 pub mod names;
 pub mod operand;
@@ -16,5 +15,5 @@ mod slots;
 pub mod style;
 mod task;
 
-pub use instruction::InstructionText;
+pub use instruction::{InstructionText, xed_string};
 pub use names::RegisterNames;

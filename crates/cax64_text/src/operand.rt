@@ -1,15 +1,13 @@
 //! Texts of operands.
 
-ghost use Rattle.std.specs.Prelude.{◌≡◌, ◌++◌, ◌<◌, IsTrue, IfSome, OnOk, string_bytes};
+ghost use Rattle.std.specs.Prelude.{◌≡◌, ◌++◌, ◌<◌, IfSome, OnOk, string_bytes};
 ghost use Rattle.cax64_immediate.specs.Text as immediate_text;
-ghost use Rattle.cax64_text.specs.Operand.{target_text, imm_text, named_imm, imm_is_shown, is_shown, operand_text, operand_nameable, is_register, named_operand};
+ghost use Rattle.cax64_text.specs.Operand.{target_text, named_imm, imm_is_shown, is_shown, operand_nameable, is_register, named_operand};
 
 use crate::names::RegisterNames;
-use crate::piece::{add_imm, add_operand};
 use cax64_address::number::{has_room, push_hex_digits, push_hexadecimal, push_short_number};
 use cax64_address::operand::{GprMem, XmmMem};
 use cax64_address::text::Dialect;
-use cax64_machine_code::row::Row;
 use cax64_operand::{Immediate, Operand};
 use cax64_register::{AsReg, Registers};
 use std::alloc::{AllocError, Allocator};
@@ -50,18 +48,6 @@ pub(crate) fn push_number<A: Allocator>(out: &mut String<A>, bits: u64) -> Resul
     out.push('0')?;
     out.push('x')?;
     push_hex_digits(out, bits)
-}
-
-/// Adds the text of an immediate.
-pub fn push_imm<A: Allocator>(
-    out: &mut String<A>,
-    dialect: Dialect,
-    row: Row,
-    imm: Immediate,
-) -> Result<(), AllocError>
-    ensures { OnOk result (string_bytes out.new ≡ string_bytes out.old ++ imm_text dialect row imm) }
-{
-    add_imm(out, dialect, row, true, imm)
 }
 
 fn named_imm(imm: Immediate) -> Option<u8>
@@ -147,19 +133,4 @@ pub fn operand_nameable<R: Registers>(operand: &Operand<R>) -> bool
         Operand::ReadXmmMem(operand) => operand.nameable(),
         Operand::Imm(_) => true,
     }
-}
-
-/// Adds the text of an operand that is printed.
-pub fn push_operand<R: Registers, A: Allocator + Copy>(
-    out: &mut String<A>,
-    alloc: A,
-    dialect: Dialect,
-    row: Row,
-    operand: &Operand<R>,
-) -> Result<(), AllocError>
-    requires nameable { IsTrue (operand_nameable ⟦<R as RegisterNames>⟧.names operand.now) }
-    requires shown { IsTrue (is_shown dialect operand.now) }
-    ensures { OnOk result (string_bytes out.new ≡ string_bytes out.old ++ operand_text ⟦<R as RegisterNames>⟧.names dialect row operand.now) }
-{
-    add_operand(out, alloc, dialect, row, true, operand)
 }

@@ -8,7 +8,7 @@ ghost use Rattle.cax64_text.specs.Operand.{imm_text, is_shown, operand_nameable,
 
 use crate::names::RegisterNames;
 use crate::operand::{is_shown, push_number, push_target};
-use crate::style::branch_length;
+use crate::style::opcode_and_imm_len;
 use cax64_address::amode::Amode;
 use cax64_address::operand::{GprMem, XmmMem};
 use cax64_address::text::Dialect;
@@ -83,7 +83,7 @@ fn add_target<A: Allocator>(
 }
 
 #[inline(never)]
-pub(crate) fn add_imm<A: Allocator>(
+fn add_imm<A: Allocator>(
     out: &mut String<A>,
     dialect: Dialect,
     row: Row,
@@ -103,11 +103,11 @@ pub(crate) fn add_imm<A: Allocator>(
             add_number(out, first, Simm32::new(value).extended(extension))
         }
         Immediate::Distance8(value) => {
-            let target = i64::from(value) + i64::from(branch_length(row));
+            let target = i64::from(value) + i64::from(opcode_and_imm_len(row));
             add_target(out, dialect, first, target)
         }
         Immediate::Distance32(value) => {
-            let target = i64::from(value) + i64::from(branch_length(row));
+            let target = i64::from(value) + i64::from(opcode_and_imm_len(row));
             add_target(out, dialect, first, target)
         }
         Immediate::Predicate(value) => add_number(out, first, u64::from(value)),
@@ -118,7 +118,7 @@ pub(crate) fn add_imm<A: Allocator>(
 /// Adds an operand that is printed. No arm stands for two kinds: what it binds would be in one of two places, and the
 /// compiler would keep the operand in memory.
 #[inline(always)]
-pub(crate) fn add_operand<R: Registers, A: Allocator + Copy>(
+fn add_operand<R: Registers, A: Allocator + Copy>(
     out: &mut String<A>,
     alloc: A,
     dialect: Dialect,

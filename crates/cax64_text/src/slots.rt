@@ -1,12 +1,12 @@
 //! The operands as texts keep them.
 
 ghost use Rattle.std.specs.Prelude.{◌≡◌, ◌++◌, ◌∷◌, ◌<◌, [], IsTrue, IfOk, IfSome, OnOk, true, if◌then◌else◌, string_bytes};
+ghost use Rattle.cax64_text.specs.Operand.{first_of};
 ghost use Rattle.cax64_text.specs.Slots.{listed_slots, no_slots, nop_slots, slot_nameable, slot_named, slot_piece, slot_still, slots_in_order, slots_nameable, slots_named, slots_text, with_slot};
 
 use crate::head::{nop_text, push_head};
-use crate::list::first_of;
 use crate::names::RegisterNames;
-use crate::operand::{is_register, named_operand};
+use crate::operand::{is_register, named_operand, operand_nameable};
 use crate::piece::add_piece;
 use crate::style::Style;
 use cax64_address::text::Dialect;
@@ -80,6 +80,30 @@ impl<R: Registers> FromOperands<R> for Slots<R> {
             fourth: None,
             fifth: None,
         }
+    }
+}
+
+/// Whether the registers that are printed of what is in a place have texts.
+#[inline(always)]
+pub(crate) fn slot_nameable<R: Registers>(slot: &Option<Operand<R>>) -> bool
+    ensures { result ≡ slot_nameable ⟦<R as RegisterNames>⟧.names slot.now }
+{
+    match slot {
+        Some(operand) => operand_nameable(operand),
+        None => true,
+    }
+}
+
+#[inline(always)]
+fn first_of(first: Option<u8>, later: Option<u8>) -> Option<u8>
+    requires first { IfSome first (λ v. v < 32) }
+    requires later { IfSome later (λ v. v < 32) }
+    ensures value { result ≡ first_of first later }
+    ensures known { IfSome result (λ v. v < 32) }
+{
+    match first {
+        Some(value) => Some(value),
+        None => later,
     }
 }
 

@@ -4,6 +4,7 @@
 mod back_end;
 mod read_back;
 mod renaming;
+mod reserved;
 
 ghost use Rattle.std.specs.Prelude.{◌≤◌, ◌<◌, IsTrue, All, length};
 ghost use Rattle.cranelift_assembler_x64.specs.FixedSink.{fixed_sink_state};
@@ -21,6 +22,7 @@ use cranelift_assembler_x64::{
 };
 pub use read_back::rows_of_code;
 pub use renaming::put_renamed;
+pub use reserved::push_three;
 use std::alloc::Allocator;
 
 /// Two instructions in a buffer of 32 bytes: it has room for them, so nothing can be refused.

@@ -5,12 +5,12 @@ ghost use Rattle.cranelift_assembler_x64.specs.Instruction.{Adds};
 ghost use Rattle.cranelift_assembler_x64.specs.Renamed.{Renaming, Renames, renamed_operands};
 
 use cranelift_assembler_x64::{
-    CodeSink, Instruction, RegisterVisitor, Registers, RowAndOperands, SinkError, rename,
+    CodeSink, Instruction, RegisterVisitor, Registers, SinkError, rename,
 };
 
 /// Renames the registers of an instruction, and puts it if it can be encoded then: as one that was made with the new
 /// registers.
-pub fn put_renamed<I: RowAndOperands, V: RegisterVisitor<I::Family>, S: CodeSink>(
+pub fn put_renamed<I: Instruction, V: RegisterVisitor<I::Family>, S: CodeSink>(
     inst: &mut I,
     visitor: &mut V,
     sink: &mut S,
@@ -19,7 +19,7 @@ pub fn put_renamed<I: RowAndOperands, V: RegisterVisitor<I::Family>, S: CodeSink
         → Renames V.steps n
         → I.row_of made ≡ I.row_of inst.old
         → I.operands_of made ≡ renamed_operands n (I.operands_of inst.old)
-        → IfOk result (λ done. IsTrue done → Adds (⟦<I as Instruction>⟧.meant made) (S.state sink.old) (S.state sink.new)) }
+        → IfOk result (λ done. IsTrue done → Adds (I.meant made) (S.state sink.old) (S.state sink.new)) }
 {
     rename(inst, visitor);
     if inst.is_encodable(&*sink) {

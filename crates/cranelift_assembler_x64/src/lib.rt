@@ -37,8 +37,8 @@ pub use cax64_immediate::{
 pub use cax64_inst::Inst;
 pub use cax64_machine_code::row::Row;
 pub use cax64_operand::{
-    FromOperands, ImmOperand, Immediate, Made, Nop, Numbers, Operand, Operands, RegisterVisitor,
-    RowAndOperands, Task, of_five, of_four, of_one, of_three, of_two, operands_of,
+    FromOperands, HasOperands, ImmOperand, Immediate, Made, Nop, Numbers, Operand, Operands,
+    RegisterVisitor, RowAndOperands, Task, of_five, of_four, of_one, of_three, of_two, operands_of,
 };
 pub use cax64_prefix::rex::RexPrefix;
 pub use cax64_register::{AsReg, Fixed, Gpr, NonRspGpr, Registers, Size, Xmm, register_name};

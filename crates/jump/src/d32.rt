@@ -1,14 +1,19 @@
 //! Jumps and calls by a distance of four bytes. (Intel SDM, volume 2, `JMP`, `Jcc` and `CALL`.)
 
-ghost use Rattle.std.specs.Prelude.{◌≡◌};
+ghost use Rattle.std.specs.Prelude.{◌≡◌, IfOk, string_bytes};
+ghost use Rattle.cax64_address.specs.declared.text.Dialect.TheVariants.{Xed};
 ghost use Rattle.cax64_machine_code.specs.declared.row.Row.TheVariants as row;
 ghost use Rattle.cax64_operand.specs.Visit.{OperandsRun};
+ghost use Rattle.cax64_operand.specs.declared.instruction.Numbers.{Numbers};
+ghost use Rattle.cax64_text.specs.Text.{text};
 ghost use Rattle.jump.specs.Operands.{operands_callq_d, operands_jmp_d32, operands_jo_d32, operands_jno_d32, operands_jb_d32, operands_jae_d32, operands_je_d32, operands_jne_d32, operands_jbe_d32, operands_ja_d32, operands_js_d32, operands_jns_d32, operands_jp_d32, operands_jnp_d32, operands_jl_d32, operands_jge_d32, operands_jle_d32, operands_jg_d32};
 
 use cax64_immediate::Simm32;
 use cax64_machine_code::row::Row;
 use cax64_operand::{Immediate, Numbers, Operand, RegisterVisitor, RowAndOperands, Task, of_one};
 use cax64_register::Registers;
+use cax64_text::{RegisterNames, xed_string};
+use std::alloc::{AllocError, Allocator};
 
 /// Call near, relative, by a 32-bit displacement from the next instruction.
 #[derive(Drop)]
@@ -27,6 +32,13 @@ impl callq_d {
     pub fn visit<R: Registers, V: RegisterVisitor<R>>(&mut self, visitor: &mut V)
         ensures { OperandsRun R.WriteGpr.eq V.steps visitor.old (operands_callq_d {R = R} self.old) (operands_callq_d {R = R} self.new) visitor.new }
     {}
+
+    /// The text as XED prints it. Fails where there is no memory.
+    pub fn to_string_xed<A: Allocator + Copy>(&self, alloc: A) -> Result<String<A>, AllocError>
+        ensures { IfOk result (λ t. string_bytes t ≡ text {R = Numbers} ⟦<Numbers as RegisterNames>⟧.names Xed row.callq_d (operands_callq_d self.now)) }
+    {
+        xed_string(self, alloc)
+    }
 }
 
 impl RowAndOperands for callq_d {
@@ -68,6 +80,13 @@ impl jmp_d32 {
     pub fn visit<R: Registers, V: RegisterVisitor<R>>(&mut self, visitor: &mut V)
         ensures { OperandsRun R.WriteGpr.eq V.steps visitor.old (operands_jmp_d32 {R = R} self.old) (operands_jmp_d32 {R = R} self.new) visitor.new }
     {}
+
+    /// The text as XED prints it. Fails where there is no memory.
+    pub fn to_string_xed<A: Allocator + Copy>(&self, alloc: A) -> Result<String<A>, AllocError>
+        ensures { IfOk result (λ t. string_bytes t ≡ text {R = Numbers} ⟦<Numbers as RegisterNames>⟧.names Xed row.jmp_d32 (operands_jmp_d32 self.now)) }
+    {
+        xed_string(self, alloc)
+    }
 }
 
 impl RowAndOperands for jmp_d32 {

@@ -1,14 +1,19 @@
 //! Jumps by a distance of one byte. (Intel SDM, volume 2, `JMP` and `Jcc`.)
 
-ghost use Rattle.std.specs.Prelude.{◌≡◌};
+ghost use Rattle.std.specs.Prelude.{◌≡◌, IfOk, string_bytes};
+ghost use Rattle.cax64_address.specs.declared.text.Dialect.TheVariants.{Xed};
 ghost use Rattle.cax64_machine_code.specs.declared.row.Row.TheVariants as row;
 ghost use Rattle.cax64_operand.specs.Visit.{OperandsRun};
+ghost use Rattle.cax64_operand.specs.declared.instruction.Numbers.{Numbers};
+ghost use Rattle.cax64_text.specs.Text.{text};
 ghost use Rattle.jump.specs.Operands.{operands_jmp_d8, operands_jo_d8, operands_jno_d8, operands_jb_d8, operands_jae_d8, operands_je_d8, operands_jne_d8, operands_jbe_d8, operands_ja_d8, operands_js_d8, operands_jns_d8, operands_jp_d8, operands_jnp_d8, operands_jl_d8, operands_jge_d8, operands_jle_d8, operands_jg_d8};
 
 use cax64_immediate::Simm8;
 use cax64_machine_code::row::Row;
 use cax64_operand::{Immediate, Numbers, Operand, RegisterVisitor, RowAndOperands, Task, of_one};
 use cax64_register::Registers;
+use cax64_text::{RegisterNames, xed_string};
+use std::alloc::{AllocError, Allocator};
 
 /// Jump short, by an 8-bit displacement from the next instruction.
 #[derive(Drop)]
@@ -27,6 +32,13 @@ impl jmp_d8 {
     pub fn visit<R: Registers, V: RegisterVisitor<R>>(&mut self, visitor: &mut V)
         ensures { OperandsRun R.WriteGpr.eq V.steps visitor.old (operands_jmp_d8 {R = R} self.old) (operands_jmp_d8 {R = R} self.new) visitor.new }
     {}
+
+    /// The text as XED prints it. Fails where there is no memory.
+    pub fn to_string_xed<A: Allocator + Copy>(&self, alloc: A) -> Result<String<A>, AllocError>
+        ensures { IfOk result (λ t. string_bytes t ≡ text {R = Numbers} ⟦<Numbers as RegisterNames>⟧.names Xed row.jmp_d8 (operands_jmp_d8 self.now)) }
+    {
+        xed_string(self, alloc)
+    }
 }
 
 impl RowAndOperands for jmp_d8 {

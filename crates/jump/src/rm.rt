@@ -1,16 +1,20 @@
 //! Jumps and calls to the place that a register or memory holds. (Intel SDM, volume 2, `JMP` and `CALL`.)
 
-ghost use Rattle.std.specs.Prelude.{◌≡◌};
+ghost use Rattle.std.specs.Prelude.{◌≡◌, IsTrue, IfOk, string_bytes};
+ghost use Rattle.cax64_address.specs.declared.text.Dialect.TheVariants.{Xed};
 ghost use Rattle.cax64_machine_code.specs.declared.row.Row.TheVariants as row;
 ghost use Rattle.cax64_operand.specs.declared.operand.Operand.TheVariants.{ReadGprMem};
 ghost use Rattle.cax64_operand.specs.declared.operand.Operands.{Operands};
 ghost use Rattle.cax64_operand.specs.declared.operand.Operands.TheVariants.{One};
 ghost use Rattle.cax64_register.specs.declared.gpr.Size.TheVariants.{Quadword};
+ghost use Rattle.cax64_text.specs.Text.{nameable, text};
 
 use cax64_address::operand::GprMem;
 use cax64_machine_code::row::Row;
 use cax64_operand::{Operand, RegisterVisitor, RowAndOperands, Task, of_one};
 use cax64_register::{Registers, Size};
+use cax64_text::{RegisterNames, xed_string};
+use std::alloc::{AllocError, Allocator};
 use std::marker::Model;
 
 /// Call near, absolute indirect, address given in `rm64`.
@@ -30,6 +34,14 @@ impl<R: Registers> callq_m<R> {
         ensures { result ≡ One (ReadGprMem rm64 Quadword) }
     {
         callq_m { rm64 }
+    }
+
+    /// The text as XED prints it. Fails where there is no memory.
+    pub fn to_string_xed<A: Allocator + Copy>(&self, alloc: A) -> Result<String<A>, AllocError>
+        requires { IsTrue (nameable ⟦<R as RegisterNames>⟧.names self.now) }
+        ensures { IfOk result (λ t. string_bytes t ≡ text ⟦<R as RegisterNames>⟧.names Xed row.callq_m self.now) }
+    {
+        xed_string(self, alloc)
     }
 }
 
@@ -72,6 +84,14 @@ impl<R: Registers> jmpq_m<R> {
         ensures { result ≡ One (ReadGprMem rm64 Quadword) }
     {
         jmpq_m { rm64 }
+    }
+
+    /// The text as XED prints it. Fails where there is no memory.
+    pub fn to_string_xed<A: Allocator + Copy>(&self, alloc: A) -> Result<String<A>, AllocError>
+        requires { IsTrue (nameable ⟦<R as RegisterNames>⟧.names self.now) }
+        ensures { IfOk result (λ t. string_bytes t ≡ text ⟦<R as RegisterNames>⟧.names Xed row.jmpq_m self.now) }
+    {
+        xed_string(self, alloc)
     }
 }
 

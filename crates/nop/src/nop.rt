@@ -1,12 +1,18 @@
 //! Instructions that do nothing. (Intel SDM, volume 2, `NOP`, table 4-12.)
 
+ghost use Rattle.std.specs.Prelude.{◌≡◌, IfOk, string_bytes};
+ghost use Rattle.cax64_address.specs.declared.text.Dialect.TheVariants.{Xed};
 ghost use Rattle.cax64_machine_code.specs.declared.row.Row.TheVariants as row;
 ghost use Rattle.cax64_operand.specs.Visit.{OperandsRun};
+ghost use Rattle.cax64_operand.specs.declared.instruction.Numbers.{Numbers};
+ghost use Rattle.cax64_text.specs.Text.{text};
 ghost use Rattle.nop.specs.Operands.{operands_nop_1b, operands_nop_2b, operands_nop_3b, operands_nop_4b, operands_nop_5b, operands_nop_6b, operands_nop_7b, operands_nop_8b, operands_nop_9b};
 
 use cax64_machine_code::row::Row;
 use cax64_operand::{Nop, Numbers, RegisterVisitor, RowAndOperands, Task};
 use cax64_register::Registers;
+use cax64_text::{RegisterNames, xed_string};
+use std::alloc::{AllocError, Allocator};
 
 /// No operation, in one byte.
 #[derive(Drop)]
@@ -21,6 +27,13 @@ impl nop_1b {
     pub fn visit<R: Registers, V: RegisterVisitor<R>>(&mut self, visitor: &mut V)
         ensures { OperandsRun R.WriteGpr.eq V.steps visitor.old (operands_nop_1b {R = R} self.old) (operands_nop_1b {R = R} self.new) visitor.new }
     {}
+
+    /// The text as XED prints it. Fails where there is no memory.
+    pub fn to_string_xed<A: Allocator + Copy>(&self, alloc: A) -> Result<String<A>, AllocError>
+        ensures { IfOk result (λ t. string_bytes t ≡ text {R = Numbers} ⟦<Numbers as RegisterNames>⟧.names Xed row.nop_1b (operands_nop_1b self.now)) }
+    {
+        xed_string(self, alloc)
+    }
 }
 
 impl RowAndOperands for nop_1b {
@@ -53,6 +66,13 @@ impl nop_2b {
     pub fn visit<R: Registers, V: RegisterVisitor<R>>(&mut self, visitor: &mut V)
         ensures { OperandsRun R.WriteGpr.eq V.steps visitor.old (operands_nop_2b {R = R} self.old) (operands_nop_2b {R = R} self.new) visitor.new }
     {}
+
+    /// The text as XED prints it. Fails where there is no memory.
+    pub fn to_string_xed<A: Allocator + Copy>(&self, alloc: A) -> Result<String<A>, AllocError>
+        ensures { IfOk result (λ t. string_bytes t ≡ text {R = Numbers} ⟦<Numbers as RegisterNames>⟧.names Xed row.nop_2b (operands_nop_2b self.now)) }
+    {
+        xed_string(self, alloc)
+    }
 }
 
 impl RowAndOperands for nop_2b {
@@ -85,6 +105,13 @@ impl nop_3b {
     pub fn visit<R: Registers, V: RegisterVisitor<R>>(&mut self, visitor: &mut V)
         ensures { OperandsRun R.WriteGpr.eq V.steps visitor.old (operands_nop_3b {R = R} self.old) (operands_nop_3b {R = R} self.new) visitor.new }
     {}
+
+    /// The text as XED prints it. Fails where there is no memory.
+    pub fn to_string_xed<A: Allocator + Copy>(&self, alloc: A) -> Result<String<A>, AllocError>
+        ensures { IfOk result (λ t. string_bytes t ≡ text {R = Numbers} ⟦<Numbers as RegisterNames>⟧.names Xed row.nopl_rm (operands_nop_3b self.now)) }
+    {
+        xed_string(self, alloc)
+    }
 }
 
 impl RowAndOperands for nop_3b {
@@ -117,6 +144,13 @@ impl nop_4b {
     pub fn visit<R: Registers, V: RegisterVisitor<R>>(&mut self, visitor: &mut V)
         ensures { OperandsRun R.WriteGpr.eq V.steps visitor.old (operands_nop_4b {R = R} self.old) (operands_nop_4b {R = R} self.new) visitor.new }
     {}
+
+    /// The text as XED prints it. Fails where there is no memory.
+    pub fn to_string_xed<A: Allocator + Copy>(&self, alloc: A) -> Result<String<A>, AllocError>
+        ensures { IfOk result (λ t. string_bytes t ≡ text {R = Numbers} ⟦<Numbers as RegisterNames>⟧.names Xed row.nopl_rm (operands_nop_4b self.now)) }
+    {
+        xed_string(self, alloc)
+    }
 }
 
 impl RowAndOperands for nop_4b {
@@ -149,6 +183,13 @@ impl nop_5b {
     pub fn visit<R: Registers, V: RegisterVisitor<R>>(&mut self, visitor: &mut V)
         ensures { OperandsRun R.WriteGpr.eq V.steps visitor.old (operands_nop_5b {R = R} self.old) (operands_nop_5b {R = R} self.new) visitor.new }
     {}
+
+    /// The text as XED prints it. Fails where there is no memory.
+    pub fn to_string_xed<A: Allocator + Copy>(&self, alloc: A) -> Result<String<A>, AllocError>
+        ensures { IfOk result (λ t. string_bytes t ≡ text {R = Numbers} ⟦<Numbers as RegisterNames>⟧.names Xed row.nopl_rm (operands_nop_5b self.now)) }
+    {
+        xed_string(self, alloc)
+    }
 }
 
 impl RowAndOperands for nop_5b {
@@ -181,6 +222,13 @@ impl nop_6b {
     pub fn visit<R: Registers, V: RegisterVisitor<R>>(&mut self, visitor: &mut V)
         ensures { OperandsRun R.WriteGpr.eq V.steps visitor.old (operands_nop_6b {R = R} self.old) (operands_nop_6b {R = R} self.new) visitor.new }
     {}
+
+    /// The text as XED prints it. Fails where there is no memory.
+    pub fn to_string_xed<A: Allocator + Copy>(&self, alloc: A) -> Result<String<A>, AllocError>
+        ensures { IfOk result (λ t. string_bytes t ≡ text {R = Numbers} ⟦<Numbers as RegisterNames>⟧.names Xed row.nopw_rm (operands_nop_6b self.now)) }
+    {
+        xed_string(self, alloc)
+    }
 }
 
 impl RowAndOperands for nop_6b {
@@ -213,6 +261,13 @@ impl nop_7b {
     pub fn visit<R: Registers, V: RegisterVisitor<R>>(&mut self, visitor: &mut V)
         ensures { OperandsRun R.WriteGpr.eq V.steps visitor.old (operands_nop_7b {R = R} self.old) (operands_nop_7b {R = R} self.new) visitor.new }
     {}
+
+    /// The text as XED prints it. Fails where there is no memory.
+    pub fn to_string_xed<A: Allocator + Copy>(&self, alloc: A) -> Result<String<A>, AllocError>
+        ensures { IfOk result (λ t. string_bytes t ≡ text {R = Numbers} ⟦<Numbers as RegisterNames>⟧.names Xed row.nopl_rm (operands_nop_7b self.now)) }
+    {
+        xed_string(self, alloc)
+    }
 }
 
 impl RowAndOperands for nop_7b {
@@ -245,6 +300,13 @@ impl nop_8b {
     pub fn visit<R: Registers, V: RegisterVisitor<R>>(&mut self, visitor: &mut V)
         ensures { OperandsRun R.WriteGpr.eq V.steps visitor.old (operands_nop_8b {R = R} self.old) (operands_nop_8b {R = R} self.new) visitor.new }
     {}
+
+    /// The text as XED prints it. Fails where there is no memory.
+    pub fn to_string_xed<A: Allocator + Copy>(&self, alloc: A) -> Result<String<A>, AllocError>
+        ensures { IfOk result (λ t. string_bytes t ≡ text {R = Numbers} ⟦<Numbers as RegisterNames>⟧.names Xed row.nopl_rm (operands_nop_8b self.now)) }
+    {
+        xed_string(self, alloc)
+    }
 }
 
 impl RowAndOperands for nop_8b {
@@ -277,6 +339,13 @@ impl nop_9b {
     pub fn visit<R: Registers, V: RegisterVisitor<R>>(&mut self, visitor: &mut V)
         ensures { OperandsRun R.WriteGpr.eq V.steps visitor.old (operands_nop_9b {R = R} self.old) (operands_nop_9b {R = R} self.new) visitor.new }
     {}
+
+    /// The text as XED prints it. Fails where there is no memory.
+    pub fn to_string_xed<A: Allocator + Copy>(&self, alloc: A) -> Result<String<A>, AllocError>
+        ensures { IfOk result (λ t. string_bytes t ≡ text {R = Numbers} ⟦<Numbers as RegisterNames>⟧.names Xed row.nopw_rm (operands_nop_9b self.now)) }
+    {
+        xed_string(self, alloc)
+    }
 }
 
 impl RowAndOperands for nop_9b {

@@ -1,10 +1,10 @@
-//! Where memory runs out, or a writer refuses: each growth is refused in turn, a larger heap each time, until all is made;
-//! and what stands after a refusal is a beginning. Beside them the README's example: a crate that holds an `Inst` costs the
+//! Where memory runs out, or a writer refuses: each growth is refused in turn, until all is made; and what stands after a
+//! refusal is a beginning. Beside them the README's example: a crate that holds an `Inst` costs the
 //! prover much, and this one does.
 #![tactic(auto)]
 
 #[cfg(test)]
-mod growth;
+mod kinds;
 #[cfg(test)]
 mod lists;
 #[cfg(test)]

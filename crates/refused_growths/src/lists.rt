@@ -1,12 +1,12 @@
 //! Calls that add all or nothing.
 
-use crate::growth::{Grows, Outcome, is_refused};
+use cax64_test_support::growth::{Grows, Outcome, is_refused};
 use cranelift_assembler_x64::inst::{lock_addl_mr, nop_9b};
 use cranelift_assembler_x64::{
     Amode, AmodeOffsetPlusKnownOffset, CodeSink, Gpr, Inst, Instruction, Notice, Numbers, Recorder,
     SinkError, TrapCode, all_encodable, encode_all_whole,
 };
-use std::alloc::{AllocError, Allocator};
+use std::alloc::Allocator;
 use std::num::NonZeroU8;
 
 const CODE: TrapCode = TrapCode(NonZeroU8::MIN);
@@ -64,6 +64,19 @@ impl Grows for Whole {
     }
 }
 
+/// How a call that makes room ended, behind two bytes and a notice, which are to stay.
+fn reserved<A: Allocator>(ended: Result<(), SinkError>, sink: &Recorder<A>) -> Outcome {
+    let told = [Notice::Trap(2, CODE)];
+    if sink.bytes() != [0x02, 0x01].as_slice() || sink.notices() != told.as_slice() {
+        return Outcome::Wrong;
+    }
+    match ended {
+        Ok(()) => Outcome::Made,
+        Err(SinkError::NoMemory) => Outcome::Refused,
+        Err(SinkError::Full) => Outcome::Wrong,
+    }
+}
+
 /// Room for bytes and notices, behind two bytes and a notice.
 #[derive(Clone, Copy)]
 struct Reserve;
@@ -74,22 +87,29 @@ impl Grows for Reserve {
         if sink.put2(0x0102).is_err() || sink.add_trap(CODE).is_err() {
             return Outcome::Refused;
         }
-        let told = [Notice::Trap(2, CODE)];
-        let result = sink.reserve(30, 10);
-        if sink.bytes() != [0x02, 0x01].as_slice() || sink.notices() != told.as_slice() {
-            return Outcome::Wrong;
+        let ended = sink.reserve(30, 10);
+        reserved(ended, &sink)
+    }
+}
+
+/// The same for a caller that will ask again.
+#[derive(Clone, Copy)]
+struct ReserveAhead;
+
+impl Grows for ReserveAhead {
+    fn run<A: Allocator + Copy>(&self, alloc: A) -> Outcome {
+        let mut sink = Recorder::new(alloc);
+        if sink.put2(0x0102).is_err() || sink.add_trap(CODE).is_err() {
+            return Outcome::Refused;
         }
-        match result {
-            Ok(()) => Outcome::Made,
-            Err(SinkError::NoMemory) => Outcome::Refused,
-            Err(SinkError::Full) => Outcome::Wrong,
-        }
+        let ended = sink.reserve_ahead(30, 10);
+        reserved(ended, &sink)
     }
 }
 
 #[test]
-fn a_refusal_adds_nothing(rt: HostRuntime) -> Result<(), AllocError> {
-    assert!(rt; is_refused(rt.alloc(), &Whole, 3)?);
-    assert!(rt; is_refused(rt.alloc(), &Reserve, 4)?);
-    Ok(())
+fn a_refusal_adds_nothing(rt: HostRuntime) {
+    assert!(rt; is_refused(rt.alloc(), &Whole, 3));
+    assert!(rt; is_refused(rt.alloc(), &Reserve, 4));
+    assert!(rt; is_refused(rt.alloc(), &ReserveAhead, 4));
 }

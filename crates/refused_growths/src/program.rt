@@ -1,7 +1,7 @@
 //! Runs of `x64rows`: whole lines stand on the output, and the error stream says why there are no more.
 
-use crate::growth::{Grows, Outcome, is_refused, refusals};
-use std::alloc::{AllocError, Allocator, Global};
+use cax64_test_support::growth::{Grows, Outcome, enough, is_refused, refusals};
+use std::alloc::{Allocator, Global};
 use x64rows_run::run;
 
 const ROWS: &str = "\
@@ -84,26 +84,25 @@ impl Grows for Usage {
 }
 
 #[test]
-fn each_line_is_refused_and_then_printed(rt: HostRuntime) -> Result<(), AllocError> {
+fn each_line_is_refused_and_then_printed(rt: HostRuntime) {
     let tail = Run {
         words: &["tail", "7", "13", "12", "3", "2147483647", "127"],
         want: "bc e5 ff ff ff 7f\n",
         global: rt.alloc(),
     };
-    assert!(rt; is_refused(rt.alloc(), &tail, 2)?);
+    assert!(rt; is_refused(rt.alloc(), &tail, 2));
     let rows = Run {
         words: &["rows"],
         want: ROWS,
         global: rt.alloc(),
     };
-    assert!(rt; is_refused(rt.alloc(), &rows, 3)?);
+    assert!(rt; is_refused(rt.alloc(), &rows, 3));
     let buffer = Run {
         words: &["buffer"],
         want: "0f c2 05 00 00 00 00 00\nff 15 fa ff ff ff\n",
         global: rt.alloc(),
     };
-    assert!(rt; is_refused(rt.alloc(), &buffer, 3)?);
-    assert!(rt; is_refused(rt.alloc(), &FirstRow(rt.alloc()), 1)?);
-    assert!(rt; refusals(rt.alloc(), &Usage(rt.alloc()))? == Some(0));
-    Ok(())
+    assert!(rt; is_refused(rt.alloc(), &buffer, 3));
+    assert!(rt; enough(rt.alloc(), &FirstRow(rt.alloc())).is_some());
+    assert!(rt; refusals(rt.alloc(), &Usage(rt.alloc())) == Some(0));
 }

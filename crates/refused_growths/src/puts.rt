@@ -1,7 +1,7 @@
 //! Calls that put into a sink: what stands after a refusal is a front of the bytes and of the notices.
 
-use crate::growth::{Grows, Outcome, is_refused};
 use crate::lists::two;
+use cax64_test_support::growth::{Grows, Outcome, is_refused};
 use cranelift_assembler_x64::evex::EvexPrefix;
 use cranelift_assembler_x64::inst::cmpps_a;
 use cranelift_assembler_x64::rex::{Disp, RexPrefix};
@@ -11,7 +11,7 @@ use cranelift_assembler_x64::{
     Notice, Numbers, Recorder, SinkError, TrapCode, Xmm, XmmMem, all_encodable,
     emit_modrm_sib_disp, encode_all,
 };
-use std::alloc::{AllocError, Allocator, Global};
+use std::alloc::Allocator;
 use std::num::NonZeroU8;
 
 const CODE: TrapCode = TrapCode(NonZeroU8::MIN);
@@ -215,23 +215,21 @@ impl Grows for IntoRecorder {
 }
 
 #[test]
-fn each_growth_of_a_vector_is_refused(rt: HostRuntime) -> Result<(), AllocError> {
+fn each_growth_of_a_vector_is_refused(rt: HostRuntime) {
     for case in CASES {
         let put = case.put;
-        assert!(rt; is_refused(rt.alloc(), &IntoVector(case), 1)?, "{put:?}");
+        assert!(rt; is_refused(rt.alloc(), &IntoVector(case), 1), "{put:?}");
     }
-    Ok(())
 }
 
 #[test]
-fn each_growth_of_a_recorder_is_refused(rt: HostRuntime) -> Result<(), AllocError> {
+fn each_growth_of_a_recorder_is_refused(rt: HostRuntime) {
     for case in CASES {
         let put = case.put;
         let least = if case.told == 0 { 1 } else { 2 };
         assert!(rt;
-            is_refused(rt.alloc(), &IntoRecorder(case), least)?,
+            is_refused(rt.alloc(), &IntoRecorder(case), least),
             "{put:?}"
         );
     }
-    Ok(())
 }

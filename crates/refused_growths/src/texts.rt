@@ -1,9 +1,13 @@
-//! Texts of registers and trap codes.
+//! Texts of registers and trap codes, and texts and terms of an instruction of any form.
 
-use crate::growth::{Grows, Outcome, is_refused};
 use cax64_register::register_name;
+use cax64_test_support::growth::{Grows, Outcome, is_refused};
 use cax64_test_support::{Few, Named, Virtual};
-use cranelift_assembler_x64::{AsReg, Fixed, Gpr, NonRspGpr, Size, TrapCode, Xmm};
+use cranelift_assembler_x64::inst::{andps_a, lock_addl_mr, shlb_m1};
+use cranelift_assembler_x64::{
+    Amode, AmodeOffset, AmodeOffsetPlusKnownOffset, AsReg, Fixed, Gpr, GprMem, Inst,
+    InstructionText, NonRspGpr, Numbers, Size, TrapCode, Xmm, XmmMem,
+};
 use std::alloc::{AllocError, Allocator};
 use std::num::NonZeroU8;
 
@@ -20,9 +24,12 @@ enum Text {
     Few,
     Named,
     Trap,
+    Inst,
+    InstXed,
+    InstTerm,
 }
 
-const TEXTS: [(Text, &str); 10] = [
+const TEXTS: [(Text, &str); 13] = [
     (Text::Hardware, "%r12b"),
     (Text::Number, "%xmm15"),
     (Text::Fixed, "%rax"),
@@ -33,11 +40,59 @@ const TEXTS: [(Text, &str); 10] = [
     (Text::Few, "%r13d"),
     (Text::Named, "v130"),
     (Text::Trap, "trap=5"),
+    (Text::Inst, "lock addl %r9d, -0x80(%r12)"),
+    (Text::InstXed, "shl $0x1, %r8b"),
+    (Text::InstTerm, "((_64b | compat) & sse)"),
 ];
 
 fn trap_text<A: Allocator + Copy>(alloc: A) -> Result<String<A>, AllocError> {
     let code = TrapCode(NonZeroU8::new(5).ok_or(AllocError)?);
     code.to_string(alloc)
+}
+
+fn addition() -> Inst<Numbers> {
+    let place = Amode::ImmReg {
+        base: 12,
+        simm32: AmodeOffsetPlusKnownOffset {
+            simm32: AmodeOffset::new(-128),
+            offset: None,
+        },
+        trap: None,
+    };
+    lock_addl_mr::new(place, Gpr::new(9)).into()
+}
+
+fn shift() -> Inst<Numbers> {
+    shlb_m1::new(GprMem::Gpr(8)).into()
+}
+
+fn conjunction() -> Inst<Numbers> {
+    andps_a::new(Xmm::new(8), XmmMem::Xmm(1)).into()
+}
+
+fn inst_text<A: Allocator + Copy>(alloc: A, inst: &Inst<Numbers>) -> Result<String<A>, AllocError> {
+    if !inst.nameable() {
+        return Ok(String::new(alloc));
+    }
+    inst.to_string(alloc)
+}
+
+fn inst_text_xed<A: Allocator + Copy>(
+    alloc: A,
+    inst: &Inst<Numbers>,
+) -> Result<String<A>, AllocError> {
+    if !inst.nameable() {
+        return Ok(String::new(alloc));
+    }
+    match inst.to_string_xed(alloc)? {
+        Some(text) => Ok(text),
+        None => Ok(String::new(alloc)),
+    }
+}
+
+fn inst_term<A: Allocator + Copy>(alloc: A, inst: &Inst<Numbers>) -> Result<String<A>, AllocError> {
+    let term = inst.features(alloc)?;
+    term.to_string(alloc)
 }
 
 impl Text {
@@ -53,6 +108,9 @@ impl Text {
             Text::Few => Gpr::new(Few(13)).to_string(alloc, Size::Doubleword),
             Text::Named => Gpr::new(Named(130)).to_string(alloc, Size::Byte),
             Text::Trap => trap_text(alloc),
+            Text::Inst => inst_text(alloc, &addition()),
+            Text::InstXed => inst_text_xed(alloc, &shift()),
+            Text::InstTerm => inst_term(alloc, &conjunction()),
         }
     }
 }
@@ -71,9 +129,8 @@ impl Grows for Wanted {
 }
 
 #[test]
-fn each_text_is_refused_and_then_made(rt: HostRuntime) -> Result<(), AllocError> {
+fn each_text_is_refused_and_then_made(rt: HostRuntime) {
     for (text, want) in TEXTS {
-        assert!(rt; is_refused(rt.alloc(), &Wanted(text, want), 1)?, "{text:?}");
+        assert!(rt; is_refused(rt.alloc(), &Wanted(text, want), 1), "{text:?}");
     }
-    Ok(())
 }

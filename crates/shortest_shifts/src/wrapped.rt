@@ -6,7 +6,7 @@ use cax64_address::offset::AmodeOffsetPlusKnownOffset;
 use cax64_address::operand::GprMem;
 use cax64_encoder::{Fault, Instruction};
 use cax64_machine_code::row::Row;
-use cax64_operand::{Numbers, RegisterVisitor};
+use cax64_operand::{HasOperands, Numbers, RegisterVisitor};
 use cax64_sink::{CodeSink, DeferredTarget, Label, Recorder, SinkError, TrapCode};
 use std::alloc::Global;
 use std::num::NonZeroU8;
@@ -16,14 +16,18 @@ use std::process::Abort;
 #[derive(Drop)]
 struct Wrapped<I: Instruction>(I);
 
-impl<I: Instruction> Instruction for Wrapped<I> {
+impl<I: Instruction> HasOperands for Wrapped<I> {
     type Family = I::Family;
 
     ghost row_of = { λ wrapped. I.row_of wrapped.0 };
 
     ghost operands_of = { λ wrapped. I.operands_of wrapped.0 };
+}
 
+impl<I: Instruction> Instruction for Wrapped<I> {
     ghost meant = { λ wrapped. I.meant wrapped.0 };
+
+    ghost follows = { λ wrapped. I.follows wrapped.0 };
 
     fn row(&self) -> Row {
         self.0.row()

@@ -1,17 +1,21 @@
 //! Comparisons. (Intel SDM, volume 2, `CMPPS`, `CMPPD`, `CMPSS` and `CMPSD`.)
 
-ghost use Rattle.std.specs.Prelude.{◌≡◌};
+ghost use Rattle.std.specs.Prelude.{◌≡◌, IsTrue, IfOk, string_bytes};
+ghost use Rattle.cax64_address.specs.declared.text.Dialect.TheVariants.{Xed};
 ghost use Rattle.cax64_machine_code.specs.declared.row.Row.TheVariants as row;
 ghost use Rattle.cax64_operand.specs.declared.immediate.Immediate.TheVariants as immediate;
 ghost use Rattle.cax64_operand.specs.declared.operand.Operand.TheVariants.{Imm, ReadWriteXmm, ReadXmmMem};
 ghost use Rattle.cax64_operand.specs.declared.operand.Operands.{Operands};
 ghost use Rattle.cax64_operand.specs.declared.operand.Operands.TheVariants.{Three};
+ghost use Rattle.cax64_text.specs.Text.{nameable, text};
 
 use cax64_address::operand::XmmMem;
 use cax64_immediate::Imm8;
 use cax64_machine_code::row::Row;
 use cax64_operand::{Immediate, Operand, RegisterVisitor, RowAndOperands, Task, of_three};
 use cax64_register::{Registers, Xmm};
+use cax64_text::{RegisterNames, xed_string};
+use std::alloc::{AllocError, Allocator};
 use std::marker::Model;
 
 /// Compare packed single precision floating-point values in `xmm_m128` and `xmm1` using bits 2:0 of `imm8` as a
@@ -42,6 +46,14 @@ impl<R: Registers> cmpps_a<R> {
             xmm_m128,
             imm8,
         }
+    }
+
+    /// The text as XED prints it. Fails where there is no memory.
+    pub fn to_string_xed<A: Allocator + Copy>(&self, alloc: A) -> Result<String<A>, AllocError>
+        requires { IsTrue (nameable ⟦<R as RegisterNames>⟧.names self.now) }
+        ensures { IfOk result (λ t. string_bytes t ≡ text ⟦<R as RegisterNames>⟧.names Xed row.cmpps_a self.now) }
+    {
+        xed_string(self, alloc)
     }
 }
 
@@ -101,6 +113,14 @@ impl<R: Registers> cmppd_a<R> {
             imm8,
         }
     }
+
+    /// The text as XED prints it. Fails where there is no memory.
+    pub fn to_string_xed<A: Allocator + Copy>(&self, alloc: A) -> Result<String<A>, AllocError>
+        requires { IsTrue (nameable ⟦<R as RegisterNames>⟧.names self.now) }
+        ensures { IfOk result (λ t. string_bytes t ≡ text ⟦<R as RegisterNames>⟧.names Xed row.cmppd_a self.now) }
+    {
+        xed_string(self, alloc)
+    }
 }
 
 impl<R: Registers> RowAndOperands for cmppd_a<R> {
@@ -159,6 +179,14 @@ impl<R: Registers> cmpss_a<R> {
             imm8,
         }
     }
+
+    /// The text as XED prints it. Fails where there is no memory.
+    pub fn to_string_xed<A: Allocator + Copy>(&self, alloc: A) -> Result<String<A>, AllocError>
+        requires { IsTrue (nameable ⟦<R as RegisterNames>⟧.names self.now) }
+        ensures { IfOk result (λ t. string_bytes t ≡ text ⟦<R as RegisterNames>⟧.names Xed row.cmpss_a self.now) }
+    {
+        xed_string(self, alloc)
+    }
 }
 
 impl<R: Registers> RowAndOperands for cmpss_a<R> {
@@ -216,6 +244,14 @@ impl<R: Registers> cmpsd_a<R> {
             xmm_m64,
             imm8,
         }
+    }
+
+    /// The text as XED prints it. Fails where there is no memory.
+    pub fn to_string_xed<A: Allocator + Copy>(&self, alloc: A) -> Result<String<A>, AllocError>
+        requires { IsTrue (nameable ⟦<R as RegisterNames>⟧.names self.now) }
+        ensures { IfOk result (λ t. string_bytes t ≡ text ⟦<R as RegisterNames>⟧.names Xed row.cmpsd_a self.now) }
+    {
+        xed_string(self, alloc)
     }
 }
 

@@ -1,17 +1,21 @@
 //! VEX comparisons. (Intel SDM, volume 2, `CMPPS`, `CMPPD`, `CMPSS` and `CMPSD`.)
 
-ghost use Rattle.std.specs.Prelude.{◌≡◌};
+ghost use Rattle.std.specs.Prelude.{◌≡◌, IsTrue, IfOk, string_bytes};
+ghost use Rattle.cax64_address.specs.declared.text.Dialect.TheVariants.{Xed};
 ghost use Rattle.cax64_machine_code.specs.declared.row.Row.TheVariants as row;
 ghost use Rattle.cax64_operand.specs.declared.immediate.Immediate.TheVariants as immediate;
 ghost use Rattle.cax64_operand.specs.declared.operand.Operand.TheVariants.{Imm, ReadXmm, ReadXmmMem, WriteXmm};
 ghost use Rattle.cax64_operand.specs.declared.operand.Operands.{Operands};
 ghost use Rattle.cax64_operand.specs.declared.operand.Operands.TheVariants.{Four};
+ghost use Rattle.cax64_text.specs.Text.{nameable, text};
 
 use cax64_address::operand::XmmMem;
 use cax64_immediate::Imm8;
 use cax64_machine_code::row::Row;
 use cax64_operand::{Immediate, Operand, RegisterVisitor, RowAndOperands, Task, of_four};
 use cax64_register::{Registers, Xmm};
+use cax64_text::{RegisterNames, xed_string};
+use std::alloc::{AllocError, Allocator};
 use std::marker::Model;
 
 /// Compare packed single precision floating-point values in `xmm_m128` and `xmm2` using bits 4:0 of `imm8` as a
@@ -45,6 +49,14 @@ impl<R: Registers> vcmpps_b<R> {
             xmm_m128,
             imm8,
         }
+    }
+
+    /// The text as XED prints it. Fails where there is no memory.
+    pub fn to_string_xed<A: Allocator + Copy>(&self, alloc: A) -> Result<String<A>, AllocError>
+        requires { IsTrue (nameable ⟦<R as RegisterNames>⟧.names self.now) }
+        ensures { IfOk result (λ t. string_bytes t ≡ text ⟦<R as RegisterNames>⟧.names Xed row.vcmpps_b self.now) }
+    {
+        xed_string(self, alloc)
     }
 }
 
@@ -109,6 +121,14 @@ impl<R: Registers> vcmppd_b<R> {
             imm8,
         }
     }
+
+    /// The text as XED prints it. Fails where there is no memory.
+    pub fn to_string_xed<A: Allocator + Copy>(&self, alloc: A) -> Result<String<A>, AllocError>
+        requires { IsTrue (nameable ⟦<R as RegisterNames>⟧.names self.now) }
+        ensures { IfOk result (λ t. string_bytes t ≡ text ⟦<R as RegisterNames>⟧.names Xed row.vcmppd_b self.now) }
+    {
+        xed_string(self, alloc)
+    }
 }
 
 impl<R: Registers> RowAndOperands for vcmppd_b<R> {
@@ -172,6 +192,14 @@ impl<R: Registers> vcmpss_b<R> {
             imm8,
         }
     }
+
+    /// The text as XED prints it. Fails where there is no memory.
+    pub fn to_string_xed<A: Allocator + Copy>(&self, alloc: A) -> Result<String<A>, AllocError>
+        requires { IsTrue (nameable ⟦<R as RegisterNames>⟧.names self.now) }
+        ensures { IfOk result (λ t. string_bytes t ≡ text ⟦<R as RegisterNames>⟧.names Xed row.vcmpss_b self.now) }
+    {
+        xed_string(self, alloc)
+    }
 }
 
 impl<R: Registers> RowAndOperands for vcmpss_b<R> {
@@ -234,6 +262,14 @@ impl<R: Registers> vcmpsd_b<R> {
             xmm_m64,
             imm8,
         }
+    }
+
+    /// The text as XED prints it. Fails where there is no memory.
+    pub fn to_string_xed<A: Allocator + Copy>(&self, alloc: A) -> Result<String<A>, AllocError>
+        requires { IsTrue (nameable ⟦<R as RegisterNames>⟧.names self.now) }
+        ensures { IfOk result (λ t. string_bytes t ≡ text ⟦<R as RegisterNames>⟧.names Xed row.vcmpsd_b self.now) }
+    {
+        xed_string(self, alloc)
     }
 }
 

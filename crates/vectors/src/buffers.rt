@@ -108,12 +108,16 @@ fn make_call(
     }
 }
 
-/// Makes the calls of a script, and writes the answer of each.
+/// Makes the calls of a script, and writes the answer of each: `-` where there is none.
 fn run_script(
     buffer: &mut CodeBuffer<Global>,
     script: &str,
     came: &mut String,
 ) -> Result<(), Fault> {
+    if script == "-" {
+        came.push('-')?;
+        return Ok(());
+    }
     let mut is_first = true;
     for step in script.split(" | ") {
         if !is_first {

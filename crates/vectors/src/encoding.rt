@@ -2,6 +2,7 @@
 
 use crate::columns::{write_bytes, write_calls, write_fault, write_notices};
 use crate::reading::note_front;
+use crate::sinks::keep_the_same;
 use crate::texts::{Texts, texts_of};
 use crate::visits::VisitText;
 use cax64_test_support::CallRecorder;
@@ -42,20 +43,25 @@ fn write_row(came: &mut String, bytes: &[u8], row: Row) -> Result<(), Fault> {
 
 /// What comes of an instruction in a sink.
 #[derive(Drop)]
-struct Encoded {
+struct Encoded<'a> {
     alloc: Global,
+    offsets: &'a str,
     sink: CallRecorder<Global>,
+    /// Whether other sinks keep the same.
+    is_same: bool,
     /// The length that it is said to have, and its row.
     length_and_row: Option<(u8, Row)>,
     texts: Option<Texts>,
     visits: VisitText,
 }
 
-impl Encoded {
-    fn new(alloc: Global, offsets: &str) -> Result<Encoded, Fault> {
+impl<'a> Encoded<'a> {
+    fn new(alloc: Global, offsets: &'a str) -> Result<Encoded<'a>, Fault> {
         Ok(Encoded {
             alloc,
+            offsets,
             sink: CallRecorder::new(alloc, recorder_of(alloc, offsets)?),
+            is_same: false,
             length_and_row: None,
             texts: None,
             visits: VisitText::new(alloc),
@@ -63,7 +69,7 @@ impl Encoded {
     }
 }
 
-impl TakesInstruction for Encoded {
+impl TakesInstruction for Encoded<'_> {
     type Answer = Result<(), Fault>;
 
     fn take<I: RowAndOperands<Family = Numbers> + Drop>(
@@ -75,6 +81,7 @@ impl TakesInstruction for Encoded {
         }
         self.length_and_row = Some((inst.encoded_len(&self.sink), inst.row()));
         inst.encode(&mut self.sink).map_err(|_| Fault::NoMemory)?;
+        self.is_same = keep_the_same(self.alloc, &inst, self.offsets, &self.sink)?;
         self.texts = Some(texts_of(self.alloc, &inst)?);
         inst.visit(&mut self.visits);
         Ok(())
@@ -82,13 +89,24 @@ impl TakesInstruction for Encoded {
 }
 
 /// What comes of the instruction of the next columns.
-fn encode_line(alloc: Global, fields: &mut Fields<'_>) -> Result<(Encoded, u8, Row), Fault> {
+fn encode_line<'a>(
+    alloc: Global,
+    fields: &mut Fields<'a>,
+) -> Result<(Encoded<'a>, u8, Row), Fault> {
     let name = fields.text()?;
     let values = fields.text()?;
     let mut encoded = Encoded::new(alloc, fields.text()?)?;
     take_instruction(name, values, &mut encoded)??;
     let (length, row) = encoded.length_and_row.ok_or(Fault::Malformed)?;
     Ok((encoded, length, row))
+}
+
+/// What is wrong of the bytes beside what is written of them.
+fn note_bytes(came: &mut String, encoded: &Encoded<'_>) -> Result<(), Fault> {
+    if !encoded.is_same {
+        came.push_str(" but another sink keeps others")?;
+    }
+    note_front(came, encoded.sink.bytes())
 }
 
 pub(crate) fn answer_instruction(
@@ -105,7 +123,7 @@ pub(crate) fn answer_instruction(
     let features = texts.features.as_str();
     write!(came, "\t{features}\t")?;
     encoded.visits.write(came)?;
-    note_front(came, encoded.sink.bytes())
+    note_bytes(came, &encoded)
 }
 
 /// Bytes and notices, where the length and the row that is read are the right ones.
@@ -123,7 +141,7 @@ pub(crate) fn answer_worked(
     if read != Some((length, row)) || usize::from(length) != bytes.len() {
         came.push_str(" but length or row are others")?;
     }
-    note_front(came, bytes)
+    note_bytes(came, &encoded)
 }
 
 /// Why an instruction can't be encoded, and its visit.

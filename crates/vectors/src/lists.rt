@@ -4,7 +4,7 @@ use crate::columns::{write_bytes, write_notices};
 use crate::encoding::recorder_of;
 use cax64_test_support::RefusingSink;
 use cranelift_assembler_x64::{
-    CodeSink, FixedSink, Instruction, Numbers, Recorder, RowAndOperands, all_encodable,
+    CodeSink, FixedSink, Instruction, Numbers, Recorder, RowAndOperands, SinkError, all_encodable,
     encode_each, encode_each_whole,
 };
 use named_instructions::fields::{Fault, Fields, parsed};
@@ -14,11 +14,12 @@ use std::alloc::Global;
 /// The size of the fixed sink.
 const SIZE: usize = 64;
 
-/// Encodes a list, which has to be encodable, and writes whether the sink took it.
+/// Encodes a list, which has to be encodable, and writes whether the sink, which refuses with this error, took it.
 fn write_outcome<I: Instruction, S: CodeSink>(
     came: &mut String,
     insts: &[I],
     sink: &mut S,
+    error: SinkError,
 ) -> Result<(), Fault> {
     if !all_encodable(insts, sink) {
         return Err(Fault::Malformed);
@@ -27,7 +28,11 @@ fn write_outcome<I: Instruction, S: CodeSink>(
         Ok(()) => came.push_str("ok\t")?,
         Err(refused) => {
             let whole = refused.whole;
-            write!(came, "refused:{whole}\t")?;
+            write!(came, "refused:{whole}")?;
+            if refused.error != error {
+                came.push_str(" but with another error")?;
+            }
+            came.push('\t')?;
         }
     }
     Ok(())
@@ -40,7 +45,7 @@ fn write_room<I: Instruction>(came: &mut String, insts: &[I], room: usize) -> Re
         let _ = sink.put1(0);
     }
     let before = sink.bytes().len();
-    write_outcome(came, insts, &mut sink)?;
+    write_outcome(came, insts, &mut sink, SinkError::Full)?;
     write_bytes(came, sink.bytes().get(before..).ok_or(Fault::Malformed)?)?;
     came.push_str("\t-")?;
     Ok(())
@@ -54,7 +59,7 @@ fn write_refused_call<I: Instruction>(
     calls: usize,
 ) -> Result<(), Fault> {
     let mut sink = RefusingSink::new(recorder, calls);
-    write_outcome(came, insts, &mut sink)?;
+    write_outcome(came, insts, &mut sink, SinkError::NoMemory)?;
     let recorder = sink.into_recorder();
     write_bytes(came, recorder.bytes())?;
     came.push('\t')?;

@@ -1,10 +1,11 @@
 //! Over a sink of fixed size calls have laws of their own.
 
-use cranelift_assembler_x64::inst::{andb_i, nop_1b};
+use cranelift_assembler_x64::inst::{andb_i, callq_m, nop_1b, nop_5b};
 use cranelift_assembler_x64::laws::{encode_each_to_fixed_sink, encode_to_fixed_sink};
 use cranelift_assembler_x64::vex::VexPrefix;
 use cranelift_assembler_x64::{
-    Fixed, FixedSink, Imm8, Instruction, Numbers, Refused, SinkError, all_encodable,
+    Amode, DeferredTarget, Fixed, FixedSink, GprMem, Imm8, Instruction, Numbers, Refused,
+    SinkError, all_encodable,
 };
 use std::process::Abort;
 
@@ -44,6 +45,38 @@ fn an_instruction_is_taken_where_it_fits(rt: HostRuntime) {
     assert!(rt; nop.is_encodable(&one));
     assert!(rt; encode_to_fixed_sink(&nop, &mut one) == Err(SinkError::Full));
     assert!(rt; one.bytes() == [0x90].as_slice());
+}
+
+fn put<I: Instruction, const N: usize>(
+    rt: &impl Abort,
+    inst: &I,
+    sink: &mut FixedSink<N>,
+) -> Result<(), SinkError> {
+    assert!(rt; inst.is_encodable(&*sink));
+    inst.encode(sink)
+}
+
+#[test]
+fn a_call_takes_six_places(rt: HostRuntime) {
+    let call: callq_m<Numbers> = callq_m::new(GprMem::Mem(Amode::RipRelative {
+        target: DeferredTarget::None,
+    }));
+    let mut six = FixedSink::<6>::new();
+    assert!(rt; put(&rt, &call, &mut six) == Ok(()));
+    assert!(rt; six.bytes() == [0xFF, 0x15, 0, 0, 0, 0].as_slice());
+    let mut five = FixedSink::<5>::new();
+    assert!(rt; put(&rt, &call, &mut five) == Err(SinkError::Full));
+    assert!(rt; five.bytes() == [0xFF, 0x15].as_slice());
+}
+
+#[test]
+fn a_no_operation_is_taken_as_far_as_it_fits(rt: HostRuntime) {
+    let mut four = FixedSink::<4>::new();
+    assert!(rt; put(&rt, &nop_5b::new(), &mut four) == Err(SinkError::Full));
+    assert!(rt; four.bytes() == [0x0F, 0x1F, 0x44].as_slice());
+    let mut none = FixedSink::<0>::new();
+    assert!(rt; put(&rt, &nop_1b::new(), &mut none) == Err(SinkError::Full));
+    assert!(rt; none.bytes().is_empty());
 }
 
 #[test]

@@ -6,8 +6,8 @@ use cax64_machine_code::line::{
 use cax64_machine_code::row::Row;
 use cax64_table::cursor::next;
 use cax64_table::line;
-use cax64_table::lookup::{row_at, row_for};
-use cax64_table::prefix::{Prefix, PrefixNumbers, Rex, Vex};
+use cax64_table::lookup::row_for;
+use cax64_table::prefix::PrefixNumbers;
 
 const LOCK: LegacySet = LegacySet {
     lock: true,
@@ -16,26 +16,39 @@ const LOCK: LegacySet = LegacySet {
     rep: false,
 };
 
-const LOCK_REX: Prefix = Prefix::LegacyPrefix(
-    LOCK,
-    Some(Rex {
-        w: true,
-        r: false,
-        x: false,
-        b: true,
-    }),
-);
+/// F0 49: lock, and a REX byte whose W is 1.
+const LOCK_REX: PrefixNumbers = PrefixNumbers {
+    low: 2,
+    high: 1,
+    has_high: true,
+    w: 1,
+    is_free: true,
+};
 
-const VEX: Prefix = Prefix::VexPrefix(Vex {
-    w: false,
-    r: true,
-    x: false,
-    b: false,
-    vvvv: 5,
-    l: 0,
-    pp: 0,
-    map: 1,
-});
+/// VEX in the map 0F with no pp, L and W 0, and a register in vvvv.
+const VEX: PrefixNumbers = PrefixNumbers {
+    low: 9,
+    high: 0,
+    has_high: true,
+    w: 0,
+    is_free: false,
+};
+
+/// Rows with and without a digit, a REX byte, VEX and 0F.
+const SOME_ROWS: [Row; 12] = [
+    Row::lock_addb_mi,
+    Row::lock_addq_mi_sxl,
+    Row::lock_xaddq_mr,
+    Row::andb_i,
+    Row::callq_m,
+    Row::jmp_d8,
+    Row::je_d32,
+    Row::cmpsd_a,
+    Row::vcmpps_b,
+    Row::mulxq_rvm,
+    Row::nop_1b,
+    Row::nopw_rm,
+];
 
 #[test]
 fn a_line_is_unpacked(rt: HostRuntime) {
@@ -52,39 +65,71 @@ fn a_line_is_unpacked(rt: HostRuntime) {
     assert!(rt; line(Row::lock_addq_mi_sxl) == add);
 }
 
-fn row_of(prefix: &Prefix, bytes: &[u8]) -> Option<(Row, usize)> {
-    row_at(prefix, bytes).map(|found| (found.0, found.1.len()))
+fn row_of(numbers: PrefixNumbers, bytes: &[u8]) -> Option<(Row, usize)> {
+    row_for(numbers, bytes).map(|found| (found.0, found.1.len()))
 }
 
 #[test]
 fn rows_are_found(rt: HostRuntime) {
-    let exchange = row_of(&LOCK_REX, &[0x0F, 0xC1, 0x08]);
+    let exchange = row_of(LOCK_REX, &[0x0F, 0xC1, 0x08]);
     assert!(rt; exchange == Some((Row::lock_xaddq_mr, 1)));
-    assert!(rt; row_of(&VEX, &[0xC2, 0xC1]) == Some((Row::vcmpps_b, 1)));
-    assert!(rt; row_of(&VEX, &[0x81, 0x00]) == None);
+    let add = row_of(LOCK_REX, &[0x81, 0x00, 1, 2, 3, 4]);
+    assert!(rt; add == Some((Row::lock_addq_mi_sxl, 5)));
+    assert!(rt; row_of(VEX, &[0xC2, 0xC1]) == Some((Row::vcmpps_b, 1)));
+    assert!(rt; row_of(VEX, &[0x81, 0x00]) == None);
+}
+
+/// The numbers of a prefix that a line asks for, with W as it asks for it, or 0.
+fn numbers_for(line: &Line) -> PrefixNumbers {
+    let w = line.w.unwrap_or(0);
+    match &line.prefix {
+        PrefixField::LegacyField(set, _) => PrefixNumbers {
+            low: 2 * u8::from(set.lock)
+                + 4 * u8::from(set.operand_size)
+                + 8 * u8::from(set.repne)
+                + 16 * u8::from(set.rep),
+            high: 1,
+            has_high: w == 1,
+            w,
+            is_free: true,
+        },
+        PrefixField::VexField(pp, map, l, _) => PrefixNumbers {
+            low: 1u8
+                .saturating_add(pp.saturating_mul(2))
+                .saturating_add(map.saturating_mul(8)),
+            high: *l,
+            has_high: true,
+            w,
+            is_free: true,
+        },
+    }
+}
+
+/// The bytes behind the prefix that a line asks for: an opcode and, where there is a digit, ModR/M.
+fn bytes_for(line: &Line) -> [u8; 3] {
+    let modrm = match &line.tail {
+        TailField::Modrm(RegField::Digit(digit), _) => digit % 8 * 8,
+        _ => 0,
+    };
+    if line.opcode.escape {
+        [0x0F, line.opcode.byte, modrm]
+    } else {
+        [line.opcode.byte, modrm, 0]
+    }
 }
 
 #[test]
-fn prefixes_have_fields(rt: HostRuntime) {
-    assert!(rt; LOCK_REX.has_rex() && LOCK_REX.b() && !LOCK_REX.r() && !LOCK_REX.x());
-    assert!(rt; !VEX.has_rex() && VEX.r() && !VEX.x() && !VEX.b());
-    assert!(rt; LOCK_REX.vvvv() == 0 && VEX.vvvv() == 5);
+fn rows_are_found_by_what_their_lines_ask_for(rt: HostRuntime) {
+    for row in SOME_ROWS {
+        let asked = line(row);
+        let behind = if asked.opcode.escape { 1 } else { 2 };
+        let found = row_of(numbers_for(&asked), &bytes_for(&asked));
+        assert!(rt; found == Some((row, behind)), "{row:?}");
+    }
+}
+
+#[test]
+fn bytes_are_taken_from_the_front(rt: HostRuntime) {
     assert!(rt; next(&[1, 2, 3]).map(|found| (found.0, found.1.len())) == Some((1, 2)));
     assert!(rt; next(&[]).is_none());
-}
-
-#[test]
-fn a_row_is_found_by_numbers(rt: HostRuntime) {
-    // F0 49 in front of 81 /0: lock, and a REX byte whose W is 1.
-    let numbers = PrefixNumbers {
-        low: 2,
-        high: 1,
-        has_high: true,
-        w: 1,
-        is_free: true,
-    };
-    let bytes = [0x81, 0x00, 1, 2, 3, 4];
-    let found = row_for(numbers, &bytes).map(|found| (found.0, found.1.len()));
-    assert!(rt; found == Some((Row::lock_addq_mi_sxl, 5)));
-    assert!(rt; found == row_of(&LOCK_REX, &bytes));
 }

@@ -1,10 +1,10 @@
-//! Texts of addresses.
+//! Texts of addresses, and of a register that an instruction fixes.
 
 use crate::parts::{base, indexed};
 use cax64_address::amode::{Amode, Scale};
 use cax64_address::offset::{AmodeOffset, AmodeOffsetPlusKnownOffset};
 use cax64_address::text::Dialect;
-use cax64_register::AsReg;
+use cax64_register::{AsReg, Fixed, Size};
 use cax64_test_support::Named;
 use cax64_text::laws::laws_of_texts;
 use std::alloc::{AllocError, Global};
@@ -67,5 +67,14 @@ fn displacements_print_in_both_dialects(rt: HostRuntime) -> Result<(), AllocErro
             .as_str()
             == "-0xa"
     );
+    Ok(())
+}
+
+#[test]
+fn a_fixed_register_prints_as_the_register_held(rt: HostRuntime) -> Result<(), AllocError> {
+    let held = Fixed::<u8, 0>(9);
+    assert!(rt; held.nameable());
+    assert!(rt; held.to_string(rt.alloc(), Some(Size::Word))?.as_str() == "%r9w");
+    assert!(rt; held.to_string(rt.alloc(), None)?.as_str() == "%xmm9");
     Ok(())
 }

@@ -1,26 +1,28 @@
-//! Each growth of a text and of a term is refused in turn, by a heap that is a block larger each time, until a run ends
-//! with Ok.
+//! Each growth of a text and of a term is refused in turn, until a run ends with Ok.
 
-use crate::parts::{Plain, base, gpr, gpr_at, xmm, xmm_at};
+use crate::parts::{Plain, base, gpr, gpr_at, indexed, xmm, xmm_at};
 use arith::{mulxl_rvm, shlb_m1};
-use cax64_address::amode::Amode;
+use cax64_address::amode::{Amode, Scale};
 use cax64_address::offset::{AmodeOffset, AmodeOffsetPlusKnownOffset};
 use cax64_address::operand::{GprMem, XmmMem};
 use cax64_address::text::Dialect;
-use cax64_immediate::{Extension, Imm8, Simm8, Simm16, Simm32};
+use cax64_immediate::{Extension, Imm8, Imm16, Imm32, Imm64, Simm8, Simm16, Simm32};
 use cax64_operand::RowAndOperands;
 use cax64_register::{Fixed, Gpr, Size, Xmm};
+use cax64_test_support::growth::{Grows, Outcome, is_refused};
 use cax64_test_support::{All, Named};
 use cax64_text::InstructionText;
-use linked_list_allocator::LocalHeap;
 use lock_a::lock_addl_mr;
 use simd::{andps_a, cmpss_a};
-use std::alloc::{AllocError, Allocator, Global};
+use std::alloc::{AllocError, Allocator};
 
 /// What asks for memory.
 #[derive(Clone, Copy, Debug)]
 enum Made {
     Imm8,
+    Imm16,
+    Imm32,
+    Imm64,
     Simm8,
     Simm16,
     Simm32,
@@ -28,6 +30,8 @@ enum Made {
     OffsetXed,
     LateOffset,
     Amode,
+    AmodeXed,
+    IndexedXed,
     GprMem,
     GprMemXed,
     XmmMem,
@@ -40,8 +44,11 @@ enum Made {
     Features,
 }
 
-const MADE: [(Made, &str); 18] = [
+const MADE: [(Made, &str); 23] = [
     (Made::Imm8, "$0xaa"),
+    (Made::Imm16, "$0x1234"),
+    (Made::Imm32, "$0xffffffff"),
+    (Made::Imm64, "$0xffffffffffffffff"),
     (Made::Simm8, "$0xfe"),
     (Made::Simm16, "$0xfffe"),
     (Made::Simm32, "$0xfffffffffffffffe"),
@@ -49,6 +56,8 @@ const MADE: [(Made, &str); 18] = [
     (Made::OffsetXed, "-0x9"),
     (Made::LateOffset, "<offset:7>+"),
     (Made::Amode, "9(%rsp)"),
+    (Made::AmodeXed, "0x9(%rsp)"),
+    (Made::IndexedXed, "(%r13,%r9,1)"),
     (Made::GprMem, "%r8b"),
     (Made::GprMemXed, "0x9(%rsp)"),
     (Made::XmmMem, "%xmm8"),
@@ -70,9 +79,13 @@ fn stack() -> Amode<u8> {
     base(4, 9)
 }
 
-fn amode_text<A: Allocator + Copy>(alloc: A, amode: Amode<u8>) -> Result<String<A>, AllocError> {
+fn amode_text<A: Allocator + Copy>(
+    alloc: A,
+    amode: Amode<u8>,
+    dialect: Dialect,
+) -> Result<String<A>, AllocError> {
     if amode.nameable() {
-        amode.to_string_in(alloc, Dialect::Att)
+        amode.to_string_in(alloc, dialect)
     } else {
         Ok(String::new(alloc))
     }
@@ -152,13 +165,18 @@ impl Made {
         let (att, xed) = (Dialect::Att, Dialect::Xed);
         match self {
             Made::Imm8 => Imm8::new(0xAA).to_string(alloc),
+            Made::Imm16 => Imm16::new(0x1234).to_string(alloc),
+            Made::Imm32 => Imm32::from(-1).to_string(alloc),
+            Made::Imm64 => Imm64::new(u64::MAX).to_string(alloc),
             Made::Simm8 => Simm8::new(-2).to_string(alloc, Extension::None),
             Made::Simm16 => Simm16::new(-2).to_string(alloc, Extension::None),
             Made::Simm32 => Simm32::new(-2).to_string(alloc, Extension::SignExtendQuad),
             Made::Offset => AmodeOffset::new(-9).to_string_in(alloc, att),
             Made::OffsetXed => AmodeOffset::new(-9).to_string_in(alloc, xed),
             Made::LateOffset => LATE.to_string_in(alloc, xed),
-            _ => amode_text(alloc, stack()),
+            Made::Amode => amode_text(alloc, stack(), att),
+            Made::AmodeXed => amode_text(alloc, stack(), xed),
+            _ => amode_text(alloc, indexed(13, 9, Scale::One, 0), xed),
         }
     }
 
@@ -185,13 +203,18 @@ impl Made {
     fn made<A: Allocator + Copy>(self, alloc: A) -> Result<String<A>, AllocError> {
         match self {
             Made::Imm8
+            | Made::Imm16
+            | Made::Imm32
+            | Made::Imm64
             | Made::Simm8
             | Made::Simm16
             | Made::Simm32
             | Made::Offset
             | Made::OffsetXed
             | Made::LateOffset
-            | Made::Amode => self.part(alloc),
+            | Made::Amode
+            | Made::AmodeXed
+            | Made::IndexedXed => self.part(alloc),
             Made::GprMem | Made::GprMemXed | Made::XmmMem | Made::XmmMemXed => self.place(alloc),
             _ => self.instruction(alloc),
         }
@@ -210,51 +233,23 @@ fn own_names() -> lock_addl_mr<All<Named>> {
     lock_addl_mr::new(base(Named(130), 9), Gpr::new(Named(200)))
 }
 
-/// How a run ended.
-#[derive(Clone, Copy, Debug, PartialEq)]
-enum Outcome {
-    Made,
-    Refused,
-    Wrong,
-}
+/// What is made, and its text.
+#[derive(Clone, Copy)]
+struct Wanted(Made, &'static str);
 
-fn run<A: Allocator + Copy>(made: Made, want: &str, alloc: A) -> Outcome {
-    match made.made(alloc) {
-        Ok(text) if text.as_str() == want => Outcome::Made,
-        Ok(_) => Outcome::Wrong,
-        Err(AllocError) => Outcome::Refused,
-    }
-}
-
-/// The outcome in a heap of so many blocks, and whether all was given back.
-fn within(alloc: Global, made: Made, want: &str, blocks: usize) -> Result<Outcome, AllocError> {
-    // A heap holds a block at least, so one is taken first.
-    let heap = LocalHeap::new(alloc, blocks.saturating_mul(16))?;
-    let taken = Box::new(&heap, 0u8)?;
-    let outcome = run(made, want, &heap);
-    drop(taken);
-    if heap.used() > 0 {
-        return Ok(Outcome::Wrong);
-    }
-    Ok(outcome)
-}
-
-/// Whether heaps refused, each a block larger than the one before, until one was large enough.
-fn is_refused(alloc: Global, made: Made, want: &str) -> Result<bool, AllocError> {
-    for refused in 0..64usize {
-        match within(alloc, made, want, refused + 1)? {
-            Outcome::Made => return Ok(refused > 0),
-            Outcome::Refused => {}
-            Outcome::Wrong => return Ok(false),
+impl Grows for Wanted {
+    fn run<A: Allocator + Copy>(&self, alloc: A) -> Outcome {
+        match self.0.made(alloc) {
+            Ok(text) if text.as_str() == self.1 => Outcome::Made,
+            Ok(_) => Outcome::Wrong,
+            Err(AllocError) => Outcome::Refused,
         }
     }
-    Ok(false)
 }
 
 #[test]
-fn each_text_is_refused_and_then_made(rt: HostRuntime) -> Result<(), AllocError> {
+fn each_text_is_refused_and_then_made(rt: HostRuntime) {
     for (made, want) in MADE {
-        assert!(rt; is_refused(rt.alloc(), made, want)?, "{made:?}");
+        assert!(rt; is_refused(rt.alloc(), &Wanted(made, want), 1), "{made:?}");
     }
-    Ok(())
 }

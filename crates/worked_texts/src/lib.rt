@@ -16,6 +16,10 @@ mod lists;
 #[cfg(test)]
 mod numbers;
 #[cfg(test)]
+mod order;
+#[cfg(test)]
 mod parts;
 #[cfg(test)]
 mod refusals;
+#[cfg(test)]
+mod xed;

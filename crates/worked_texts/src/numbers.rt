@@ -3,7 +3,7 @@
 use cax64_address::number::{push_hex_digits, push_hexadecimal, push_short_number};
 use std::alloc::{AllocError, Global};
 
-/// Room for `0x` and the digits of any number: where there is less, they aren't made one by one.
+/// Room for `0x` and the digits of any number.
 const ROOM: usize = 18;
 
 /// Whether a number prints as the formatting prints it: its digits, these behind `0x`, and as a short number.

@@ -17,7 +17,12 @@ use Rattle.cax64_machine_code.specs.declared.line.ImmField.{ImmField}
 use Rattle.cax64_machine_code.specs.declared.reading.Place.{Place}
 use Rattle.cax64_machine_code.specs.declared.reading.Place.TheVariants.{Reg, Mem, Rip}
 use Rattle.cax64_machine_code.specs.declared.reading.Reading.{Reading}
+use Rattle.cax64_sink.proofs.RecordedPuts.{OnlyPuts, only_puts}
 use Rattle.cax64_sink.specs.Call.{Action, Step, bytes_of, notice_of, put}
+use Rattle.cax64_sink.specs.Call as call
+use Rattle.cax64_sink.proofs.Rooms.{less_room}
+use Rattle.cax64_sink.specs.Rest.{RanRoomier}
+use Rattle.cax64_sink.specs.Room.{Room, FallsBy}
 use Rattle.cax64_sink.specs.Puts.{puts}
 use Rattle.cax64_sink.specs.Run.{Went, Ran}
 use Rattle.cax64_sink.specs.Sink.{State}
@@ -246,18 +251,25 @@ stepped act readings n s t r old new none step same h =
     stays readings n s t old new (if is_ok r then bytes_of act else []) (step.bytes ∙ put_bytes r s.bytes (bytes_of act))
     (ap (λ z. places_told (uses_of z)) step.notices ∙ told_same r s.records s.notices (notice_of act (length s.bytes)) (none (length s.bytes))) same h
 
--- after bytes that are put one by one
-went_put : (bytes : List ℕ) (readings : List Reading) (n : ℕ) (s t : State) (r : Result (Unit {0}) SinkError) (places : DeferredTarget → Option ℕ) → Went (puts bytes) s t r → Filled readings n s places → Filled readings n t places
+-- after bytes that are put
+went_put : (acts : List Action) (readings : List Reading) (n : ℕ) (s t : State) (r : Result (Unit {0}) SinkError) (places : DeferredTarget → Option ℕ) → OnlyPuts acts → Went acts s t r → Filled readings n s places → Filled readings n t places
 unfolding Went
-went_put [] readings n s t r places (_, same) h = subst (λ (x : State). Filled readings n x places) same h
-went_put (byte ∷ bytes) readings n s t r places (inl (u, step, rest)) h = went_put bytes readings n u t r places rest (stepped (put (byte ∷ [])) readings n s u (Ok tt) places places (λ at. refl) step (λ target. refl) h)
-went_put (byte ∷ bytes) readings n s t r places (inr (e, is, step)) h = stepped (put (byte ∷ [])) readings n s t (Err e) places places (λ at. refl) step (λ target. refl) h
+went_put [] readings n s t r places only (_, same) h = subst (λ (x : State). Filled readings n x places) same h
+went_put (put bytes ∷ acts) readings n s t r places only (inl (u, step, rest)) h = went_put acts readings n u t r places only rest (stepped (put bytes) readings n s u (Ok tt) places places (λ at. refl) step (λ target. refl) h)
+went_put (put bytes ∷ acts) readings n s t r places only (inr (e, is, step)) h = stepped (put bytes) readings n s t (Err e) places places (λ at. refl) step (λ target. refl) h
+went_put (call.trap code ∷ acts) readings n s t r places only run h = absurd only
+went_put (call.target place ∷ acts) readings n s t r places only run h = absurd only
 
 pub put_in_turn : (bytes : List ℕ) (readings : List Reading) (n : ℕ) (s t : State) (r : Result (Unit {0}) SinkError) (places : DeferredTarget → Option ℕ) → Ran (puts bytes) s t r → Filled readings n s places → Filled readings n t places
-put_in_turn bytes readings n s t r places run h = went_put bytes readings n s t r places run.went h
+put_in_turn bytes readings n s t r places run h = went_put (puts bytes) readings n s t r places (only_puts bytes) run.went h
 
 pub stays_as : (readings : List Reading) (n : ℕ) (s t : State) (old new : DeferredTarget → Option ℕ) → t.bytes ≡ s.bytes → t.notices ≡ s.notices → ((target : DeferredTarget) → new target ≡ old target) → Filled readings n s old → Filled readings n t new
 stays_as readings n s t old new bytes notices same h = stays readings n s t old new [] (bytes ∙ sym (append-nil s.bytes)) (ap (λ z. places_told (uses_of z)) notices) same h
+
+-- after bytes that are put, and room for others
+pub put_roomier : (acts : List Action) (readings : List Reading) (n : ℕ) (s t : State) (r : Result (Unit {0}) SinkError) (places : DeferredTarget → Option ℕ) → OnlyPuts acts → RanRoomier acts s t r → Filled readings n s places → Filled readings n t places
+put_roomier acts readings n s t r places only run h =
+    stays_as readings n run.between t places places run.roomier.bytes run.roomier.notices (λ target. refl) (went_put acts readings n s run.between r places only run.ran.went h)
 
 -- An instruction that is put once there is room.
 
@@ -277,6 +289,10 @@ adds_from {m = m} s u t bytes notices records h =
       length = h.length;
       exact = h.exact;
     }
+
+-- a room that is no smaller, and then falls by so many
+pub falls_after_none : (r q p : Room) (n : ℕ) → FallsBy r q 0 → FallsBy q p n → FallsBy r p n
+falls_after_none r q p n first second k h = second k (first (k + n) (less_room r (k + n) (k + n + 0) (omega arith) h))
 
 pub if_ok : {E P Q : Type 0} (r : Result (Unit {0}) E) → (P → Q) → OnOk r P → OnOk r Q
 if_ok (Ok tt) f h = f h

@@ -1,5 +1,5 @@
 -- What labels and constants are bound to.
-use Rattle.std.specs.Prelude.{◌≡◌, ◌≢◌, ℕ, nat_lt, nat_eq, if◌then◌else◌, Option, Some, None, Result, Ok, Err, slice_index_or}
+use Rattle.std.specs.Prelude.{◌≡◌, ◌≢◌, ℕ, ◌-◌, nat_lt, nat_eq, if◌then◌else◌, Option, Some, None, Result, Ok, Err, slice_index_or, vec_len, vec_capacity}
 use Rattle.std.specs.HashMap.{get}
 use Rattle.std.specs.Option.{option_or}
 use Rattle.cax64_sink.specs.declared.DeferredTarget.{DeferredTarget}
@@ -13,6 +13,10 @@ abbrev pub place_bound : {A : Type 0} → Bindings A → DeferredTarget → Opti
 place_bound b (target.Label label) = slice_index_or b.labels.items label.0 None
 place_bound b (target.Constant constant) = option_or (slice_index_or b.listed.items constant.0 None) (get nat_eq b.others constant.0)
 place_bound b target.None = None
+
+-- how many more labels there is memory for
+abbrev pub spare_labels : {A : Type 0} → Bindings A → ℕ
+spare_labels b = vec_capacity b.labels - vec_len b.labels
 
 -- no binding changes
 abbrev pub SamePlaces : (DeferredTarget → Option ℕ) → (DeferredTarget → Option ℕ) → Type 0

@@ -1,11 +1,12 @@
 -- What a contract sees of a `CodeBuffer`.
 use Rattle.std.specs.Prelude.{◌≡◌, ℕ, Option, List, length}
+use Rattle.std.proofs.Common.{◌∙◌}
 use Rattle.cax64_machine_code.specs.declared.reading.Reading.{Reading}
 use Rattle.cax64_sink.specs.Recorder.{recorder_state}
 use Rattle.cax64_sink.specs.Room.{FallsBy}
 use Rattle.cax64_sink.specs.Sink.{State}
 use Rattle.cax64_sink.specs.declared.DeferredTarget.{DeferredTarget}
-use Rattle.x64_code_buffer.specs.Binding.{place_bound}
+use Rattle.x64_code_buffer.specs.Binding.{SamePlaces, place_bound, spare_labels}
 use Rattle.x64_code_buffer.specs.Filled.{Filled}
 use Rattle.x64_code_buffer.specs.declared.buffer.CodeBuffer.{CodeBuffer}
 
@@ -17,9 +18,27 @@ buffer_state b = recorder_state b.recorder
 abbrev pub label_count : {A : Type 0} → CodeBuffer A → ℕ
 label_count b = length b.bindings.labels.items
 
+-- how many more labels it gives for sure
+abbrev pub label_room : {A : Type 0} → CodeBuffer A → ℕ
+label_room b = spare_labels b.bindings
+
 -- the place that a target is bound to
 abbrev pub places_of : {A : Type 0} → CodeBuffer A → DeferredTarget → Option ℕ
 places_of b target = place_bound b.bindings target
+
+-- the labels that it gave, the room for others, and what is bound are as before
+pub record KeepsLabels {A : Type 0} (old new : CodeBuffer A) : Type 0 where
+  pub labels : label_count new ≡ label_count old
+  pub label_room : label_room new ≡ label_room old
+  pub places : SamePlaces (places_of old) (places_of new)
+
+-- so they are, and so they are again
+pub keeps_labels_on : {A : Type 0} (a b c : CodeBuffer A) → KeepsLabels a b → KeepsLabels b c → KeepsLabels a c
+keeps_labels_on a b c h k = record {
+  labels = k.labels ∙ h.labels;
+  label_room = k.label_room ∙ h.label_room;
+  places = λ target. k.places target ∙ h.places target;
+}
 
 -- with whatever the old one was filled, the new one is
 abbrev pub StaysFilled : {A : Type 0} → CodeBuffer A → CodeBuffer A → Type 0

@@ -1,6 +1,6 @@
 //! What labels and constants are bound to.
 
-ghost use Rattle.std.specs.Prelude.{◌≡◌, ◌↔◌, ◌+◌, ◌^◌, ◌⊎◌, ◌<◌, ◌≤◌, Some, None, Ok, Err, IfOk, OnOk, OnErr, MatchOption, if◌then◌else◌, is_ok, length, nat_eq, vec_len};
+ghost use Rattle.std.specs.Prelude.{◌≡◌, ◌↔◌, ◌+◌, ◌^◌, ◌⊎◌, ◌<◌, ◌≤◌, Some, None, Ok, Err, IfOk, IfErr, OnOk, OnErr, IsOk, MatchOption, if◌then◌else◌, is_ok, length, nat_eq, vec_len};
 ghost use Rattle.std.specs.HashMap.{get};
 ghost use Rattle.std.below.core.specs.declared.int.u32.TheConstants.{MAX};
 ghost use Rattle.x64_code_buffer.specs.declared.errors.BindError.{BindError};
@@ -12,16 +12,14 @@ use std::alloc::{AllocError, Allocator};
 use std::collections::HashMap;
 use std::hash::{BuildHasherDefault, FoldHasher};
 
-/// For how many labels the first block of memory has room, where there is memory for so many.
-const FIRST_LABELS: usize = 16;
-
-/// Constants with keys below this stand in the list, in whatever order they are bound.
-const SMALL: usize = 32;
+/// How near behind the end of the list a key has to be to be listed. A constant adds no more places to it than these.
+const NEAR: usize = 16;
 
 /// The places of the labels that were given, by number, and of the constants that are bound.
 ///
-/// Constants are mostly numbered from 0 on. Those with a small key, or the next one behind the list, are listed by key, where
-/// there is memory for the list: it takes one block, and finds a constant without hashing. A map has all others.
+/// Constants are mostly numbered from 0 on, and bound in about this order. One with a key of the list, or near behind it, is
+/// listed by key, where there is memory for the list: it takes one block, and finds a constant without hashing. A map has
+/// all others.
 #[derive(Drop)]
 pub struct Bindings<A: Allocator> {
     labels: Vec<Option<usize>, A>,
@@ -31,13 +29,14 @@ pub struct Bindings<A: Allocator> {
 }
 
 impl<A: Allocator + Copy> Bindings<A> {
-    ghost use Rattle.x64_code_buffer.specs.Binding.{place_bound};
+    ghost use Rattle.x64_code_buffer.specs.Binding.{place_bound, spare_labels};
     ghost use Rattle.cax64_sink.specs.declared.DeferredTarget.{DeferredTarget};
 
     /// No label and no constant. Takes no memory.
     pub fn new(alloc: A) -> Self
         ensures places { (target : DeferredTarget) → place_bound result target ≡ None }
         ensures labels { length result.labels.items ≡ 0 }
+        ensures spare { spare_labels result ≡ 0 }
     {
         Bindings {
             labels: Vec::new(alloc),
@@ -48,7 +47,7 @@ impl<A: Allocator + Copy> Bindings<A> {
 }
 
 impl<A: Allocator> Bindings<A> {
-    ghost use Rattle.x64_code_buffer.specs.Binding.{place_bound, SamePlaces, AddsBinding, bind_answer};
+    ghost use Rattle.x64_code_buffer.specs.Binding.{place_bound, spare_labels, SamePlaces, AddsBinding, bind_answer};
     ghost use Rattle.cax64_sink.specs.declared.DeferredTarget.{DeferredTarget};
 
     /// The place that a target is bound to.
@@ -82,21 +81,31 @@ impl<A: Allocator> Bindings<A> {
         self.others.get(&constant.0).copied()
     }
 
+    /// Makes room for the places of so many more labels.
+    pub fn reserve_labels(&mut self, count: usize) -> Result<(), SinkError>
+        ensures spare { OnOk result (count ≤ spare_labels self.new) }
+        ensures stays { spare_labels self.old ≤ spare_labels self.new }
+        ensures succeeds { count ≤ spare_labels self.old → IsOk result }
+        ensures no_memory { IfErr result (λ e. e ≡ SinkError.NoMemory) }
+        ensures places { SamePlaces (place_bound self.old) (place_bound self.new) }
+        ensures labels { length self.new.labels.items ≡ length self.old.labels.items }
+    {
+        self.labels.reserve(count).map_err(|_| SinkError::NoMemory)
+    }
+
     /// The next label, with a place for its binding.
     pub fn new_label(&mut self) -> Result<Label, SinkError>
         ensures number { IfOk result (λ label. label.0 ≡ length self.old.labels.items) }
         ensures count { length self.new.labels.items ≡ length self.old.labels.items + (if is_ok result then 1 else 0) }
         ensures full { (result ≡ Err SinkError.Full) ↔ (length self.old.labels.items ≡ u32.MAX) }
+        ensures enough { 1 ≤ spare_labels self.old → IfErr result (λ e. e ≡ SinkError.Full) }
+        ensures spare { spare_labels self.old ≤ spare_labels self.new + (if is_ok result then 1 else 0) }
         ensures places { SamePlaces (place_bound self.old) (place_bound self.new) }
     {
         if self.labels.len() == u32::MAX as usize {
             return Err(SinkError::Full);
         }
         let label = Label(self.labels.len() as u32);
-        if self.labels.capacity() == 0 {
-            // A block of its own for each of the first labels would cost more. Where it's refused, a smaller one may not be.
-            let _ = self.labels.reserve(FIRST_LABELS);
-        }
         self.labels.push(None).map_err(|_| SinkError::NoMemory)?;
         Ok(label)
     }
@@ -107,6 +116,7 @@ impl<A: Allocator> Bindings<A> {
         ensures binds { OnOk result (AddsBinding (DeferredTarget.Label label) place (place_bound self.old) (place_bound self.new)) }
         ensures unchanged { OnErr result (SamePlaces (place_bound self.old) (place_bound self.new)) }
         ensures labels { length self.new.labels.items ≡ length self.old.labels.items }
+        ensures spare { spare_labels self.new ≡ spare_labels self.old }
     {
         let number = label.0 as usize;
         if number >= self.labels.len() {
@@ -118,43 +128,49 @@ impl<A: Allocator> Bindings<A> {
         self.labels[number] = Some(place);
         Ok(())
     }
+
+    /// Forgets all labels and constants, and keeps the memory.
+    pub fn clear(&mut self)
+        ensures places { (target : DeferredTarget) → place_bound self.new target ≡ None }
+        ensures labels { length self.new.labels.items ≡ 0 }
+        ensures spare { spare_labels self.new ≡ spare_labels self.old + length self.old.labels.items }
+    {
+        self.labels.clear();
+        self.listed.clear();
+        self.others.clear();
+    }
 }
 
 impl<A: Allocator + Clone> Bindings<A> {
-    ghost use Rattle.x64_code_buffer.specs.Binding.{place_bound, SamePlaces, AddsBinding};
+    ghost use Rattle.x64_code_buffer.specs.Binding.{place_bound, spare_labels, SamePlaces, AddsBinding};
     ghost use Rattle.cax64_sink.specs.declared.DeferredTarget.{DeferredTarget};
 
-    /// Binds a constant to a place.
+    /// Binds a constant to a place. Where the list can't grow, the map has it.
     pub fn bind_constant(&mut self, constant: Constant, place: usize) -> Result<(), BindError>
         ensures answer { MatchOption (place_bound self.old (DeferredTarget.Constant constant)) ((result ≡ Ok tt) ⊎ (result ≡ Err BindError.NoMemory)) (λ _. result ≡ Err BindError.Twice) }
         ensures binds { OnOk result (AddsBinding (DeferredTarget.Constant constant) place (place_bound self.old) (place_bound self.new)) }
         ensures unchanged { OnErr result (SamePlaces (place_bound self.old) (place_bound self.new)) }
         ensures labels { length self.new.labels.items ≡ length self.old.labels.items }
+        ensures spare { spare_labels self.new ≡ spare_labels self.old }
     {
         let key = constant.0 as usize;
-        if key < SMALL || key <= self.listed.len() {
-            self.list_constant(constant, place)
-        } else {
-            self.bind_other(constant, place)
+        if key.saturating_sub(self.listed.len()) < NEAR {
+            if self.constant_place(constant).is_some() {
+                return Err(BindError::Twice);
+            }
+            if self.list_up_to(key).is_ok() {
+                self.listed[key] = Some(place);
+                return Ok(());
+            }
         }
-    }
-
-    /// Binds a constant that the list is to have. Where the list can't grow, the map has it.
-    fn list_constant(&mut self, constant: Constant, place: usize) -> Result<(), BindError>
-        ensures answer { MatchOption (place_bound self.old (DeferredTarget.Constant constant)) ((result ≡ Ok tt) ⊎ (result ≡ Err BindError.NoMemory)) (λ _. result ≡ Err BindError.Twice) }
-        ensures binds { OnOk result (AddsBinding (DeferredTarget.Constant constant) place (place_bound self.old) (place_bound self.new)) }
-        ensures unchanged { OnErr result (SamePlaces (place_bound self.old) (place_bound self.new)) }
-        ensures labels { length self.new.labels.items ≡ length self.old.labels.items }
-    {
-        if self.constant_place(constant).is_some() {
-            return Err(BindError::Twice);
+        match self.others.insert(constant.0, place) {
+            Ok(None) => Ok(()),
+            Ok(Some(bound)) => {
+                let _ = self.others.insert(constant.0, bound);
+                Err(BindError::Twice)
+            }
+            Err(_) => Err(BindError::NoMemory),
         }
-        let key = constant.0 as usize;
-        if self.list_up_to(key).is_err() {
-            return self.bind_other(constant, place);
-        }
-        self.listed[key] = Some(place);
-        Ok(())
     }
 
     /// Makes the list long enough for a key.
@@ -164,28 +180,11 @@ impl<A: Allocator + Clone> Bindings<A> {
         ensures short { OnErr result (length self.new.listed.items ≤ key) }
         ensures places { SamePlaces (place_bound self.old) (place_bound self.new) }
         ensures labels { length self.new.labels.items ≡ length self.old.labels.items }
+        ensures spare { spare_labels self.new ≡ spare_labels self.old }
     {
         if key < self.listed.len() {
             return Ok(());
         }
         self.listed.resize(key + 1, None)
-    }
-
-    /// Binds a constant that the map is to have. One that it has gets its place back.
-    fn bind_other(&mut self, constant: Constant, place: usize) -> Result<(), BindError>
-        requires { length self.old.listed.items ≤ constant.0 }
-        ensures answer { MatchOption (place_bound self.old (DeferredTarget.Constant constant)) ((result ≡ Ok tt) ⊎ (result ≡ Err BindError.NoMemory)) (λ _. result ≡ Err BindError.Twice) }
-        ensures binds { OnOk result (AddsBinding (DeferredTarget.Constant constant) place (place_bound self.old) (place_bound self.new)) }
-        ensures unchanged { OnErr result (SamePlaces (place_bound self.old) (place_bound self.new)) }
-        ensures labels { length self.new.labels.items ≡ length self.old.labels.items }
-    {
-        match self.others.insert(constant.0, place) {
-            Ok(None) => Ok(()),
-            Ok(Some(bound)) => {
-                let _ = self.others.insert(constant.0, bound);
-                Err(BindError::Twice)
-            }
-            Err(_) => Err(BindError::NoMemory),
-        }
     }
 }

@@ -1,14 +1,15 @@
 //! The buffer, its labels and constants, and its end.
 
-ghost use Rattle.std.specs.Prelude.{◌≡◌, ◌↔◌, ◌+◌, ◌⊎◌, ◌≤◌, ℕ, [], Some, None, Ok, Err, IsOk, IsTrue, List, ◌∷◌, IfOk, IfErr, OnOk, OnErr, All, MatchOption, if◌then◌else◌, is_ok, length, slice_index, take};
+ghost use Rattle.std.specs.Prelude.{◌≡◌, ◌↔◌, refl, ◌+◌, ◌⊎◌, ◌≤◌, ℕ, [], Some, None, Ok, Err, IsOk, IsTrue, List, ◌∷◌, IfOk, IfErr, OnOk, OnErr, All, MatchOption, if◌then◌else◌, is_ok, length, slice_index, take};
 ghost use Rattle.std.specs.Int.{to_le_bytes, w16, w32, w64};
-ghost use Rattle.cax64_encoder.specs.Instruction.{can_encode_in, Adds};
+ghost use Rattle.cax64_encoder.specs.Instruction.{can_encode_in, len_in, notices_in, Adds};
 ghost use Rattle.cax64_machine_code.specs.declared.reading.Reading.{Reading};
 ghost use Rattle.cax64_sink.specs.Call.{Step, put, trap, target};
 ghost use Rattle.cax64_sink.specs.Keeps.{Keeps};
 ghost use Rattle.cax64_sink.specs.Puts.{puts};
 ghost use Rattle.cax64_sink.specs.Recorder.{with_offset};
-ghost use Rattle.cax64_sink.specs.Room.{HasRoom, count};
+ghost use Rattle.cax64_sink.specs.Rest.{RanRoomier, is_imm_len, rest_actions};
+ghost use Rattle.cax64_sink.specs.Room.{HasRoom, FallsBy, count};
 ghost use Rattle.cax64_sink.specs.Run.{Ran};
 ghost use Rattle.cax64_sink.specs.declared.DeferredTarget.{DeferredTarget};
 ghost use Rattle.cax64_sink.specs.declared.SinkError.{SinkError};
@@ -18,6 +19,7 @@ use crate::bindings::Bindings;
 use crate::errors::{BindError, FinishError};
 use crate::patch::patch_uses;
 use crate::refusal::first_refusal;
+use crate::room::make_first_room;
 use cax64_encoder::instruction::Instruction;
 use cax64_sink::{
     CodeSink, Constant, DeferredTarget, KnownOffset, Label, Notice, Recorder, SinkError, TrapCode,
@@ -29,10 +31,12 @@ use std::alloc::Allocator;
 pub struct CodeBuffer<A: Allocator> {
     recorder: Recorder<A>,
     bindings: Bindings<A>,
+    /// Whether no room was asked for yet, by the caller or by an instruction.
+    is_fresh: bool,
 }
 
 impl<A: Allocator + Copy> CodeBuffer<A> {
-    ghost use Rattle.x64_code_buffer.specs.Buffer.{buffer_state, label_count, places_of};
+    ghost use Rattle.x64_code_buffer.specs.Buffer.{buffer_state, label_count, label_room, places_of};
     ghost use Rattle.x64_code_buffer.specs.Filled.{Filled};
 
     /// An empty buffer that knows no offset, gave no label and bound nothing. Takes no memory.
@@ -43,19 +47,22 @@ impl<A: Allocator + Copy> CodeBuffer<A> {
         ensures byte_room { (buffer_state result).byte_room ≡ count 0 }
         ensures notice_room { (buffer_state result).notice_room ≡ count 0 }
         ensures labels { label_count result ≡ 0 }
+        ensures label_room { label_room result ≡ 0 }
         ensures places { (target : DeferredTarget) → places_of result target ≡ None }
         ensures filled { Filled [] 0 (buffer_state result) (places_of result) }
     {
         CodeBuffer {
             recorder: Recorder::new(alloc),
             bindings: Bindings::new(alloc),
+            is_fresh: true,
         }
     }
 }
 
 impl<A: Allocator> CodeBuffer<A> {
     ghost use Rattle.x64_code_buffer.specs.Binding.{SamePlaces, AddsBinding, bind_answer};
-    ghost use Rattle.x64_code_buffer.specs.Buffer.{AsBefore, StaysFilled, buffer_state, label_count, places_of};
+    ghost use Rattle.cax64_sink.specs.Cleared.{cleared};
+    ghost use Rattle.x64_code_buffer.specs.Buffer.{AsBefore, StaysFilled, buffer_state, label_count, label_room, places_of};
     ghost use Rattle.x64_code_buffer.specs.Filled.{Filled, FilledOn, Finished};
     ghost use Rattle.x64_code_buffer.specs.Use.{uses_of, links, first_refusal, EachApart, IsOutside, IsPatched};
 
@@ -63,6 +70,7 @@ impl<A: Allocator> CodeBuffer<A> {
     pub fn set_offset(&mut self, offset: KnownOffset, value: i32)
         ensures state { buffer_state self.new ≡ with_offset offset value (buffer_state self.old) }
         ensures labels { label_count self.new ≡ label_count self.old }
+        ensures label_room { label_room self.new ≡ label_room self.old }
         ensures places { SamePlaces (places_of self.old) (places_of self.new) }
         ensures filled { StaysFilled self.old self.new }
     {
@@ -91,12 +99,46 @@ impl<A: Allocator> CodeBuffer<A> {
         self.bindings.place_of(target)
     }
 
+    /// Makes room for so many more bytes and notices, as [`Recorder::reserve`] does. An instruction has up to 13 bytes, and a
+    /// notice.
+    pub fn reserve(&mut self, bytes: usize, notices: usize) -> Result<(), SinkError>
+        ensures room_for_bytes { OnOk result (HasRoom (buffer_state self.new).byte_room bytes) }
+        ensures room_for_notices { OnOk result (HasRoom (buffer_state self.new).notice_room notices) }
+        ensures as_before { AsBefore (buffer_state self.old) (buffer_state self.new) }
+        ensures succeeds { HasRoom (buffer_state self.old).byte_room bytes → HasRoom (buffer_state self.old).notice_room notices → IsOk result }
+        ensures no_memory { IfErr result (λ e. e ≡ SinkError.NoMemory) }
+        ensures keeps { Keeps (buffer_state self.old) (buffer_state self.new) }
+        ensures labels { label_count self.new ≡ label_count self.old }
+        ensures label_room { label_room self.new ≡ label_room self.old }
+        ensures places { SamePlaces (places_of self.old) (places_of self.new) }
+        ensures filled { StaysFilled self.old self.new }
+    {
+        self.is_fresh = false;
+        self.recorder.reserve(bytes, notices)
+    }
+
+    /// Makes room for so many more labels.
+    pub fn reserve_labels(&mut self, count: usize) -> Result<(), SinkError>
+        ensures room { OnOk result (count ≤ label_room self.new) }
+        ensures room_stays { label_room self.old ≤ label_room self.new }
+        ensures succeeds { count ≤ label_room self.old → IsOk result }
+        ensures no_memory { IfErr result (λ e. e ≡ SinkError.NoMemory) }
+        ensures labels { label_count self.new ≡ label_count self.old }
+        ensures state { buffer_state self.new ≡ buffer_state self.old }
+        ensures places { SamePlaces (places_of self.old) (places_of self.new) }
+        ensures filled { StaysFilled self.old self.new }
+    {
+        self.bindings.reserve_labels(count)
+    }
+
     /// The next label: `Label(0)`, `Label(1)` and so on. Makes room for its place, so that [`bind`](Self::bind) takes no
     /// memory. Takes constant time, over many labels.
     pub fn new_label(&mut self) -> Result<Label, SinkError>
         ensures number { IfOk result (λ label. label.0 ≡ label_count self.old) }
         ensures labels { label_count self.new ≡ label_count self.old + (if is_ok result then 1 else 0) }
         ensures full { (result ≡ Err SinkError.Full) ↔ (label_count self.old ≡ u32.MAX) }
+        ensures enough { 1 ≤ label_room self.old → IfErr result (λ e. e ≡ SinkError.Full) }
+        ensures label_room { label_room self.old ≤ label_room self.new + (if is_ok result then 1 else 0) }
         ensures state { buffer_state self.new ≡ buffer_state self.old }
         ensures places { SamePlaces (places_of self.old) (places_of self.new) }
         ensures filled { StaysFilled self.old self.new }
@@ -110,6 +152,7 @@ impl<A: Allocator> CodeBuffer<A> {
         ensures binds { OnOk result (AddsBinding (DeferredTarget.Label label) (length (buffer_state self.old).bytes) (places_of self.old) (places_of self.new)) }
         ensures unchanged { OnErr result (SamePlaces (places_of self.old) (places_of self.new)) }
         ensures labels { label_count self.new ≡ label_count self.old }
+        ensures label_room { label_room self.new ≡ label_room self.old }
         ensures state { buffer_state self.new ≡ buffer_state self.old }
         ensures filled { StaysFilled self.old self.new }
     {
@@ -119,21 +162,28 @@ impl<A: Allocator> CodeBuffer<A> {
 
     /// Puts an instruction, and tells of its trap or target.
     ///
-    /// It makes room for thirteen bytes and a notice first, so a refusal leaves all as it was but the rooms. Takes constant
-    /// time, over many instructions.
+    /// It makes room for thirteen bytes and a notice first, so a refusal leaves all as it was but the rooms. Where no byte was
+    /// put yet it asks for 64, and does with thirteen where these are refused. Takes constant time, over many instructions.
     pub fn push<I: Instruction>(&mut self, inst: &I) -> Result<(), SinkError>
         requires { IsTrue (can_encode_in (buffer_state self.old) (I.meant inst.now)) }
         ensures adds { OnOk result (Adds (I.meant inst.now) (buffer_state self.old) (buffer_state self.new)) }
         ensures unchanged { OnErr result (AsBefore (buffer_state self.old) (buffer_state self.new)) }
         ensures error { IfErr result (λ e. e ≡ SinkError.NoMemory) }
         ensures enough { HasRoom (buffer_state self.old).byte_room 13 → HasRoom (buffer_state self.old).notice_room 1 → IsOk result }
+        ensures byte_room { FallsBy (buffer_state self.old).byte_room (buffer_state self.new).byte_room (len_in (buffer_state self.old) (I.meant inst.now)) }
+        ensures notice_room { FallsBy (buffer_state self.old).notice_room (buffer_state self.new).notice_room (notices_in (buffer_state self.old) (I.meant inst.now)) }
+        ensures most_bytes { OnOk result (len_in (buffer_state self.old) (I.meant inst.now) ≤ 13) }
+        ensures most_notices { notices_in (buffer_state self.old) (I.meant inst.now) ≤ 1 }
         ensures keeps { Keeps (buffer_state self.old) (buffer_state self.new) }
         ensures labels { label_count self.new ≡ label_count self.old }
+        ensures label_room { label_room self.new ≡ label_room self.old }
         ensures places { SamePlaces (places_of self.old) (places_of self.new) }
         ensures filled { let meant = (I.meant inst.now (buffer_state self.old).offsets).parts in (readings : List Reading) → Filled readings (length (buffer_state self.old).bytes) (buffer_state self.old) (places_of self.old) → OnOk result (FilledOn meant readings (buffer_state self.new) (places_of self.new)) }
         ensures refused { OnErr result (StaysFilled self.old self.new) }
     {
-        self.recorder.reserve(13, 1)?;
+        make_first_room(&mut self.recorder, self.is_fresh);
+        self.is_fresh = false;
+        self.recorder.reserve_ahead(13, 1)?;
         inst.encode(&mut self.recorder)
     }
 
@@ -155,19 +205,71 @@ impl<A: Allocator> CodeBuffer<A> {
         let CodeBuffer {
             mut recorder,
             bindings,
+            is_fresh,
         } = self;
         let refusal = first_refusal(&bindings, recorder.bytes(), recorder.notices());
         if let Some(error) = refusal {
-            return Err((CodeBuffer { recorder, bindings }, error));
+            return Err((
+                CodeBuffer {
+                    recorder,
+                    bindings,
+                    is_fresh,
+                },
+                error,
+            ));
         }
         patch_uses(&mut recorder, &bindings);
         Ok(recorder.into_bytes())
+    }
+
+    /// As [`finish`](Self::finish), and the buffer stays: with the patched bytes, the offsets, the labels and what is bound,
+    /// but without the notices, which are to be read before. So there is no use left that a second call could patch.
+    pub fn finish_in_place(&mut self) -> Result<(), FinishError>
+        ensures ok { IsOk result ↔ (first_refusal (places_of self.old) (buffer_state self.old).bytes (uses_of (buffer_state self.old).notices) ≡ None) }
+        ensures refused { IfErr result (λ e. first_refusal (places_of self.old) (buffer_state self.old).bytes (uses_of (buffer_state self.old).notices) ≡ Some e) }
+        ensures unchanged { OnErr result (self.new ≡ self.old) }
+        ensures length { length (buffer_state self.new).bytes ≡ length (buffer_state self.old).bytes }
+        ensures fields { EachApart (links (uses_of (buffer_state self.old).notices)) → OnOk result (All (IsPatched (places_of self.old) (buffer_state self.old).bytes (buffer_state self.new).bytes) (links (uses_of (buffer_state self.old).notices))) }
+        ensures others { (i : ℕ) → All (IsOutside i) (links (uses_of (buffer_state self.old).notices)) → OnOk result (slice_index (buffer_state self.new).bytes i ≡ slice_index (buffer_state self.old).bytes i) }
+        ensures finished { (readings : List Reading) (n : ℕ) → Filled readings n (buffer_state self.old) (places_of self.old) → OnOk result (Finished readings n (buffer_state self.old) (places_of self.old) (buffer_state self.new).bytes) }
+        ensures notices { OnOk result ((buffer_state self.new).notices ≡ []) }
+        ensures byte_room { (buffer_state self.new).byte_room ≡ (buffer_state self.old).byte_room }
+        ensures notice_room { FallsBy (buffer_state self.old).notice_room (buffer_state self.new).notice_room 0 }
+        ensures keeps { Keeps (buffer_state self.old) (buffer_state self.new) }
+        ensures labels { label_count self.new ≡ label_count self.old }
+        ensures label_room { label_room self.new ≡ label_room self.old }
+        ensures places { SamePlaces (places_of self.old) (places_of self.new) }
+    {
+        let refused = first_refusal(
+            &self.bindings,
+            self.recorder.bytes(),
+            self.recorder.notices(),
+        );
+        if let Some(error) = refused {
+            return Err(error);
+        }
+        patch_uses(&mut self.recorder, &self.bindings);
+        self.recorder.clear_notices();
+        Ok(())
+    }
+
+    /// Forgets the bytes, the notices, the labels and the constants, and keeps the offsets that were set and all memory. The
+    /// next label is `Label(0)`.
+    pub fn clear(&mut self)
+        ensures state { buffer_state self.new ≡ cleared (buffer_state self.old) }
+        ensures labels { label_count self.new ≡ 0 }
+        ensures label_room { label_room self.new ≡ label_room self.old + label_count self.old }
+        ensures places { (target : DeferredTarget) → places_of self.new target ≡ None }
+        ensures filled { Filled [] 0 (buffer_state self.new) (places_of self.new) }
+    {
+        self.recorder.clear();
+        self.bindings.clear();
     }
 }
 
 impl<A: Allocator + Clone> CodeBuffer<A> {
     ghost use Rattle.x64_code_buffer.specs.Binding.{SamePlaces, AddsBinding};
-    ghost use Rattle.x64_code_buffer.specs.Buffer.{StaysFilled, buffer_state, label_count, places_of};
+    ghost use Rattle.x64_code_buffer.specs.Buffer.{StaysFilled, buffer_state, label_count, label_room, places_of};
 
     /// Binds a constant, a key of the caller's, to the present number of bytes. That it is bound already is found before
     /// memory is asked for. Takes as long as a hash map takes to insert a key.
@@ -176,6 +278,7 @@ impl<A: Allocator + Clone> CodeBuffer<A> {
         ensures binds { OnOk result (AddsBinding (DeferredTarget.Constant constant) (length (buffer_state self.old).bytes) (places_of self.old) (places_of self.new)) }
         ensures unchanged { OnErr result (SamePlaces (places_of self.old) (places_of self.new)) }
         ensures labels { label_count self.new ≡ label_count self.old }
+        ensures label_room { label_room self.new ≡ label_room self.old }
         ensures state { buffer_state self.new ≡ buffer_state self.old }
         ensures filled { StaysFilled self.old self.new }
     {
@@ -186,13 +289,21 @@ impl<A: Allocator + Clone> CodeBuffer<A> {
 
 impl<A: Allocator> CodeSink for CodeBuffer<A> {
     ghost use Rattle.x64_code_buffer.specs.Binding.{SamePlaces};
-    ghost use Rattle.x64_code_buffer.specs.Buffer.{StaysFilled, buffer_state, label_count, places_of};
+    ghost use Rattle.x64_code_buffer.specs.Buffer.{KeepsLabels, StaysFilled, buffer_state, keeps_labels_on, label_count, label_room, places_of};
 
     ghost state = { buffer_state };
 
+    ghost may_become = { KeepsLabels };
+
+    ghost may_stay = { λ _. record { labels = refl; label_room = refl; places = λ _. refl } };
+
+    ghost may_go_on = { keeps_labels_on };
+
     fn put1(&mut self, value: u8) -> Result<(), SinkError>
         ensures step { Step (put (value ∷ [])) (buffer_state self.old) (buffer_state self.new) result }
+        ensures beside { KeepsLabels self.old self.new }
         ensures labels { label_count self.new ≡ label_count self.old }
+        ensures label_room { label_room self.new ≡ label_room self.old }
         ensures places { SamePlaces (places_of self.old) (places_of self.new) }
         ensures filled { StaysFilled self.old self.new }
     {
@@ -201,7 +312,9 @@ impl<A: Allocator> CodeSink for CodeBuffer<A> {
 
     fn put2(&mut self, value: u16) -> Result<(), SinkError>
         ensures step { Step (put (to_le_bytes w16 value)) (buffer_state self.old) (buffer_state self.new) result }
+        ensures beside { KeepsLabels self.old self.new }
         ensures labels { label_count self.new ≡ label_count self.old }
+        ensures label_room { label_room self.new ≡ label_room self.old }
         ensures places { SamePlaces (places_of self.old) (places_of self.new) }
         ensures filled { StaysFilled self.old self.new }
     {
@@ -210,7 +323,9 @@ impl<A: Allocator> CodeSink for CodeBuffer<A> {
 
     fn put4(&mut self, value: u32) -> Result<(), SinkError>
         ensures step { Step (put (to_le_bytes w32 value)) (buffer_state self.old) (buffer_state self.new) result }
+        ensures beside { KeepsLabels self.old self.new }
         ensures labels { label_count self.new ≡ label_count self.old }
+        ensures label_room { label_room self.new ≡ label_room self.old }
         ensures places { SamePlaces (places_of self.old) (places_of self.new) }
         ensures filled { StaysFilled self.old self.new }
     {
@@ -219,7 +334,9 @@ impl<A: Allocator> CodeSink for CodeBuffer<A> {
 
     fn put8(&mut self, value: u64) -> Result<(), SinkError>
         ensures step { Step (put (to_le_bytes w64 value)) (buffer_state self.old) (buffer_state self.new) result }
+        ensures beside { KeepsLabels self.old self.new }
         ensures labels { label_count self.new ≡ label_count self.old }
+        ensures label_room { label_room self.new ≡ label_room self.old }
         ensures places { SamePlaces (places_of self.old) (places_of self.new) }
         ensures filled { StaysFilled self.old self.new }
     {
@@ -230,16 +347,32 @@ impl<A: Allocator> CodeSink for CodeBuffer<A> {
         requires least { 1 ≤ count }
         requires most { count ≤ 8 }
         ensures run { Ran (puts (take count (to_le_bytes w64 word))) (buffer_state self.old) (buffer_state self.new) result }
+        ensures beside { KeepsLabels self.old self.new }
         ensures labels { label_count self.new ≡ label_count self.old }
+        ensures label_room { label_room self.new ≡ label_room self.old }
         ensures places { SamePlaces (places_of self.old) (places_of self.new) }
         ensures filled { StaysFilled self.old self.new }
     {
         self.recorder.put_low_bytes(word, count)
     }
 
+    fn put_rest(&mut self, long: Option<u32>, imm: u32, imm_len: u8) -> Result<(), SinkError>
+        requires { IsTrue (is_imm_len imm_len) }
+        ensures run { RanRoomier (rest_actions long imm_len imm) (buffer_state self.old) (buffer_state self.new) result }
+        ensures beside { KeepsLabels self.old self.new }
+        ensures labels { label_count self.new ≡ label_count self.old }
+        ensures label_room { label_room self.new ≡ label_room self.old }
+        ensures places { SamePlaces (places_of self.old) (places_of self.new) }
+        ensures filled { StaysFilled self.old self.new }
+    {
+        self.recorder.put_rest(long, imm, imm_len)
+    }
+
     fn add_trap(&mut self, code: TrapCode) -> Result<(), SinkError>
         ensures step { Step (trap code) (buffer_state self.old) (buffer_state self.new) result }
+        ensures beside { KeepsLabels self.old self.new }
         ensures labels { label_count self.new ≡ label_count self.old }
+        ensures label_room { label_room self.new ≡ label_room self.old }
         ensures places { SamePlaces (places_of self.old) (places_of self.new) }
         ensures filled { StaysFilled self.old self.new }
     {
@@ -248,7 +381,9 @@ impl<A: Allocator> CodeSink for CodeBuffer<A> {
 
     fn use_target(&mut self, place: DeferredTarget) -> Result<(), SinkError>
         ensures step { Step (target place) (buffer_state self.old) (buffer_state self.new) result }
+        ensures beside { KeepsLabels self.old self.new }
         ensures labels { label_count self.new ≡ label_count self.old }
+        ensures label_room { label_room self.new ≡ label_room self.old }
         ensures places { SamePlaces (places_of self.old) (places_of self.new) }
     {
         self.recorder.use_target(place)

@@ -3,18 +3,13 @@
 pub(crate) mod functions;
 pub(crate) mod listings;
 pub(crate) mod lists;
-mod notices;
 pub(crate) mod reading;
 mod readings;
+pub(crate) mod stubs;
 
-use crate::maker::Maker;
-use crate::source::Source;
 use std::alloc::{AllocError, Global};
-
-/// For any type, since that is less to prove than for an `Inst`.
-fn push<T: Drop>(list: &mut Vec<T>, item: T) -> Result<(), AllocError> {
-    list.push(item).map_err(|_| AllocError)
-}
+use workload_source::maker::Maker;
+use workload_source::source::{Source, push};
 
 /// So many instructions.
 fn list_of<S: Source>(

@@ -4,31 +4,26 @@
 //! The words are a job, how often it is done and the seed. Without words each job is done a little.
 #![tactic(auto)]
 
-mod digest;
-mod homes;
 mod jobs;
-mod kinds;
-mod maker;
-mod random;
-mod registers;
-mod source;
 
-use crate::digest::Digest;
 use crate::jobs::functions::{functions, large_functions, small_functions};
 use crate::jobs::listings::listings;
 use crate::jobs::lists::lists;
 use crate::jobs::reading::reading;
-use crate::registers::Regs;
+use crate::jobs::stubs::stubs;
 use cranelift_assembler_x64::{Numbers, SinkError};
 use std::alloc::Global;
 use std::process::ExitCode;
 use std::{env, io};
+use workload_source::digest::Digest;
+use workload_source::registers::Regs;
 
 /// A job.
 #[derive(Clone, Copy)]
 enum Job {
     Functions,
     SmallFunctions,
+    Stubs,
     LargeFunctions,
     Lists,
     Reading,
@@ -36,9 +31,10 @@ enum Job {
 }
 
 /// Each job, and how often it is done where no words are given.
-const JOBS: [(Job, u32); 6] = [
+const JOBS: [(Job, u32); 7] = [
     (Job::Functions, 4),
     (Job::SmallFunctions, 20),
+    (Job::Stubs, 100),
     (Job::LargeFunctions, 1),
     (Job::Lists, 2),
     (Job::Reading, 1),
@@ -50,6 +46,7 @@ impl Job {
         match self {
             Job::Functions => "functions",
             Job::SmallFunctions => "small_functions",
+            Job::Stubs => "stubs",
             Job::LargeFunctions => "large_functions",
             Job::Lists => "lists",
             Job::Reading => "reading",
@@ -70,6 +67,7 @@ impl Job {
         match self {
             Job::Functions => functions::<Regs>(alloc, count, seed),
             Job::SmallFunctions => small_functions::<Regs>(alloc, count, seed),
+            Job::Stubs => stubs::<Regs>(alloc, count, seed),
             Job::LargeFunctions => large_functions::<Regs>(alloc, count, seed),
             Job::Lists => lists::<Regs>(alloc, count, seed),
             Job::Reading => reading::<Regs>(alloc, count, seed),

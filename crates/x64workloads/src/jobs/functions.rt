@@ -1,17 +1,17 @@
 //! Functions from virtual registers to patched code.
 
-use crate::digest::Digest;
-use crate::homes::Homes;
-use crate::jobs::notices::digest_notices;
-use crate::jobs::{function_length, push};
-use crate::maker::{Maker, OFFSETS};
-use crate::random::Random;
-use crate::registers::PlainFamily;
-use crate::source::Source;
+use crate::jobs::function_length;
 use cranelift_assembler_x64::{
     CodeSink, Constant, Fault, Instruction, Label, RowAndOperands, SinkError,
 };
 use std::alloc::{AllocError, Global};
+use workload_source::digest::Digest;
+use workload_source::homes::{Homes, assign};
+use workload_source::maker::{Maker, OFFSETS};
+use workload_source::notices::digest_notices;
+use workload_source::random::Random;
+use workload_source::source::{Source, push};
+use workload_source::stub::{bind, push_if_encodable};
 use x64_code_buffer::{CodeBuffer, FinishError};
 
 /// A function that is to be made.
@@ -74,18 +74,6 @@ fn digest_fault(digest: &mut Digest, fault: Fault) {
     }
 }
 
-fn push_if_encodable<I: RowAndOperands>(
-    buffer: &mut CodeBuffer<Global>,
-    inst: &I,
-    digest: &mut Digest,
-) -> Result<(), SinkError> {
-    if inst.is_encodable(&*buffer) {
-        return buffer.push(inst);
-    }
-    digest.word(0);
-    Ok(())
-}
-
 fn push_or_tell<I: RowAndOperands>(
     buffer: &mut CodeBuffer<Global>,
     inst: &I,
@@ -97,12 +85,6 @@ fn push_or_tell<I: RowAndOperands>(
             digest_fault(digest, fault);
             Ok(())
         }
-    }
-}
-
-fn bind(buffer: &mut CodeBuffer<Global>, label: Label, digest: &mut Digest) {
-    if buffer.bind(label).is_err() {
-        digest.word(1);
     }
 }
 
@@ -155,7 +137,7 @@ fn digest_error(digest: &mut Digest, error: FinishError) {
     }
 }
 
-fn finish(buffer: CodeBuffer<Global>, digest: &mut Digest) {
+pub(crate) fn finish(buffer: CodeBuffer<Global>, digest: &mut Digest) {
     digest_notices(digest, buffer.notices());
     match buffer.finish() {
         Ok(code) => digest.bytes(code.as_slice()),
@@ -197,16 +179,6 @@ fn renew<S: Source>(
     Ok(())
 }
 
-/// Assigns a home to each register.
-fn assign<I: RowAndOperands>(insts: &mut [I], homes: &mut Homes)
-where
-    I::Family: PlainFamily,
-{
-    for inst in insts {
-        Instruction::visit(inst, homes);
-    }
-}
-
 /// One function, from instructions over virtual registers to patched code. `insts` holds those of the functions before it.
 fn make_function<S: Source>(
     alloc: Global,
@@ -242,7 +214,7 @@ pub(crate) fn functions<S: Source>(
     count: u32,
     seed: u64,
 ) -> Result<Digest, SinkError> {
-    let mut maker = of_virtual(seed, 1);
+    let mut maker = Maker::of_virtual(seed, 1);
     let mut digest = Digest::new();
     let mut insts = Vec::new(alloc);
     for number in 0..count {
@@ -264,7 +236,7 @@ pub(crate) fn small_functions<S: Source>(
     count: u32,
     seed: u64,
 ) -> Result<Digest, SinkError> {
-    let mut maker = of_virtual(seed, 1);
+    let mut maker = Maker::of_virtual(seed, 1);
     let mut digest = Digest::new();
     let mut insts = Vec::new(alloc);
     let plan = Plan {
@@ -286,7 +258,7 @@ pub(crate) fn large_functions<S: Source>(
     count: u32,
     seed: u64,
 ) -> Result<Digest, SinkError> {
-    let mut maker = of_virtual(seed, 0x9E37_79B1);
+    let mut maker = Maker::of_virtual(seed, 0x9E37_79B1);
     let mut digest = Digest::new();
     let mut insts = Vec::new(alloc);
     for number in 0..count {
@@ -300,17 +272,4 @@ pub(crate) fn large_functions<S: Source>(
         make_function::<S>(alloc, &plan, &mut insts, &mut maker, &mut digest)?;
     }
     Ok(digest)
-}
-
-/// What makes operands of virtual registers.
-fn of_virtual(seed: u64, spread: u32) -> Maker {
-    Maker {
-        random: Random::new(seed),
-        first_register: 16,
-        has_late_offsets: true,
-        labels: u32::MAX,
-        label: 0,
-        constants: 1,
-        spread,
-    }
 }

@@ -1,12 +1,12 @@
 //! Texts of instructions.
 
-use crate::digest::Digest;
 use crate::jobs::list_of;
-use crate::maker::Maker;
-use crate::random::Random;
-use crate::source::Source;
 use cranelift_assembler_x64::{InstructionText, RowAndOperands};
 use std::alloc::{AllocError, Global};
+use workload_source::digest::Digest;
+use workload_source::maker::Maker;
+use workload_source::random::Random;
+use workload_source::source::Source;
 
 /// How many instructions are made at a time.
 const LENGTH: usize = 500;

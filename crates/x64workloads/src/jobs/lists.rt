@@ -1,16 +1,16 @@
 //! Lists of instructions put at once, into each kind of sink.
 
-use crate::digest::Digest;
-use crate::jobs::notices::digest_notices;
 use crate::jobs::{function_length, list_of};
-use crate::maker::Maker;
-use crate::random::Random;
-use crate::source::Source;
 use cranelift_assembler_x64::{
     FixedSink, Recorder, Refused, RowAndOperands, SinkError, all_encodable, encode_each,
     encode_each_whole,
 };
 use std::alloc::Global;
+use workload_source::digest::Digest;
+use workload_source::maker::Maker;
+use workload_source::notices::digest_notices;
+use workload_source::random::Random;
+use workload_source::source::Source;
 
 fn digest_refusal(digest: &mut Digest, refused: Result<(), Refused>) {
     let Err(refused) = refused else {

@@ -1,13 +1,13 @@
 //! Code that is read back, and bytes that are read from every offset.
 
-use crate::digest::Digest;
 use crate::jobs::list_of;
 use crate::jobs::readings::read_front;
-use crate::maker::Maker;
-use crate::random::Random;
-use crate::source::Source;
 use cranelift_assembler_x64::{RowAndOperands, SinkError, all_encodable, encode_each};
 use std::alloc::{AllocError, Global};
+use workload_source::digest::Digest;
+use workload_source::maker::Maker;
+use workload_source::random::Random;
+use workload_source::source::Source;
 
 /// How many instructions are made at a time.
 const LENGTH: usize = 1_000;

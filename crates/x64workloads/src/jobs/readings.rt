@@ -1,7 +1,7 @@
 //! Digests of readings.
 
-use crate::digest::Digest;
 use cranelift_assembler_x64::reader::{Place, Reading, RegView, read_inst};
+use workload_source::digest::Digest;
 
 fn view_number(view: RegView) -> u64 {
     match view {

@@ -1,7 +1,5 @@
-use Rattle.std.proofs.Common.{arith}
-use Rattle.std.proofs.lemmas.Result.{on_ok_weaker}
-use Rattle.cax64_address.proofs.NumberDigits.{add_eight}
+use Rattle.cax64_address.proofs.Fronts.{taken_utf8}
 use Rattle.cax64_address.proofs.number.push_hex_digits.Goals as goal
 
-pub returns : goal.returns
-returns g c = on_ok_weaker _ (add_eight _ _ _ c.args.number (omega arith) (omega arith) c.in_ok-push_hex32.ensures) c.push_eight.ensures
+pub or_taken_back-requires : goal.or_taken_back-requires
+or_taken_back-requires g c = taken_utf8 c.prepare.new.out c.add_hex_digits-added.new.out c.len-len.result c.len-len.ensures c.add_hex_digits-added.ensures.front

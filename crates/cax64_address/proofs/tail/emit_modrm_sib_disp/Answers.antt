@@ -15,15 +15,16 @@ returns g c =
     let tail : PutsTail meant (tail_actions c.tail_of-code.result) = rw known at c.tail_of-code.ensures.tail in
     let count : length (all_bytes (tail_actions c.tail_of-code.result)) ≡ tail_length meant = rw known at c.tail_of-code.ensures.count in
     record {
-      adds = run_adds {m = meant} c.put.result tail c.tail_of-code.ensures.bytes count c.put.ensures;
-      address = run_address {m = meant} g.R.AsReg.enc (g.S.CodeSink.state c.args.sink.now).offsets c.args.bytes_at_end c.args.mem_e.now c.put.result refl tail c.put.ensures;
-      leaves = run_leaves {m = meant} c.put.result tail c.tail_of-code.ensures.bytes c.put.ensures;
-      error = run_error c.put.result c.put.ensures;
-      keeps = ran_keeps c.put.ensures;
-      enough = run_enough {m = meant} c.args.mem_e.now refl tail c.put.ensures;
-      room = run_room {m = meant} c.args.mem_e.now refl tail count c.put.ensures;
-      byte_room = run_byte_room meant count c.put.ensures;
-      notice_room = run_notice_room {m = meant} c.args.mem_e.now refl tail c.put.ensures;
+      adds = run_adds {m = meant} c.put.result tail c.tail_of-code.ensures.bytes count c.put.ensures.run;
+      address = run_address {m = meant} g.R.AsReg.enc (g.S.CodeSink.state c.args.sink.now).offsets c.args.bytes_at_end c.args.mem_e.now c.put.result refl tail c.put.ensures.run;
+      leaves = run_leaves {m = meant} c.put.result tail c.tail_of-code.ensures.bytes c.put.ensures.run;
+      error = run_error c.put.result c.put.ensures.run;
+      keeps = ran_keeps c.put.ensures.run;
+      beside = c.put.ensures.beside;
+      enough = run_enough {m = meant} c.args.mem_e.now refl tail c.put.ensures.run;
+      room = run_room {m = meant} c.args.mem_e.now refl tail count c.put.ensures.run;
+      byte_room = run_byte_room meant count c.put.ensures.run;
+      notice_room = run_notice_room {m = meant} c.args.mem_e.now refl tail c.put.ensures.run;
       most = length_most {m = meant} tail count;
       least = length_least {m = meant} tail count;
     }

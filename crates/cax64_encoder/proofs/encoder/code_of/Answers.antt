@@ -1,6 +1,5 @@
-use Rattle.std.proofs.Common.{◌≡◌, ◌++◌, ◌∙◌, ap, refl, length, w32, arith, List}
+use Rattle.std.proofs.Common.{◌≡◌, ◌∙◌, ap, refl, length, w32, arith, List}
 use Rattle.std.proofs.lemmas.Int.{to_z-of_z}
-use Rattle.std.proofs.lemmas.List.{length-append}
 use Rattle.cax64_address.specs.Emitted.{target_actions}
 use Rattle.cax64_machine_code.specs.Len.{tail_len}
 use Rattle.cax64_machine_code.specs.Line.{imm_bytes, opcode_bytes}
@@ -20,8 +19,8 @@ use Rattle.cax64_encoder.specs.Prefix.{reg_number, register_number, PrefixFor}
 use Rattle.cax64_encoder.specs.Real.{trap_in}
 use Rattle.cax64_encoder.proofs.Fronts.{code_is, encodes_same, front_few, opcode_some}
 use Rattle.cax64_encoder.proofs.Lengths.{length_is}
-use Rattle.cax64_encoder.proofs.Numbers.{numbers_are, imm_put, imm_fit, imm_sized}
-use Rattle.cax64_encoder.proofs.Table.{row_is_line}
+use Rattle.cax64_encoder.proofs.Numbers.{numbers_are, imm_put, imm_fit}
+use Rattle.cax64_encoder.proofs.Table.{row_imm_len, row_is_line}
 use Rattle.cax64_encoder.proofs.Whole.{place_real, bare_is, vvvv_fit, reg_below, digit_or_register, imm_sized_as, line_encodes}
 use Rattle.cax64_encoder.proofs.encoder.code_of.Goals as goal
 
@@ -39,18 +38,18 @@ tail_part-tail-requires-clause-place c = place_real plain.settled plain.enc (for
 
 pub append-requires-clause-room : goal.append-requires-clause-room
 append-requires-clause-room c =
-    let few = front_few (line_of c.args.row) c.prefix_of-prefix.result (row_is_line c.args.row) c.prefix_of-prefix.ensures.size in
-    rw c.opcode.ensures (omega (arith, few))
+    let few = front_few (line_of c.args.row) c.prefix_of-prefix.result c.opcode.result _ (row_is_line c.args.row) c.prefix_of-prefix.ensures.size c.opcode.ensures in
+    omega (arith, few)
 
 pub append-requires-2-clause-few : goal.append-requires-2-clause-few
 append-requires-2-clause-few c =
-    let few = front_few (line_of c.args.row) c.prefix_of-prefix.result (row_is_line c.args.row) c.prefix_of-prefix.ensures.size in
-    rw (c.append.ensures.bytes, c.opcode.ensures) (omega (arith, few, length-append c.prefix_of-prefix.result (opcode_bytes (line_of c.args.row).opcode)))
+    let few = front_few (line_of c.args.row) c.prefix_of-prefix.result c.opcode.result _ (row_is_line c.args.row) c.prefix_of-prefix.ensures.size c.opcode.ensures in
+    omega (arith, few)
 
 pub append-requires-2-clause-room : goal.append-requires-2-clause-room
 append-requires-2-clause-room c =
-    let few = front_few (line_of c.args.row) c.prefix_of-prefix.result (row_is_line c.args.row) c.prefix_of-prefix.ensures.size in
-    rw (c.append.ensures.bytes, c.opcode.ensures) (omega (arith, few, length-append c.prefix_of-prefix.result (opcode_bytes (line_of c.args.row).opcode), c.tail_part-tail.ensures.few))
+    let few = front_few (line_of c.args.row) c.prefix_of-prefix.result c.opcode.result _ (row_is_line c.args.row) c.prefix_of-prefix.ensures.size c.opcode.ensures in
+    omega (arith, few, c.tail_part-tail.ensures.few)
 
 pub returns-clause-encodes : goal.returns-clause-encodes
 returns-clause-encodes c =
@@ -75,6 +74,6 @@ returns-clause-length c =
 pub returns-clause-is : goal.returns-clause-is
 returns-clause-is c =
     record {
-      front = rw (c.append-2.ensures.bytes, c.append.ensures.bytes, c.opcode.ensures) (omega (arith, opcode_some (line_of c.args.row), length-append (c.prefix_of-prefix.result ++ opcode_bytes (line_of c.args.row).opcode) c.tail_part-tail.result.front, length-append c.prefix_of-prefix.result (opcode_bytes (line_of c.args.row).opcode)));
-      imm_len = rw c.imm_len-imm_len.ensures (imm_sized (line_of c.args.row).imm (form_named (line_of c.args.row) c.args.form.now).imm (imm_fit (line_of c.args.row) (form_named (line_of c.args.row) c.args.form.now) c.requires.fits));
+      front = omega (arith, opcode_some c.opcode.result _ c.opcode.ensures);
+      imm_len = rw c.imm_len-imm_len.ensures (row_imm_len _);
     }

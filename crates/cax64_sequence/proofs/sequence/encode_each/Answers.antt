@@ -11,7 +11,7 @@ use Rattle.cax64_sequence.proofs.sequence.encode_each.Goals as goal
 pub loop-whole-init : goal.loop-whole-init
 loop-whole-init g c =
     let s = g.S.CodeSink.state c.args.sink.now in
-    record { adds = adds_none s; keeps = keeps_self s; byte_room = falls_zero s.byte_room; notice_room = falls_zero s.notice_room; most = omega arith; most_notices = omega arith }
+    record { adds = adds_none s; keeps = keeps_self s; beside = g.met.S.CodeSink.may_stay c.args.sink.now; byte_room = falls_zero s.byte_room; notice_room = falls_zero s.notice_room; most = omega arith; most_notices = omega arith }
 
 pub returns-in-Err-clause-front : goal.returns-in-Err-clause-front
 returns-in-Err-clause-front g c =
@@ -85,6 +85,7 @@ loop-whole-preserved g c =
     record {
       adds = rw one_more (adds_more _ _ _ _ _ held.adds held.keeps adds);
       keeps = keeps_on held.keeps c.in_default.ensures.keeps;
+      beside = g.met.S.CodeSink.may_go_on _ _ _ held.beside c.in_default.ensures.beside;
       byte_room = falls_on _ _ _ (total_len before) (len m) _ all_len held.byte_room bytes;
       notice_room = falls_on _ _ _ (total_notices before) (notice_count m) _ all_notices held.notice_room notices;
       most = omega (arith, all_len, held.most, most);

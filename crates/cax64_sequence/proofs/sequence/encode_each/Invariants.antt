@@ -15,5 +15,6 @@ invariant-loop-whole g l =
       byte_room : FallsBy before.byte_room now.byte_room (total_len ms);
       notice_room : FallsBy before.notice_room now.notice_room (total_notices ms);
       most : total_len ms ≤ 13 * l.whole;
+      beside : g.S.CodeSink.may_become l.initial.sink l.sink;
       most_notices : total_notices ms ≤ l.whole;
     }

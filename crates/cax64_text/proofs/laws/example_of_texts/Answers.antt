@@ -1,4 +1,4 @@
-use Rattle.std.proofs.Common.{◌≡◌, ℕ, rules}
+use Rattle.std.proofs.Common.{◌≡◌, rules}
 use Rattle.cax64_text.specs.PrintedAlike.{eight_behind}
 use Rattle.cax64_text.proofs.laws.example_of_texts.Goals as goal
 

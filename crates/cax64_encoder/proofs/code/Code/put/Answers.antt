@@ -6,22 +6,22 @@ use Rattle.cax64_encoder.specs.Code.{code_actions}
 use Rattle.cax64_encoder.proofs.Fronts.{code_some}
 use Rattle.cax64_encoder.proofs.code.Code.put.Goals as goal
 
-pub returns-in_err-put_trap : goal.returns-in_err-put_trap
-returns-in_err-put_trap g c =
+pub returns-in_err-put_trap-clause-run : goal.returns-in_err-put_trap-clause-run
+returns-in_err-put_trap-clause-run g c =
     let p = err_from_is_err_and c.from_residual.result c.from_residual.ensures.1 in
-    ran_refused _ _ c.put_trap.ensures c.in_err-put_trap.was (p.1 ∙ ap Err p.2)
+    ran_refused _ _ c.put_trap.ensures.run c.in_err-put_trap.was (p.1 ∙ ap Err p.2)
 
-pub returns-in_err-put : goal.returns-in_err-put
-returns-in_err-put g c =
+pub returns-in_err-put-clause-run : goal.returns-in_err-put-clause-run
+returns-in_err-put-clause-run g c =
     let p = err_from_is_err_and c.from_residual-in_err-put.result c.from_residual-in_err-put.ensures.1 in
-    ran_append c.put_trap.ensures c.in_ok-put_trap.was (ran_refused _ _ c.put.ensures c.in_err-put.was (p.1 ∙ ap Err p.2))
+    ran_append c.put_trap.ensures.run c.in_ok-put_trap.was (ran_refused _ _ c.put.ensures.run c.in_err-put.was (p.1 ∙ ap Err p.2))
 
-pub returns-in_err-use_optional : goal.returns-in_err-use_optional
-returns-in_err-use_optional g c =
+pub returns-in_err-use_optional-clause-run : goal.returns-in_err-use_optional-clause-run
+returns-in_err-use_optional-clause-run g c =
     let p = err_from_is_err_and c.from_residual-in_err-use_optional.result c.from_residual-in_err-use_optional.ensures.1 in
-    ran_append c.put_trap.ensures c.in_ok-put_trap.was (ran_append c.put.ensures c.in_ok-put.was (ran_refused _ _ c.use_optional.ensures c.in_err-use_optional.was (p.1 ∙ ap Err p.2)))
+    ran_append c.put_trap.ensures.run c.in_ok-put_trap.was (ran_append c.put.ensures.run c.in_ok-put.was (ran_refused _ _ c.use_optional.ensures.run c.in_err-use_optional.was (p.1 ∙ ap Err p.2)))
 
-pub returns : goal.returns
-returns g c =
+pub returns-clause-run : goal.returns-clause-run
+returns-clause-run g c =
     roomier_absorbed (code_actions c.args.self.now) (code_some c.args.self.now c.requires.front)
-    (ran_roomier_after c.put_trap.ensures c.in_ok-put_trap.was (ran_roomier_after c.put.ensures c.in_ok-put.was (ran_roomier_after c.use_optional.ensures c.in_ok-use_optional.was c.put_rest.ensures)))
+    (ran_roomier_after c.put_trap.ensures.run c.in_ok-put_trap.was (ran_roomier_after c.put.ensures.run c.in_ok-put.was (ran_roomier_after c.use_optional.ensures.run c.in_ok-use_optional.was c.put_rest.ensures.run)))

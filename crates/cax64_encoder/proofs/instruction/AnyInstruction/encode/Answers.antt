@@ -15,13 +15,14 @@ pub returns : goal.returns
 returns g c =
     let f = family_of (numbering g.I.Family.ReadGpr.AsReg.settled g.I.Family.ReadGpr.AsReg.enc) (numbering g.I.Family.ReadWriteGpr.AsReg.settled g.I.Family.ReadWriteGpr.AsReg.enc) (numbering g.I.Family.WriteGpr.AsReg.settled g.I.Family.WriteGpr.AsReg.enc) (numbering g.I.Family.ReadXmm.AsReg.settled g.I.Family.ReadXmm.AsReg.enc) (numbering g.I.Family.ReadWriteXmm.AsReg.settled g.I.Family.ReadWriteXmm.AsReg.enc) (numbering g.I.Family.WriteXmm.AsReg.settled g.I.Family.WriteXmm.AsReg.enc) g.I.Family.WriteGpr.PartialEq.eq in
     let o = g.I.RowAndOperands.operands_of c.args.self.now in
-    let w = c.hand_to.ensures.answers o (record { kept = content_is f o; shape = c.hand_to.ensures.shape; can = c.requires }) in
+    let w = c.hand_to.ensures.answers.0 o (record { kept = content_is f o; shape = c.hand_to.ensures.shape; can = c.requires }) in
     record {
       adds = run_adds c.hand_to.result w.encodes w.ran;
       leaves = run_leaves c.hand_to.result w.encodes w.ran;
       front = stays_in_front _ _ _ c.hand_to.result (run_adds c.hand_to.result w.encodes w.ran) (run_leaves c.hand_to.result w.encodes w.ran);
       error = run_error c.hand_to.result w.ran;
       keeps = ran_keeps w.ran;
+      beside = c.hand_to.ensures.answers.1;
       enough = run_enough w.encodes w.ran;
       room = run_room w.encodes w.ran;
       byte_room = run_bytes_fall w.encodes w.ran;

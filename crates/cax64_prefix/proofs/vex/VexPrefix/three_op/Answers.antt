@@ -1,4 +1,5 @@
 use Rattle.std.proofs.Common.{◌≡◌, ◌+◌, ◌*◌, ◌/◌, ◌-◌, ◌<◌, arith, unwrap_or, true, false, sym, ◌∙◌}
+use Rattle.std.proofs.lemmas.Bool.Decides.{nat_tests}
 use Rattle.cax64_prefix.specs.Vex.{vex_fields, fits_two_bytes}
 use Rattle.cax64_prefix.proofs.VexBits.{is_vex, register_below, two_reads, two_shortest, three_reads, three_shortest}
 use Rattle.cax64_prefix.proofs.vex.VexPrefix.three_op.Goals as goal
@@ -6,7 +7,8 @@ use Rattle.cax64_prefix.proofs.vex.VexPrefix.three_op.Goals as goal
 pub returns-then-use_2byte_prefix-clause-reads : goal.returns-then-use_2byte_prefix-clause-reads
 returns-then-use_2byte_prefix-clause-reads c =
     let a = c.args in let q = c.requires in
-    let fits : fits_two_bytes (vex_fields a.reg a.vvvv a.operand a.l a.pp a.mmmmm a.w) ≡ true = rw (← c.unwrap_or-base.ensures, ← c.unwrap_or-index.ensures) (sym c.use_2byte_prefix.ensures ∙ c.if-use_2byte_prefix.true) in
+    let held = sym c.use_2byte_prefix.ensures ∙ c.if-use_2byte_prefix.true in
+    let fits : fits_two_bytes (vex_fields a.reg a.vvvv a.operand a.l a.pp a.mmmmm a.w) ≡ true = rw (← c.unwrap_or-base.ensures, ← c.unwrap_or-index.ensures) (grind (arith, nat_tests, held)) in
     two_reads (vex_fields a.reg a.vvvv a.operand a.l a.pp a.mmmmm a.w) c.operation_byte.result (is_vex a.w a.reg a.vvvv a.operand a.l a.pp a.mmmmm q.reg q.vvvv q.base q.index q.l q.pp q.map_low q.map_high) fits (omega arith)
 
 pub returns-then-use_2byte_prefix-clause-shortest : goal.returns-then-use_2byte_prefix-clause-shortest

@@ -3,8 +3,8 @@ use Rattle.std.specs.Int.{to_le_bytes}
 use Rattle.cax64_sink.proofs.PutRuns.{fixed_at_once}
 use Rattle.cax64_sink.proofs.fixed_sink.FixedSinkCodeSink.put_low_bytes.Goals as goal
 
-pub returns : goal.returns
-returns g c =
+pub returns-clause-run : goal.returns-clause-run
+returns-clause-run g c =
     let s = c.args.self.now in
     let u = c.append.new.self in
     let word = to_le_bytes w64 c.args.word in

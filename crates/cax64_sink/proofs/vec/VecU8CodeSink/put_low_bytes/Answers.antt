@@ -4,8 +4,8 @@ use Rattle.std.specs.Prelude.{vec_len, vec_capacity, ◌++◌}
 use Rattle.cax64_sink.proofs.PutRuns.{vec_at_once}
 use Rattle.cax64_sink.proofs.vec.VecU8CodeSink.put_low_bytes.Goals as goal
 
-pub returns : goal.returns
-returns g c =
+pub returns-clause-run : goal.returns-clause-run
+returns-clause-run g c =
     let v = c.args.self.now in
     let u = c.extend_from_slice.new.self in
     let w = c.truncate.new.self in

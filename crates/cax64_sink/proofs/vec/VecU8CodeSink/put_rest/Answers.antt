@@ -6,8 +6,8 @@ use Rattle.cax64_sink.specs.Rest.{long_actions}
 use Rattle.cax64_sink.proofs.Rests.{rest_at_once}
 use Rattle.cax64_sink.proofs.vec.VecU8CodeSink.put_rest.Goals as goal
 
-pub returns : goal.returns
-returns g c =
+pub returns-clause-run : goal.returns-clause-run
+returns-clause-run g c =
     let v = c.args.self.now in
     let u = c.extend_from_slice.new.self in
     let w = c.truncate.new.self in

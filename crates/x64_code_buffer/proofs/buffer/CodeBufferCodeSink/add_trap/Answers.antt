@@ -8,4 +8,4 @@ use Rattle.x64_code_buffer.proofs.buffer.CodeBufferCodeSink.add_trap.Goals as go
 pub returns-clause-filled : goal.returns-clause-filled
 returns-clause-filled g c readings n h =
     let places = places_of c.args.self.now in
-    stepped (trap c.args.code) readings n (recorder_state c.args.self.now.recorder) (recorder_state c.add_trap.new.self) c.add_trap.result places places (λ at. refl) c.add_trap.ensures (λ target. refl) h
+    stepped (trap c.args.code) readings n (recorder_state c.args.self.now.recorder) (recorder_state c.add_trap.new.self) c.add_trap.result places places (λ at. refl) c.add_trap.ensures.step (λ target. refl) h

@@ -8,4 +8,4 @@ use Rattle.x64_code_buffer.proofs.buffer.CodeBufferCodeSink.put1.Goals as goal
 pub returns-clause-filled : goal.returns-clause-filled
 returns-clause-filled g c readings n h =
     let places = places_of c.args.self.now in
-    stepped (put (c.args.value ∷ [])) readings n (recorder_state c.args.self.now.recorder) (recorder_state c.put1.new.self) c.put1.result places places (λ at. refl) c.put1.ensures (λ target. refl) h
+    stepped (put (c.args.value ∷ [])) readings n (recorder_state c.args.self.now.recorder) (recorder_state c.put1.new.self) c.put1.result places places (λ at. refl) c.put1.ensures.step (λ target. refl) h

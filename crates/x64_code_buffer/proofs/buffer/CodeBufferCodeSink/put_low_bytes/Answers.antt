@@ -7,4 +7,4 @@ use Rattle.x64_code_buffer.proofs.buffer.CodeBufferCodeSink.put_low_bytes.Goals 
 
 pub returns-clause-filled : goal.returns-clause-filled
 returns-clause-filled g c readings n h =
-    put_in_turn (take c.args.count (to_le_bytes w64 c.args.word)) readings n (recorder_state c.args.self.now.recorder) (recorder_state c.put_low_bytes.new.self) c.put_low_bytes.result (places_of c.args.self.now) c.put_low_bytes.ensures h
+    put_in_turn (take c.args.count (to_le_bytes w64 c.args.word)) readings n (recorder_state c.args.self.now.recorder) (recorder_state c.put_low_bytes.new.self) c.put_low_bytes.result (places_of c.args.self.now) c.put_low_bytes.ensures.run h

@@ -1,0 +1,39 @@
+//! The sinks that users have, beside the one that keeps the calls.
+
+use crate::encoding::recorder_of;
+use cax64_test_support::CallRecorder;
+use cranelift_assembler_x64::{CodeSink, FixedSink, Instruction};
+use named_instructions::fields::Fault;
+use std::alloc::Global;
+
+/// Whether a sink takes an instruction, where that can be encoded.
+fn takes<I: Instruction, S: CodeSink>(inst: &I, sink: &mut S) -> Option<bool> {
+    if !inst.is_encodable(sink) {
+        return None;
+    }
+    Some(inst.encode(sink).is_ok())
+}
+
+/// Whether a recorder that knows these offsets, a vector and a sink of fixed size keep the same of an instruction as the
+/// one that it was put into.
+pub(crate) fn keep_the_same<I: Instruction>(
+    alloc: Global,
+    inst: &I,
+    offsets: &str,
+    kept: &CallRecorder<Global>,
+) -> Result<bool, Fault> {
+    let bytes = kept.bytes();
+    let mut recorder = recorder_of(alloc, offsets)?;
+    let mut vector: Vec<u8> = Vec::new(alloc);
+    let mut fixed = FixedSink::<13>::new();
+    let recorded = takes(inst, &mut recorder) == Some(true)
+        && recorder.bytes() == bytes
+        && recorder.notices() == kept.notices();
+    let as_bytes = match (takes(inst, &mut vector), takes(inst, &mut fixed)) {
+        (Some(true), Some(true)) => vector.as_slice() == bytes && fixed.bytes() == bytes,
+        // They know no offset.
+        (None, None) => offsets != "-",
+        _ => false,
+    };
+    Ok(recorded && as_bytes)
+}
