@@ -4,10 +4,8 @@ use Rattle.cax64_machine_code.specs.declared.row.Row.{Row}
 use Rattle.cax64_machine_code.specs.declared.row.Row.TheVariants as row
 use Rattle.cax64_text.specs.declared.style.Elements.{Elements}
 use Rattle.cax64_text.specs.declared.style.Elements.TheVariants.{PackedSingle, PackedDouble, ScalarSingle, ScalarDouble}
-use Rattle.cax64_text.specs.declared.style.Encoding.{Encoding}
-use Rattle.cax64_text.specs.declared.style.Encoding.TheVariants.{Legacy, Vex}
 use Rattle.cax64_text.specs.declared.style.Style.{Style}
-use Rattle.cax64_text.specs.declared.style.Style.TheVariants.{Plain, Forward, Exchange, Shift, Call, Jump, Branch, Compare}
+use Rattle.cax64_text.specs.declared.style.Style.TheVariants.{Plain, Forward, Exchange, Shift, Call, Jump, Branch, Compare, VexCompare}
 
 abbrev pub style_of : Row → Style
 style_of row.lock_addb_mi = Plain
@@ -116,10 +114,10 @@ style_of row.sarq_m1 = Shift
 style_of row.callq_m = Call
 style_of row.jmpq_m = Jump
 style_of row.andps_a = Plain
-style_of row.cmpps_a = Compare Legacy PackedSingle
-style_of row.cmppd_a = Compare Legacy PackedDouble
-style_of row.cmpss_a = Compare Legacy ScalarSingle
-style_of row.cmpsd_a = Compare Legacy ScalarDouble
+style_of row.cmpps_a = Compare PackedSingle
+style_of row.cmppd_a = Compare PackedDouble
+style_of row.cmpss_a = Compare ScalarSingle
+style_of row.cmpsd_a = Compare ScalarDouble
 style_of row.andb_i = Plain
 style_of row.callq_d = Branch
 style_of row.jmp_d8 = Branch
@@ -156,10 +154,10 @@ style_of row.jl_d32 = Plain
 style_of row.jge_d32 = Plain
 style_of row.jle_d32 = Plain
 style_of row.jg_d32 = Plain
-style_of row.vcmpps_b = Compare Vex PackedSingle
-style_of row.vcmppd_b = Compare Vex PackedDouble
-style_of row.vcmpss_b = Compare Vex ScalarSingle
-style_of row.vcmpsd_b = Compare Vex ScalarDouble
+style_of row.vcmpps_b = VexCompare PackedSingle
+style_of row.vcmppd_b = VexCompare PackedDouble
+style_of row.vcmpss_b = VexCompare ScalarSingle
+style_of row.vcmpsd_b = VexCompare ScalarDouble
 style_of row.vcvtpd2ps_a = Plain
 style_of row.vcvttpd2dq_a = Plain
 style_of row.mulxl_rvm = Plain
@@ -178,7 +176,8 @@ is_forward Shift = false
 is_forward Call = false
 is_forward Jump = false
 is_forward Branch = false
-is_forward (Compare encoding elements) = false
+is_forward (Compare elements) = false
+is_forward (VexCompare elements) = false
 
 -- whether there is a text as XED prints it, beside the ordinary one
 abbrev pub has_xed_text : Style → Bool
@@ -189,14 +188,10 @@ has_xed_text Shift = true
 has_xed_text Call = true
 has_xed_text Jump = true
 has_xed_text Branch = true
-has_xed_text (Compare encoding elements) = true
+has_xed_text (Compare elements) = true
+has_xed_text (VexCompare elements) = true
 
--- what stands before and after the name of a comparison's predicate
-
-abbrev pub before_predicate : Encoding → List ℕ
-before_predicate Legacy = codes "cmp"
-before_predicate Vex = codes "vcmp"
-
+-- what stands after the name of a comparison's predicate
 abbrev pub after_predicate : Elements → List ℕ
 after_predicate PackedSingle = codes "ps"
 after_predicate PackedDouble = codes "pd"

@@ -10,11 +10,10 @@ use Rattle.cax64_operand.specs.declared.operand.Operands.{Operands}
 use Rattle.cax64_text.specs.Mnemonic.{row_mnemonic, mnemonic_for, without_last}
 use Rattle.cax64_text.specs.Names.{Names}
 use Rattle.cax64_text.specs.Operand.{all_nameable, has_register, named_predicate, listed, print_order}
-use Rattle.cax64_text.specs.Style.{style_of, is_forward, has_xed_text, before_predicate, after_predicate, marker}
+use Rattle.cax64_text.specs.Style.{style_of, is_forward, has_xed_text, after_predicate, marker}
 use Rattle.cax64_text.specs.declared.style.Elements.{Elements}
-use Rattle.cax64_text.specs.declared.style.Encoding.{Encoding}
 use Rattle.cax64_text.specs.declared.style.Style.{Style}
-use Rattle.cax64_text.specs.declared.style.Style.TheVariants.{Plain, Forward, Exchange, Shift, Call, Jump, Branch, Compare}
+use Rattle.cax64_text.specs.declared.style.Style.TheVariants.{Plain, Forward, Exchange, Shift, Call, Jump, Branch, Compare, VexCompare}
 
 -- The names of predicates, by number. (Intel SDM, volume 2, `CMPPD`, tables 3-1 and 3-3.)
 unfoldable pub predicates : List (List ℕ)
@@ -29,9 +28,9 @@ abbrev pub predicate_name : ℕ → List ℕ
 predicate_name v = get_or predicates v []
 
 -- a comparison's mnemonic: with the predicate in it, where it has a name
-abbrev pub compare_head : Encoding → Elements → Row → Option ℕ → List ℕ
-compare_head encoding elements row None = row_mnemonic row
-compare_head encoding elements row (Some v) = before_predicate encoding ++ predicate_name v ++ after_predicate elements
+abbrev pub compare_head : List ℕ → Elements → Row → Option ℕ → List ℕ
+compare_head before elements row None = row_mnemonic row
+compare_head before elements row (Some v) = before ++ predicate_name v ++ after_predicate elements
 
 -- What stands before the operands, from whether the operand that may be memory is a register, and the named predicate.
 -- A shift of a register shows its 1, and a call and a jump by an operand the star of an indirect one.
@@ -44,7 +43,8 @@ att_head Shift false named row = row_mnemonic row ++ codes " "
 att_head Call register named row = row_mnemonic row ++ codes " *"
 att_head Jump register named row = row_mnemonic row ++ codes " *"
 att_head Branch register named row = row_mnemonic row ++ codes " "
-att_head (Compare encoding elements) register named row = compare_head encoding elements row named ++ codes " "
+att_head (Compare elements) register named row = compare_head (codes "cmp") elements row named ++ codes " "
+att_head (VexCompare elements) register named row = compare_head (codes "vcmp") elements row named ++ codes " "
 
 -- XED shows the 1 of a shift as an immediate, leaves out the letter of a width that a register shows, and marks the
 -- width of a comparison's memory.
@@ -58,8 +58,10 @@ xed_head Call register row = row_mnemonic row ++ codes " "
 xed_head Jump true row = codes "jmp "
 xed_head Jump false row = row_mnemonic row ++ codes " "
 xed_head Branch register row = row_mnemonic row ++ codes " "
-xed_head (Compare encoding elements) true row = row_mnemonic row ++ codes " "
-xed_head (Compare encoding elements) false row = row_mnemonic row ++ marker elements ++ codes " "
+xed_head (Compare elements) true row = row_mnemonic row ++ codes " "
+xed_head (Compare elements) false row = row_mnemonic row ++ marker elements ++ codes " "
+xed_head (VexCompare elements) true row = row_mnemonic row ++ codes " "
+xed_head (VexCompare elements) false row = row_mnemonic row ++ marker elements ++ codes " "
 
 abbrev pub head : Dialect → Style → Bool → Option ℕ → Row → List ℕ
 head Att style register named row = att_head style register named row

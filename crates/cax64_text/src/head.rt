@@ -5,7 +5,7 @@ ghost use Rattle.cax64_text.specs.Style.{style_of};
 ghost use Rattle.cax64_text.specs.Text.{att_head, compare_head, head, nop_text, predicate_name, xed_head};
 
 use crate::mnemonic::{mnemonic, row_mnemonic, shift_name};
-use crate::style::{Elements, Encoding, Style, after_predicate, before_predicate, marker};
+use crate::style::{Elements, Style, after_predicate, marker};
 use cax64_address::text::Dialect;
 use cax64_machine_code::row::Row;
 use cax64_operand::Nop;
@@ -55,17 +55,17 @@ fn predicate_name(value: u8) -> &'static str
 
 fn push_compare<A: Allocator>(
     out: &mut String<A>,
-    encoding: Encoding,
+    before: &'static str,
     elements: Elements,
     row: Row,
     named: Option<u8>,
 ) -> Result<(), AllocError>
     requires { IfSome named (λ v. v < 32) }
-    ensures { OnOk result (string_bytes out.new ≡ string_bytes out.old ++ compare_head encoding elements row named) }
+    ensures { OnOk result (string_bytes out.new ≡ string_bytes out.old ++ compare_head before.now elements row named) }
 {
     match named {
         Some(value) => {
-            out.push_str(before_predicate(encoding))?;
+            out.push_str(before)?;
             out.push_str(predicate_name(value))?;
             out.push_str(after_predicate(elements))
         }
@@ -87,11 +87,11 @@ fn push_att<A: Allocator>(
     match style {
         Style::Plain => {
             out.push_str(mnemonic(row, register))?;
-            out.push_str(" ")
+            out.push(' ')
         }
         Style::Forward | Style::Exchange | Style::Branch => {
             out.push_str(row_mnemonic(row))?;
-            out.push_str(" ")
+            out.push(' ')
         }
         Style::Shift => {
             out.push_str(row_mnemonic(row))?;
@@ -101,11 +101,30 @@ fn push_att<A: Allocator>(
             out.push_str(row_mnemonic(row))?;
             out.push_str(" *")
         }
-        Style::Compare(encoding, elements) => {
-            push_compare(out, encoding, elements, row, named)?;
-            out.push_str(" ")
+        Style::Compare(elements) => {
+            push_compare(out, "cmp", elements, row, named)?;
+            out.push(' ')
+        }
+        Style::VexCompare(elements) => {
+            push_compare(out, "vcmp", elements, row, named)?;
+            out.push(' ')
         }
     }
+}
+
+/// Adds the mnemonic of a comparison, where its operand is memory with the mark of the width.
+#[inline(always)]
+fn add_marked<A: Allocator>(
+    out: &mut String<A>,
+    row: Row,
+    register: bool,
+    elements: Elements,
+) -> Result<(), AllocError>
+    ensures { OnOk result (string_bytes out.new ≡ string_bytes out.old ++ row_mnemonic row ++ (if register then [] else marker elements) ++ codes " ") }
+{
+    out.push_str(row_mnemonic(row))?;
+    out.push_str(if register { "" } else { marker(elements) })?;
+    out.push(' ')
 }
 
 #[inline(always)]
@@ -121,11 +140,11 @@ fn push_xed<A: Allocator>(
     match style {
         Style::Plain => {
             out.push_str(mnemonic(row, register))?;
-            out.push_str(" ")
+            out.push(' ')
         }
         Style::Forward | Style::Exchange | Style::Branch | Style::Call => {
             out.push_str(row_mnemonic(row))?;
-            out.push_str(" ")
+            out.push(' ')
         }
         Style::Shift => {
             out.push_str(if register {
@@ -137,13 +156,10 @@ fn push_xed<A: Allocator>(
         }
         Style::Jump => {
             out.push_str(if register { "jmp" } else { row_mnemonic(row) })?;
-            out.push_str(" ")
+            out.push(' ')
         }
-        Style::Compare(_, elements) => {
-            out.push_str(row_mnemonic(row))?;
-            out.push_str(if register { "" } else { marker(elements) })?;
-            out.push_str(" ")
-        }
+        Style::Compare(elements) => add_marked(out, row, register, elements),
+        Style::VexCompare(elements) => add_marked(out, row, register, elements),
     }
 }
 

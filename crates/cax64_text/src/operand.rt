@@ -44,9 +44,7 @@ pub(crate) fn push_number<A: Allocator>(out: &mut String<A>, bits: u64) -> Resul
     if !has_room(out, IMM_ROOM) {
         return format_number(out, bits);
     }
-    out.push('$')?;
-    out.push('0')?;
-    out.push('x')?;
+    out.push_str("$0x")?;
     push_hex_digits(out, bits)
 }
 

@@ -25,10 +25,7 @@ fn add_separator<A: Allocator>(out: &mut String<A>, first: bool) -> Result<(), A
     if first {
         return Ok(());
     }
-    // Both or none.
-    out.reserve(2)?;
-    out.push(',')?;
-    out.push(' ')
+    out.push_str(", ")
 }
 
 #[inline(never)]

@@ -3,16 +3,9 @@
 ghost use Rattle.std.specs.Prelude.{◌≡◌, ◌≤◌};
 ghost use Rattle.cax64_machine_code.specs.Rows.{line_of};
 ghost use Rattle.cax64_text.specs.Operand.{opcode_and_imm_len};
-ghost use Rattle.cax64_text.specs.Style.{style_of, is_forward, has_xed_text, before_predicate, after_predicate, marker};
+ghost use Rattle.cax64_text.specs.Style.{style_of, is_forward, has_xed_text, after_predicate, marker};
 
 use cax64_machine_code::row::Row;
-
-/// How a comparison is encoded, which its mnemonic shows in front.
-#[derive(Clone, Copy, Debug)]
-pub enum Encoding {
-    Legacy,
-    Vex,
-}
 
 /// What a comparison compares, which its mnemonic shows at its end.
 #[derive(Clone, Copy, Debug)]
@@ -23,7 +16,8 @@ pub enum Elements {
     ScalarDouble,
 }
 
-/// How the instructions of a row print, beyond mnemonic and operands.
+/// How the instructions of a row print, beyond mnemonic and operands. A kind holds one thing at most: so a style is
+/// returned in registers, and where the row is known the compiler knows the style.
 #[derive(Clone, Copy, Debug)]
 pub enum Style {
     /// The operands stand from the last to the first.
@@ -41,7 +35,9 @@ pub enum Style {
     /// A jump or call by a distance.
     Branch,
     /// A comparison, whose predicate may have a name.
-    Compare(Encoding, Elements),
+    Compare(Elements),
+    /// The same with a VEX prefix.
+    VexCompare(Elements),
 }
 
 impl Style {
@@ -62,14 +58,14 @@ impl Style {
             Row::callq_m => Style::Call,
             Row::jmpq_m => Style::Jump,
             Row::callq_d | Row::jmp_d8 | Row::jmp_d32 => Style::Branch,
-            Row::cmpps_a => Style::Compare(Encoding::Legacy, Elements::PackedSingle),
-            Row::cmppd_a => Style::Compare(Encoding::Legacy, Elements::PackedDouble),
-            Row::cmpss_a => Style::Compare(Encoding::Legacy, Elements::ScalarSingle),
-            Row::cmpsd_a => Style::Compare(Encoding::Legacy, Elements::ScalarDouble),
-            Row::vcmpps_b => Style::Compare(Encoding::Vex, Elements::PackedSingle),
-            Row::vcmppd_b => Style::Compare(Encoding::Vex, Elements::PackedDouble),
-            Row::vcmpss_b => Style::Compare(Encoding::Vex, Elements::ScalarSingle),
-            Row::vcmpsd_b => Style::Compare(Encoding::Vex, Elements::ScalarDouble),
+            Row::cmpps_a => Style::Compare(Elements::PackedSingle),
+            Row::cmppd_a => Style::Compare(Elements::PackedDouble),
+            Row::cmpss_a => Style::Compare(Elements::ScalarSingle),
+            Row::cmpsd_a => Style::Compare(Elements::ScalarDouble),
+            Row::vcmpps_b => Style::VexCompare(Elements::PackedSingle),
+            Row::vcmppd_b => Style::VexCompare(Elements::PackedDouble),
+            Row::vcmpss_b => Style::VexCompare(Elements::ScalarSingle),
+            Row::vcmpsd_b => Style::VexCompare(Elements::ScalarDouble),
             _ => Style::Plain,
         }
     }
@@ -125,16 +121,6 @@ pub fn opcode_and_imm_len(row: Row) -> u8
         Row::jbe_d32 | Row::ja_d32 | Row::js_d32 | Row::jns_d32 | Row::jp_d32 | Row::jnp_d32 => 6,
         Row::jl_d32 | Row::jge_d32 | Row::jle_d32 | Row::jg_d32 => 6,
         _ => 1,
-    }
-}
-
-/// What stands before the name of a comparison's predicate.
-pub fn before_predicate(encoding: Encoding) -> &'static str
-    ensures { result.now ≡ before_predicate encoding }
-{
-    match encoding {
-        Encoding::Legacy => "cmp",
-        Encoding::Vex => "vcmp",
     }
 }
 

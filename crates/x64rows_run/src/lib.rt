@@ -12,8 +12,9 @@ ghost use Rattle.x64rows_run.specs.Status.{IsStatus};
 use crate::buffer::{backward, forward};
 use crate::line::push_bytes;
 use crate::rows::ROW_LINES;
-use std::alloc::Allocator;
-use std::io::Write;
+use std::alloc::{Alloc, Allocator};
+use std::env::{self, Env};
+use std::io::{self, ErrorKind, Write};
 use x64rows_command::{Fault, asked_tail, asks_for_buffer, asks_for_rows, end};
 
 /// Prints bytes as a line.
@@ -86,4 +87,33 @@ pub fn run<A: Allocator>(alloc: A, words: &[&str], out: &mut impl Write, err: &m
     ensures told { (result ≡ 0) ⊎ (result ≡ 4) → err.new ≡ err.old }
 {
     end(print_lines(alloc, words, out), err)
+}
+
+/// Why the words of a process could not be had: one isn't UTF-8, or there was no memory for them.
+fn fault_of(error: &io::Error) -> Fault {
+    match error.kind() {
+        ErrorKind::InvalidData => Fault::Usage,
+        _ => Fault::NoMemory,
+    }
+}
+
+fn print_process<R: Env + Alloc>(rt: &R, out: &mut impl Write) -> Result<(), Fault> {
+    let arguments: Vec<String<R::A>, R::A> = match env::args(rt) {
+        Ok(arguments) => arguments.collect(rt.alloc())?,
+        Err(error) => return Err(fault_of(&error)),
+    };
+    let words: Vec<&str, R::A> = arguments
+        .iter()
+        .skip(1)
+        .map(|argument| argument.as_str())
+        .collect(rt.alloc())?;
+    print_lines(rt.alloc(), &words, out)
+}
+
+/// Runs `x64rows` on the words of a process, as [`run`] on those after the program's name. The exit status is 2 also where
+/// one of them isn't UTF-8, and 3 where there is no memory for them.
+pub fn run_process<R: Env + Alloc>(rt: &R, out: &mut impl Write, err: &mut impl Write) -> u8
+    ensures status { IsStatus result }
+{
+    end(print_process(rt, out), err)
 }
