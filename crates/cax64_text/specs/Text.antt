@@ -46,6 +46,11 @@ att_head Branch register named row = row_mnemonic row ++ codes " "
 att_head (Compare elements) register named row = compare_head (codes "cmp") elements row named ++ codes " "
 att_head (VexCompare elements) register named row = compare_head (codes "vcmp") elements row named ++ codes " "
 
+-- a comparison's mnemonic as XED prints it: with a mark for the width of its memory
+abbrev pub marked_head : Elements → Bool → Row → List ℕ
+marked_head elements true row = row_mnemonic row ++ codes " "
+marked_head elements false row = row_mnemonic row ++ marker elements ++ codes " "
+
 -- XED shows the 1 of a shift as an immediate, leaves out the letter of a width that a register shows, and marks the
 -- width of a comparison's memory.
 abbrev pub xed_head : Style → Bool → Row → List ℕ
@@ -58,10 +63,8 @@ xed_head Call register row = row_mnemonic row ++ codes " "
 xed_head Jump true row = codes "jmp "
 xed_head Jump false row = row_mnemonic row ++ codes " "
 xed_head Branch register row = row_mnemonic row ++ codes " "
-xed_head (Compare elements) true row = row_mnemonic row ++ codes " "
-xed_head (Compare elements) false row = row_mnemonic row ++ marker elements ++ codes " "
-xed_head (VexCompare elements) true row = row_mnemonic row ++ codes " "
-xed_head (VexCompare elements) false row = row_mnemonic row ++ marker elements ++ codes " "
+xed_head (Compare elements) register row = marked_head elements register row
+xed_head (VexCompare elements) register row = marked_head elements register row
 
 abbrev pub head : Dialect → Style → Bool → Option ℕ → Row → List ℕ
 head Att style register named row = att_head style register named row

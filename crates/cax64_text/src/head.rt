@@ -2,7 +2,7 @@
 
 ghost use Rattle.std.specs.Prelude.{◌≡◌, ◌++◌, ◌<◌, IfSome, OnOk, string_bytes};
 ghost use Rattle.cax64_text.specs.Style.{style_of};
-ghost use Rattle.cax64_text.specs.Text.{att_head, compare_head, head, nop_text, predicate_name, xed_head};
+ghost use Rattle.cax64_text.specs.Text.{att_head, compare_head, head, marked_head, nop_text, predicate_name, xed_head};
 
 use crate::mnemonic::{mnemonic, row_mnemonic, shift_name};
 use crate::style::{Elements, Style, after_predicate, marker};
@@ -120,7 +120,7 @@ fn add_marked<A: Allocator>(
     register: bool,
     elements: Elements,
 ) -> Result<(), AllocError>
-    ensures { OnOk result (string_bytes out.new ≡ string_bytes out.old ++ row_mnemonic row ++ (if register then [] else marker elements) ++ codes " ") }
+    ensures { OnOk result (string_bytes out.new ≡ string_bytes out.old ++ marked_head elements register row) }
 {
     out.push_str(row_mnemonic(row))?;
     out.push_str(if register { "" } else { marker(elements) })?;
