@@ -1,0 +1,188 @@
+#!/usr/bin/env python3
+"""Runs write.py over tables that can't be, and over one of two instructions, each in a folder of its own."""
+
+import shutil
+import subprocess
+import sys
+import tempfile
+from pathlib import Path
+
+HERE = Path(__file__).resolve().parent
+
+ROWS = "crates/cax64_machine_code/specs/Rows.antt"
+INDEX = "crates/cax64_table/src/index.rt"
+
+ADD = "lock_addl_mi_sxb | F0 W0 83 /0 | m32 imm8:sx32 |  | Add sign-extended `imm8` to `m32`. Locked."
+JUMP = "jmp_d8 | EB | imm8:distance | branch | Jump short, by an 8-bit displacement from the next instruction."
+
+# The fifth line is the one of the addition, the eighth that of the jump.
+TABLE = f"""visit lock_add: lock_a/add
+names locked::add: lock_a/add
+names jumps::jump: jump/d8
+[lock_a/add] `lock add`. (Intel SDM, volume 2, `ADD`.)
+{ADD}
+
+[jump/d8] Jumps by a distance of one byte. (Intel SDM, volume 2, `JMP`.)
+{JUMP}
+"""
+
+# What stands in the place of the addition, and the sentence that it gets.
+BAD_LINES = (
+    ("lock_addl_mi_sxb | F0 W0 83 /0 | m32 imm8:sx32 | Add.",
+     "it has 4 columns, and a line has 5: name, code, operands, words, sentence"),
+    (ADD.replace("lock_addl_mi_sxb", "Lock-add"),
+     "the name of an instruction is small letters, digits and underscores"),
+    (ADD.replace("83 /0", "83 /r"), "its code has /r, and none of its operands is a register that stands there"),
+    (ADD.replace("83 /0", "83 /8"), "/8 stands behind the opcode, where only /r or a digit from /0 to /7 may"),
+    (ADD.replace("83 /0", "183 /0"), "183 stands where the opcode byte would, two digits as 8F"),
+    (ADD.replace("F0 W0", "VEX.128.67.0F.W0"),
+     "67 in VEX.128.67.0F.W0 is no such field of a VEX prefix: there are NP, 66, F3, F2"),
+    (ADD.replace("m32 imm8", "m32 r32 imm8"), "no field takes r32: a digit stands in reg"),
+    (ADD.replace("83 /0", "83"), "no field takes m32, since its code has no ModR/M byte, which /r or a digit says"),
+    (ADD.replace("m32 imm8", "m32 m64 imm8"), "it has 2 operands that may be memory, and a ModR/M byte holds one"),
+    (ADD.replace("m32 imm8", "m32 imm32 imm8"), "no field takes imm8: it has an immediate already"),
+    (ADD.replace("imm8:sx32", "imm8"), "imm8 works on 32 bits: it needs an extension, sx32, or the word count"),
+    (ADD.replace("imm8:sx32", "imm8:sx64"), "imm8 is extended to 64 bits, and works on 32"),
+    (ADD.replace("m32", "n32"), "n32 is no operand's name, as r32, m32, rm32, imm32, xmm1, xmm_m128 or eax"),
+    (ADD.replace("m32", "m32:rw", 1), "m32:rw: no kind of operand says this access"),
+    (ADD.replace("|  |", "| locked |"), "locked is a word that the table doesn't know"),
+    (ADD.replace("|  |", "| shift call |"), "call says once more what another word says"),
+    (ADD.replace("|  |", "| visits:r32 |"), "its visits name r32, and it has m32"),
+    (ADD.replace(". Locked.", ""), "its sentence, which documents the struct, is missing or doesn't end"),
+    (ADD.replace("F0 W0 83 /0", "= nopl_rm"),
+     "only a no-operation shares another's row: its operand would be nop:1 to nop:9"),
+    (ADD.replace("m32 imm8:sx32", "nop:12"), "nop:12 names no no-operation, as nop:1 to nop:9 do"),
+)
+
+# What stands behind the table, in line 9, and the sentence that it gets with the name before it.
+BAD_ENDS = (
+    (JUMP, "jmp_d8: the name stands in line 8 too"),
+    (JUMP.replace("jmp_d8", "jo_d8"), f"jo_d8: it has no place in all_rows of {ROWS}"),
+    ("[lock_b/or] `lock or`.", "lock_b/or: the group has no struct"),
+    ("visit lock_or: lock_b/or", "lock_or: lock_b/or is no group whose instructions have a place here"),
+)
+
+# Tables of two rows that can't stand beside one another, by what the jump's line becomes.
+BAD_PAIRS = (
+    (JUMP.replace("EB | imm8:distance", "F0 W0 83 /0 | m32 imm8:sx32"),
+     "lock_addl_mi_sxb: its prefixes, W, opcode and digit are those of jmp_d8, line 8"),
+    (JUMP.replace("EB", "83"), "lock_addl_mi_sxb: its opcode has a digit here, and none in jmp_d8, line 8"),
+    (JUMP.replace("EB", "W0 EB"),
+     f"jmp_d8: no macro of {INDEX} puts rows where the prefixes and W of those of opcode EB ask"),
+)
+
+
+def bad_tables():
+    """Each with where it is refused, and with what is said of it."""
+    for line, sentence in BAD_LINES:
+        yield TABLE.replace(ADD, line), ":5", f"{line.split(' |')[0]}: {sentence}"
+    for line, sentence in BAD_ENDS:
+        yield f"{TABLE}{line}\n", ":9", sentence
+    for line, sentence in BAD_PAIRS:
+        yield TABLE.replace(JUMP, line), ":8" if sentence.startswith("jmp_d8") else ":5", sentence
+    yield TABLE.replace(JUMP, ""), "", f"jmp_d8: it stands in all_rows of {ROWS}, and no line of the table is its row"
+
+
+def pages(name):
+    """The files of a list, each behind a line with its path."""
+    parts = (HERE / "test" / name).read_text(encoding="utf-8").split("==> ")[1:]
+    return dict(part.split("\n", 1) for part in parts)
+
+
+class Checkout:
+    """A folder with the scripts, a table and the files of before.txt."""
+
+    def __init__(self, folder, table):
+        self.root = Path(folder)
+        (self.root / "table").mkdir()
+        for script in HERE.glob("*.py"):
+            shutil.copy(script, self.root / "table")
+        self.put("table/instructions.txt", table)
+        for path, text in pages("before.txt").items():
+            self.put(path, text)
+
+    def put(self, path, text):
+        file = self.root / path
+        file.parent.mkdir(parents=True, exist_ok=True)
+        file.write_text(text, encoding="utf-8")
+
+    def files(self):
+        """The text of each file below crates/."""
+        found = sorted((self.root / "crates").rglob("*.*"))
+        return {str(file.relative_to(self.root)): file.read_text(encoding="utf-8") for file in found}
+
+    def run(self, *words):
+        """The status of the script, and what it complained of."""
+        command = [sys.executable, self.root / "table/write.py", *words]
+        done = subprocess.run(command, capture_output=True, text=True, encoding="utf-8", check=False)
+        return done.returncode, done.stderr.splitlines()
+
+
+class Tests:
+    def __init__(self):
+        self.passed = 0
+        self.failed = 0
+
+    def same(self, what, found, wanted):
+        if found == wanted:
+            self.passed += 1
+        else:
+            self.failed += 1
+            print(f"{what}\n  found  {found}\n  wanted {wanted}")
+
+    def bad_tables(self):
+        """Each is refused with its sentence, and nothing is written."""
+        with tempfile.TemporaryDirectory() as folder:
+            checkout = Checkout(folder, TABLE)
+            before = checkout.files()
+            for table, place, sentence in bad_tables():
+                checkout.put("table/instructions.txt", table)
+                wanted = 2, [f"table/instructions.txt{place}: {sentence}"]
+                self.same(sentence, checkout.run(), wanted)
+            self.same("what a refused table leaves", checkout.files(), before)
+
+    def two_instructions(self):
+        with tempfile.TemporaryDirectory() as folder:
+            checkout = Checkout(folder, TABLE)
+            self.same("what is written has no complaint", checkout.run(), (0, []))
+            found, wanted = checkout.files(), pages("after.txt")
+            self.same("the files that are there", sorted(found), sorted(wanted))
+            for path, text in wanted.items():
+                self.same(path, found.get(path), text)
+            self.same("what was written is as the table gives it", checkout.run("--check"), (0, []))
+            self.changed_by_hand(checkout, found)
+
+    def changed_by_hand(self, checkout, found):
+        """A change is found in a file, in a part, and where a file or a mark has gone."""
+        struct, left = "crates/lock_a/src/add.rt", "crates/jump/src/d32.rt"
+        differs, gone = "this isn't what the table gives", "the table doesn't give this file any more"
+        without = "it has no part rows, which a line `// table/write.py: rows` begins"
+        changes = (
+            (struct, found[struct].replace("visitor.read_amode", "visitor.read"), 1, f"{struct}:61: {differs}"),
+            (INDEX, found[INDEX].replace("129, 0", "130, 0"), 1, f"{INDEX}:7: {differs}"),
+            (left, found["crates/jump/src/d8.rt"], 1, f"{left}: {gone}"),
+            (INDEX, found[INDEX].replace("// table/write.py: rows", ""), 2, f"{INDEX}: {without}"),
+        )
+        for path, text, status, sentence in changes:
+            self.after_change(checkout, path, text, (status, [sentence]))
+
+    def after_change(self, checkout, path, text, wanted):
+        before = checkout.files().get(path)
+        checkout.put(path, text)
+        self.same(f"--check after a change of {path}", checkout.run("--check"), wanted)
+        if before is None:
+            (checkout.root / path).unlink()
+        else:
+            checkout.put(path, before)
+
+
+def main():
+    tests = Tests()
+    tests.bad_tables()
+    tests.two_instructions()
+    print(f"test_write: {tests.passed} passed" + (f", {tests.failed} failed" if tests.failed else ""))
+    return 1 if tests.failed else 0
+
+
+if __name__ == "__main__":
+    sys.exit(main())

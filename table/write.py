@@ -1,0 +1,100 @@
+#!/usr/bin/env python3
+"""Writes the sources that follow from table/instructions.txt, or with --check tells which ones differ.
+
+The status is 0 where all is as it has to be, 1 where --check found a difference, and 2 where a line of the table can't
+be or a part has no place: then nothing is written.
+"""
+
+import sys
+from pathlib import Path
+
+import enumeration
+import facade
+import index
+import parts
+import rows
+import structs
+import texts
+from judging import table_of
+
+ROOT = Path(__file__).resolve().parent.parent
+TABLE = "table/instructions.txt"
+
+
+def complain(sentence):
+    print(sentence, file=sys.stderr)
+
+
+def refuse(line, name, sentence):
+    complain(f"{TABLE}:{line}: {name}: {sentence}" if line else f"{TABLE}: {name}: {sentence}")
+
+
+def sources_of(table):
+    """All files and parts that the table gives."""
+    sources = parts.Sources()
+    structs.write(table, sources)
+    rows.write(table, sources)
+    index.write(table, sources, parts.current(ROOT / index.SOURCE))
+    enumeration.write(table, sources)
+    texts.write(table, sources)
+    facade.write(table, sources)
+    return sources
+
+
+def wanted():
+    """The text of each file, and the files that have to go; None where something can't be."""
+    table, sentences = table_of(ROOT, (ROOT / TABLE).read_text(encoding="utf-8"))
+    for sentence in sentences:
+        refuse(*sentence)
+    if sentences:
+        return None
+    try:
+        sources = sources_of(table)
+        return parts.texts(ROOT, sources), list(parts.left_over(ROOT, sources))
+    except index.Unplaced as unplaced:
+        refuse(unplaced.row.line, unplaced.row.name, unplaced)
+    except parts.Misplaced as misplaced:
+        complain(misplaced)
+    return None
+
+
+def check(found, left):
+    """Tells of each file that isn't as the table gives it."""
+    differences = 0
+    for path, text in sorted(found.items()):
+        stands = parts.current(ROOT / path)
+        if stands != text:
+            complain(f"{path}:{parts.first_difference(stands, text)}: this isn't what the table gives")
+            differences += 1
+    for path in left:
+        complain(f"{path}: the table doesn't give this file any more")
+    print(f"write: {len(found)} files, {differences + len(left)} of them not as {TABLE} gives them")
+    return 1 if differences or left else 0
+
+
+def write(found, left):
+    changed = 0
+    for path, text in found.items():
+        file = ROOT / path
+        if parts.current(file) != text:
+            file.parent.mkdir(parents=True, exist_ok=True)
+            file.write_text(text, encoding="utf-8")
+            changed += 1
+    for path in left:
+        (ROOT / path).unlink()
+    print(f"write: {len(found)} files, {changed} changed, {len(left)} removed")
+    return 0
+
+
+def main(words):
+    if words not in ([], ["--check"]):
+        complain(__doc__)
+        return 2
+    found = wanted()
+    if found is None:
+        return 2
+    return check(*found) if words else write(*found)
+
+
+if __name__ == "__main__":
+    sys.exit(main(sys.argv[1:]))
