@@ -17,8 +17,7 @@ ghost use Rattle.x64_code_buffer.specs.declared.errors.BindError.{BindError};
 
 use crate::bindings::Bindings;
 use crate::errors::{BindError, FinishError};
-use crate::patch::patch_uses;
-use crate::refusal::first_refusal;
+use crate::resolve::resolve_uses;
 use crate::room::make_first_room;
 use cax64_encoder::instruction::Instruction;
 use cax64_sink::{
@@ -207,8 +206,7 @@ impl<A: Allocator> CodeBuffer<A> {
             bindings,
             is_fresh,
         } = self;
-        let refusal = first_refusal(&bindings, recorder.bytes(), recorder.notices());
-        if let Some(error) = refusal {
+        if let Err(error) = resolve_uses(&mut recorder, &bindings) {
             return Err((
                 CodeBuffer {
                     recorder,
@@ -218,7 +216,6 @@ impl<A: Allocator> CodeBuffer<A> {
                 error,
             ));
         }
-        patch_uses(&mut recorder, &bindings);
         Ok(recorder.into_bytes())
     }
 
@@ -240,15 +237,7 @@ impl<A: Allocator> CodeBuffer<A> {
         ensures label_room { label_room self.new ≡ label_room self.old }
         ensures places { SamePlaces (places_of self.old) (places_of self.new) }
     {
-        let refused = first_refusal(
-            &self.bindings,
-            self.recorder.bytes(),
-            self.recorder.notices(),
-        );
-        if let Some(error) = refused {
-            return Err(error);
-        }
-        patch_uses(&mut self.recorder, &self.bindings);
+        resolve_uses(&mut self.recorder, &self.bindings)?;
         self.recorder.clear_notices();
         Ok(())
     }

@@ -10,6 +10,7 @@ pub mod laws;
 mod message;
 mod patch;
 mod refusal;
+mod resolve;
 mod room;
 
 pub use buffer::CodeBuffer;
