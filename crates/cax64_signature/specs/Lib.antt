@@ -1,0 +1,3 @@
+-- What the clauses of public functions say.
+pub mod Kind
+pub mod Signature

@@ -1,0 +1,8 @@
+//! What operands each row of the table has: the signature of a row, beside which its operands are held.
+#![tactic(auto)]
+
+pub mod kind;
+pub mod rows;
+
+pub use kind::{ImmediateKind, OperandKind};
+pub use rows::signature;
