@@ -2,6 +2,7 @@
 #![tactic(auto)]
 
 pub mod kind;
+pub mod laws;
 pub mod rows;
 
 pub use kind::{ImmediateKind, OperandKind};
