@@ -7,3 +7,6 @@ pub mod rows;
 
 pub use kind::{ImmediateKind, OperandKind};
 pub use rows::signature;
+
+#[cfg(test)]
+mod tests;
