@@ -1,5 +1,5 @@
-use Rattle.std.proofs.Common.{◌≡◌, ◌≤◌, ◌∙◌, ℕ, ◌+◌, Bool, true, false, Option, Some, None, List, [], ◌∷◌, refl, ap, length, lit≤}
-use Rattle.std.specs.Prelude.{◌&&◌, MatchOption}
+use Rattle.std.proofs.Common.{◌≡◌, ◌≤◌, ◌∙◌, ◌+◌, Bool, true, false, List, [], ◌∷◌, refl, ap, length, lit≤}
+use Rattle.std.specs.Prelude.{◌&&◌}
 use Rattle.std.proofs.lemmas.Bool.{and_parts}
 use Rattle.cax64_machine_code.specs.Rows.{line_of}
 use Rattle.cax64_machine_code.specs.declared.line.ImmField.{ImmField}
@@ -7,7 +7,7 @@ use Rattle.cax64_machine_code.specs.declared.line.ImmField.TheVariants as field
 use Rattle.cax64_machine_code.specs.declared.line.Line.{Line}
 use Rattle.cax64_machine_code.specs.declared.row.Row.{Row}
 use Rattle.cax64_operand.specs.Immediate.{imm_of, imm_in_range}
-use Rattle.cax64_operand.specs.OperandList.{list_of, nop_of}
+use Rattle.cax64_operand.specs.OperandList.{list_of}
 use Rattle.cax64_operand.specs.Shape.{register_count, rest_of, imm_in, imm_fits, imm_has_size, takes, HasShape}
 use Rattle.cax64_operand.specs.declared.immediate.Immediate.{Immediate}
 use Rattle.cax64_operand.specs.declared.immediate.Immediate.TheVariants as immediate

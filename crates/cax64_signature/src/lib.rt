@@ -4,6 +4,8 @@
 pub mod kind;
 pub mod laws;
 pub mod rows;
+mod same;
+pub mod worked;
 
 pub use kind::{ImmediateKind, OperandKind};
 pub use rows::signature;
