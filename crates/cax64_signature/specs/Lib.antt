@@ -2,4 +2,6 @@
 pub mod Kind
 pub mod Signature
 pub mod Worked
+-- What the proofs take.
 pub mod Same
+pub mod Equality

@@ -77,3 +77,10 @@ fn signatures_are_the_manuals_operands(rt: HostRuntime) -> Result<(), AllocError
     }
     Ok(())
 }
+
+#[test]
+fn signatures_are_compared(rt: HostRuntime) {
+    assert!(rt; signature(Row::lock_addb_mi) == signature(Row::lock_xorb_mi));
+    assert!(rt; signature(Row::mulxl_rvm) != signature(Row::mulxq_rvm));
+    assert!(rt; signature(Row::cmpps_a) != signature(Row::vcmpps_b));
+}
