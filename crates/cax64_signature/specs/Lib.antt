@@ -2,6 +2,6 @@
 pub mod Kind
 pub mod Signature
 pub mod Worked
--- What the proofs take.
+-- Steps of the proofs.
 pub mod Same
 pub mod Equality
