@@ -4,8 +4,6 @@
 #![tactic(auto)]
 
 #[cfg(test)]
-mod kinds;
-#[cfg(test)]
 mod lists;
 #[cfg(test)]
 mod process;
