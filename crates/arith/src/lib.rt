@@ -2,6 +2,7 @@
 #![tactic(auto)]
 #![allow(non_camel_case_types)]
 
+// table/write.py: modules
 mod and;
 mod mulx;
 mod rol;
@@ -19,3 +20,4 @@ pub use sar::{sarb_m1, sarl_m1, sarq_m1, sarw_m1};
 pub use shl::{shlb_m1, shll_m1, shlq_m1, shlw_m1};
 pub use shr::{shrb_m1, shrl_m1, shrq_m1, shrw_m1};
 pub use xchg::{xchgb_rm, xchgl_rm, xchgq_rm, xchgw_rm};
+// table/write.py: end

@@ -1,3 +1,4 @@
+// Written by table/write.py from table/instructions.txt.
 //! `mulx`. (Intel SDM, volume 2, `MULX`.)
 
 ghost use Rattle.std.specs.Prelude.{◌≡◌, None};

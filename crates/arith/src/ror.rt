@@ -1,3 +1,4 @@
+// Written by table/write.py from table/instructions.txt.
 //! `ror` by one. (Intel SDM, volume 2, `RCL/RCR/ROL/ROR`.)
 
 ghost use Rattle.std.specs.Prelude.{◌≡◌, IsTrue, IfOk, string_bytes};

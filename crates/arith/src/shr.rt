@@ -1,3 +1,4 @@
+// Written by table/write.py from table/instructions.txt.
 //! `shr` by one. (Intel SDM, volume 2, `SAL/SAR/SHL/SHR`.)
 
 ghost use Rattle.std.specs.Prelude.{◌≡◌, IsTrue, IfOk, string_bytes};

@@ -1,3 +1,4 @@
+// Written by table/write.py from table/instructions.txt.
 //! `xchg`. (Intel SDM, volume 2, `XCHG`.)
 
 ghost use Rattle.std.specs.Prelude.{◌≡◌, IsTrue, IfOk, string_bytes};

@@ -16,6 +16,7 @@ pub fn is_64_bit(row: Row) -> bool
     ensures { result ≡ is_64_bit row }
 {
     match row {
+        // table/write.py: modes
         Row::lock_addq_mi_sxl | Row::lock_addq_mi_sxb | Row::lock_addq_mr => true,
         Row::lock_orq_mi_sxl | Row::lock_orq_mi_sxb | Row::lock_orq_mr => true,
         Row::lock_adcq_mi_sxl | Row::lock_adcq_mi_sxb | Row::lock_adcq_mr => true,
@@ -26,6 +27,7 @@ pub fn is_64_bit(row: Row) -> bool
         Row::lock_xaddq_mr | Row::lock_cmpxchgq_mr | Row::lock_cmpxchg16b_m | Row::xchgq_rm => true,
         Row::rolq_m1 | Row::rorq_m1 | Row::shlq_m1 | Row::shrq_m1 | Row::sarq_m1 => true,
         Row::callq_m | Row::jmpq_m | Row::mulxq_rvm => true,
+        // table/write.py: end
         _ => false,
     }
 }
@@ -35,6 +37,7 @@ pub fn second_feature(row: Row) -> Option<Feature>
     ensures { result ≡ second_feature row }
 {
     match row {
+        // table/write.py: extensions
         Row::andps_a | Row::cmpps_a | Row::cmpss_a => Some(Feature::sse),
         Row::cmppd_a | Row::cmpsd_a => Some(Feature::sse2),
         Row::vcmpps_b
@@ -45,6 +48,7 @@ pub fn second_feature(row: Row) -> Option<Feature>
         | Row::vcvttpd2dq_a => Some(Feature::avx),
         Row::mulxl_rvm | Row::mulxq_rvm => Some(Feature::bmi2),
         Row::lock_cmpxchg16b_m => Some(Feature::cmpxchg16b),
+        // table/write.py: end
         _ => None,
     }
 }

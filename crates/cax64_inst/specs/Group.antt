@@ -1,3 +1,4 @@
+-- Written by table/write.py from table/instructions.txt.
 use Rattle.std.specs.Prelude.{ℕ}
 use Rattle.cax64_inst.specs.declared.Inst.{Inst}
 use Rattle.cax64_inst.specs.declared.Inst.TheVariants as inst

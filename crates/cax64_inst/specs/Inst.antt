@@ -1,3 +1,4 @@
+-- Written by table/write.py from table/instructions.txt.
 use Rattle.cax64_machine_code.specs.declared.row.Row.{Row}
 use Rattle.cax64_machine_code.specs.declared.row.Row.TheVariants as row
 use Rattle.cax64_operand.specs.declared.operand.Operands.{Operands}

@@ -1,3 +1,4 @@
+// Written by table/write.py from table/instructions.txt.
 //! Each of these instructions as one of all.
 
 ghost use Rattle.std.specs.Prelude.{◌≡◌};

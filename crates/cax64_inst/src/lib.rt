@@ -4,6 +4,7 @@
 
 ghost use Rattle.cax64_inst.specs.Inst.{row_of, operands_of};
 
+// table/write.py: uses
 use arith::andb_i;
 use arith::mulxl_rvm;
 use arith::mulxq_rvm;
@@ -171,6 +172,7 @@ use simd::vcmpsd_b;
 use simd::vcmpss_b;
 use simd::vcvtpd2ps_a;
 use simd::vcvttpd2dq_a;
+// table/write.py: end
 
 mod from_arith;
 mod from_jump;
@@ -198,6 +200,7 @@ mod visit;
 /// ```
 #[derive(Drop)]
 pub enum Inst<R: Registers> {
+    // table/write.py: variants
     nop_1b(nop_1b),
     nop_2b(nop_2b),
     nop_3b(nop_3b),
@@ -361,6 +364,7 @@ pub enum Inst<R: Registers> {
     jge_d32(jge_d32),
     jle_d32(jle_d32),
     jg_d32(jg_d32),
+    // table/write.py: end
 }
 
 impl<R: Registers> RowAndOperands for Inst<R> {

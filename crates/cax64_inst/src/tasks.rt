@@ -15,12 +15,14 @@ use crate::Inst;
 use cax64_machine_code::row::Row;
 use cax64_operand::{FromOperands, Immediate, Nop, Operand, RowAndOperands, Task, of_one};
 use cax64_register::Registers;
+// table/write.py: uses
 use jump::{
     callq_d, ja_d8, ja_d32, jae_d8, jae_d32, jb_d8, jb_d32, jbe_d8, jbe_d32, je_d8, je_d32, jg_d8,
     jg_d32, jge_d8, jge_d32, jl_d8, jl_d32, jle_d8, jle_d32, jmp_d8, jmp_d32, jne_d8, jne_d32,
     jno_d8, jno_d32, jnp_d8, jnp_d32, jns_d8, jns_d32, jo_d8, jo_d32, jp_d8, jp_d32, js_d8, js_d32,
 };
 use nop::{nop_1b, nop_2b, nop_3b, nop_4b, nop_5b, nop_6b, nop_7b, nop_8b, nop_9b};
+// table/write.py: end
 
 /// Hands on an instruction. That its operands have their row's shape is one word here, in what is asked: the search for a
 /// proof takes the definition's many parts apart in every arm.
@@ -120,6 +122,7 @@ impl<R: Registers> Inst<R> {
         ensures shape { HasShape (row_of self.now) (operands_of self.now) }
     {
         match self {
+            // table/write.py: arms
             Inst::lock_addb_mi(i) => give::<_, T, X>(i, to),
             Inst::lock_addw_mi(i) => give::<_, T, X>(i, to),
             Inst::lock_addl_mi(i) => give::<_, T, X>(i, to),
@@ -423,6 +426,7 @@ impl<R: Registers> Inst<R> {
                 Row::jg_d32,
                 to,
             ),
+            // table/write.py: end
         }
     }
 }

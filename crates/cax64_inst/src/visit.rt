@@ -21,6 +21,7 @@ impl<R: Registers> Inst<R> {
         ensures row { row_of self.new ≡ row_of self.old }
     {
         match self {
+            // table/write.py: arms
             Inst::lock_addb_mi(_) => self.visit_lock_add_or(visitor),
             Inst::lock_addw_mi(_) => self.visit_lock_add_or(visitor),
             Inst::lock_addl_mi(_) => self.visit_lock_add_or(visitor),
@@ -184,9 +185,11 @@ impl<R: Registers> Inst<R> {
             Inst::jge_d32(_) => {}
             Inst::jle_d32(_) => {}
             Inst::jg_d32(_) => {}
+            // table/write.py: end
         }
     }
 
+    // table/write.py: groups
     /// Visits what is within, which is of the first group. So do the others, each with its group.
     #[tactic(auto, unfolding(crate::specs::Inst::row_of, crate::specs::Inst::operands_of, crate::specs::Group::group_of))]
     #[inline(always)]
@@ -378,4 +381,5 @@ impl<R: Registers> Inst<R> {
             _ => {}
         }
     }
+    // table/write.py: end
 }

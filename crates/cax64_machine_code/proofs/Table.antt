@@ -2,8 +2,10 @@ use Rattle.std.proofs.Common.{◌≡◌, ℕ, zero, suc, List, [], ◌∷◌, re
 use Rattle.cax64_machine_code.specs.Rows.{line_of, all_rows}
 use Rattle.cax64_machine_code.proofs.Apart.{all_apart}
 use Rattle.cax64_machine_code.specs.declared.row.Row.{Row}
+-- table/write.py: variants
 use Rattle.cax64_machine_code.specs.declared.row.Row.TheVariants.{lock_addb_mi, lock_addw_mi, lock_addl_mi, lock_addq_mi_sxl, lock_addl_mi_sxb, lock_addq_mi_sxb, lock_addb_mr, lock_addw_mr, lock_addl_mr, lock_addq_mr, lock_orb_mi, lock_orw_mi, lock_orl_mi, lock_orq_mi_sxl, lock_orl_mi_sxb, lock_orq_mi_sxb, lock_orb_mr, lock_orw_mr, lock_orl_mr, lock_orq_mr, lock_adcb_mi, lock_adcw_mi, lock_adcl_mi, lock_adcq_mi_sxl, lock_adcl_mi_sxb, lock_adcq_mi_sxb, lock_adcb_mr, lock_adcw_mr, lock_adcl_mr, lock_adcq_mr, lock_sbbb_mi, lock_sbbw_mi, lock_sbbl_mi, lock_sbbq_mi_sxl, lock_sbbl_mi_sxb, lock_sbbq_mi_sxb, lock_sbbb_mr, lock_sbbw_mr, lock_sbbl_mr, lock_sbbq_mr, lock_andb_mi, lock_andw_mi, lock_andl_mi, lock_andq_mi_sxl, lock_andl_mi_sxb, lock_andq_mi_sxb, lock_andb_mr, lock_andw_mr, lock_andl_mr, lock_andq_mr, lock_subb_mi, lock_subw_mi, lock_subl_mi, lock_subq_mi_sxl, lock_subl_mi_sxb, lock_subq_mi_sxb, lock_subb_mr, lock_subw_mr, lock_subl_mr, lock_subq_mr, lock_xorb_mi, lock_xorw_mi, lock_xorl_mi, lock_xorq_mi_sxl, lock_xorl_mi_sxb, lock_xorq_mi_sxb, lock_xorb_mr, lock_xorw_mr, lock_xorl_mr, lock_xorq_mr, lock_xaddb_mr, lock_xaddw_mr, lock_xaddl_mr, lock_xaddq_mr, lock_cmpxchgb_mr, lock_cmpxchgw_mr, lock_cmpxchgl_mr, lock_cmpxchgq_mr, lock_cmpxchg16b_m, xchgb_rm, xchgw_rm, xchgl_rm, xchgq_rm, rolb_m1, rolw_m1, roll_m1, rolq_m1, rorb_m1, rorw_m1, rorl_m1, rorq_m1, shlb_m1, shlw_m1, shll_m1, shlq_m1, shrb_m1, shrw_m1, shrl_m1, shrq_m1, sarb_m1, sarw_m1, sarl_m1, sarq_m1, callq_m, jmpq_m, andps_a, cmpps_a, cmppd_a, cmpss_a, cmpsd_a, andb_i, callq_d, jmp_d8, jmp_d32, jo_d8, jno_d8, jb_d8, jae_d8, je_d8, jne_d8, jbe_d8, ja_d8, js_d8, jns_d8, jp_d8, jnp_d8, jl_d8, jge_d8, jle_d8, jg_d8, jo_d32, jno_d32, jb_d32, jae_d32, je_d32, jne_d32, jbe_d32, ja_d32, js_d32, jns_d32, jp_d32, jnp_d32, jl_d32, jge_d32, jle_d32, jg_d32, vcmpps_b, vcmppd_b, vcmpss_b, vcmpsd_b, vcvtpd2ps_a, vcvttpd2dq_a, mulxl_rvm, mulxq_rvm, nop_1b, nop_2b, nopl_rm, nopw_rm}
 
+-- table/write.py: end
 -- each two rows of the table are apart
 pub table_apart : all_apart all_rows ≡ true
 unfolding line_of all_rows
@@ -16,6 +18,7 @@ pub data IsIn (row : Row) : List Row → Type 0 where
 
 -- the place of a row in the list of all rows
 unfoldable pub place_of : Row → ℕ
+-- table/write.py: places
 place_of lock_addb_mi = 0
 place_of lock_addw_mi = 1
 place_of lock_addl_mi = 2
@@ -175,6 +178,7 @@ place_of nop_2b = 155
 place_of nopl_rm = 156
 place_of nopw_rm = 157
 
+-- table/write.py: end
 stands_at : (row : Row) → slice_get all_rows (place_of row) ≡ Some row
 unfolding all_rows place_of
 stands_at lock_addb_mi = refl

@@ -8,6 +8,7 @@ ghost use Rattle.cax64_machine_code.specs.Names.{name_of};
 #[allow(non_camel_case_types)]
 #[derive(Clone, Copy, Debug, PartialEq)]
 pub enum Row {
+    // table/write.py: variants
     lock_addb_mi,
     lock_addw_mi,
     lock_addl_mi,
@@ -166,6 +167,7 @@ pub enum Row {
     nop_2b,
     nopl_rm,
     nopw_rm,
+    // table/write.py: end
 }
 
 impl Row {
@@ -174,6 +176,7 @@ impl Row {
         ensures { result.now ≡ name_of self.now }
     {
         match self {
+            // table/write.py: names
             Row::lock_addb_mi => "lock_addb_mi",
             Row::lock_addw_mi => "lock_addw_mi",
             Row::lock_addl_mi => "lock_addl_mi",
@@ -332,6 +335,7 @@ impl Row {
             Row::nop_2b => "nop_2b",
             Row::nopl_rm => "nopl_rm",
             Row::nopw_rm => "nopw_rm",
+            // table/write.py: end
         }
     }
 }

@@ -190,8 +190,10 @@ only_of_slot o (byte ∷ rest) class w row b c v h =
 
 -- the number of each class
 LOWS : List ℕ
+-- table/write.py: lows
 LOWS = 0 ∷ 2 ∷ 4 ∷ 6 ∷ 8 ∷ 16 ∷ 9 ∷ 11 ∷ 13 ∷ 15 ∷ 23 ∷ 256 ∷ []
 
+-- table/write.py: end
 number_is_for : ℕ → ℕ → Option Row → Bool
 number_is_for class w None = true
 number_is_for class w (Some row) = (low_of row == slice_index LOWS class) && takes row w

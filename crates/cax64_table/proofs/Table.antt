@@ -16,6 +16,7 @@ unfolding line_of number_of
 entry_is lock_addb_mi = refl
 entry_is _ = refl
 
+-- table/write.py: number
 below : (row : Row) → nat_lt (number_of row) 158 ≡ true
 unfolding number_of
 below lock_addb_mi = refl
@@ -24,6 +25,7 @@ below _ = refl
 pub number_below : (row : Row) → number_of row < 158
 number_below row = ltb-true (number_of row) 158 (below row)
 
+-- table/write.py: end
 -- Its numbers stand in it as they are.
 
 pub digit_is : (row : Row) → bits_at (entry_of row) 17 3 ≡ digit_of (line_of row).tail

@@ -16,6 +16,7 @@ use cax64_machine_code::row::Row;
 
 /// The slot of each opcode byte, and from 256 on of each behind 0F; 128 more than the slot of digit 0 where the rows of
 /// the opcode have digits, and 0 where it has no row.
+// table/write.py: slots
 const SLOTS: [u8; 512] = [
     1, 2, 0, 0, 0, 0, 0, 0, 3, 4, 0, 0, 0, 0, 0, 0, 5, 6, 0, 0, 0, 0, 0, 0, 7, 8, 0, 0, 0, 0, 0, 0,
     9, 10, 0, 0, 11, 0, 0, 0, 12, 13, 0, 0, 0, 0, 0, 0, 14, 15, 0, 0, 0, 0, 0, 0, 0, 0, 0, 0, 0, 0,
@@ -36,9 +37,11 @@ const SLOTS: [u8; 512] = [
     0, 0, 0, 0, 0, 0, 0, 0, 0, 0, 0, 0, 0, 0, 0, 0, 0, 0, 0, 0, 0, 0, 0, 0, 0, 0, 0, 0, 0, 0, 0, 0,
     0, 0, 0, 0,
 ];
+// table/write.py: end
 
 /// The class of a prefix by the number `low`: none, F0, 66, both, F2, F3; VEX in the map 0F with nothing, 66, F3 and F2;
 /// VEX in the map 0F 38 with F2. No row has any other, which is the last class.
+// table/write.py: classes
 const CLASSES: [u8; 256] = [
     0, 11, 1, 11, 2, 11, 3, 11, 4, 6, 11, 7, 11, 8, 11, 9, 5, 11, 11, 11, 11, 11, 11, 10, 11, 11,
     11, 11, 11, 11, 11, 11, 11, 11, 11, 11, 11, 11, 11, 11, 11, 11, 11, 11, 11, 11, 11, 11, 11, 11,
@@ -52,6 +55,7 @@ const CLASSES: [u8; 256] = [
     11, 11, 11, 11, 11, 11, 11, 11, 11, 11, 11, 11, 11, 11, 11, 11, 11, 11, 11, 11, 11, 11, 11, 11,
     11, 11, 11, 11, 11, 11, 11, 11, 11, 11, 11, 11, 11, 11,
 ];
+// table/write.py: end
 
 /// No number of a row.
 const NONE: u8 = 255;
@@ -148,6 +152,7 @@ macro_rules! vex_f2 {
 
 /// The number of the row in each slot, by the class of the prefix and W. Beside it stands the opcode, with the digit. The
 /// last slots have no opcode: a slot and a digit are never more than their last number.
+// table/write.py: index
 const INDEX: [[[u8; 2]; 12]; 135] = [
     none!(), // no opcode
     lock!(lock_addb_mr), // 00
@@ -285,8 +290,10 @@ const INDEX: [[[u8; 2]; 12]; 135] = [
     none!(), // no opcode
     none!(), // no opcode
 ];
+// table/write.py: end
 
 /// The rows by number.
+// table/write.py: rows
 const ROWS: [Row; 158] = [
     Row::lock_addb_mi,
     Row::lock_addw_mi,
@@ -447,6 +454,7 @@ const ROWS: [Row; 158] = [
     Row::nopl_rm,
     Row::nopw_rm,
 ];
+// table/write.py: end
 
 /// The slot of an entry of [`SLOTS`], and of a digit where it has one for each.
 #[inline(always)]

@@ -16,6 +16,7 @@ use cax64_machine_code::row::Row;
 /// and the escape. Above them stand ready bytes, the first one the lowest: those of the opcode in sixteen bits, those
 /// of the legacy prefixes in sixteen, and in two bits how many prefixes there are. The rows, named beside their
 /// numbers, are in the order of [`Row`].
+// table/write.py: table
 const TABLE: [u64; 158] = [
     0x403c_0020_1000_88a1, // lock_addb_mi
     0x99bc_0020_5020_8982, // lock_addw_mi
@@ -176,6 +177,7 @@ const TABLE: [u64; 158] = [
     0x0000_07c3_e3e0_a800, // nopl_rm
     0x4019_87c3_e3e0_a900, // nopw_rm
 ];
+// table/write.py: end
 
 /// So many bits, from this one up.
 #[inline(always)]
@@ -301,6 +303,7 @@ fn unpack(packed: u64) -> Line
     }
 }
 
+// table/write.py: number
 #[inline(always)]
 fn number(row: Row) -> usize
     ensures is { result ≡ number_of row }
@@ -308,6 +311,7 @@ fn number(row: Row) -> usize
 {
     row as usize
 }
+// table/write.py: end
 
 #[inline(always)]
 pub(crate) fn entry(row: Row) -> u64

@@ -13,6 +13,7 @@ pub fn row_mnemonic(row: Row) -> &'static str
     ensures { result.now ≡ row_mnemonic row }
 {
     match row {
+        // table/write.py: mnemonics
         Row::lock_addb_mi | Row::lock_addb_mr => "lock addb",
         Row::lock_addw_mi | Row::lock_addw_mr => "lock addw",
         Row::lock_addl_mi | Row::lock_addl_mi_sxb | Row::lock_addl_mr => "lock addl",
@@ -108,6 +109,7 @@ pub fn row_mnemonic(row: Row) -> &'static str
         Row::mulxl_rvm => "mulxl",
         Row::mulxq_rvm => "mulxq",
         Row::nop_1b | Row::nop_2b | Row::nopl_rm | Row::nopw_rm => "nop",
+        // table/write.py: end
     }
 }
 
@@ -117,8 +119,10 @@ pub fn mnemonic(row: Row, register: bool) -> &'static str
     ensures { result.now ≡ mnemonic_for register row }
 {
     match row {
+        // table/write.py: memory
         Row::vcvtpd2ps_a if !register => "vcvtpd2psx",
         Row::vcvttpd2dq_a if !register => "vcvttpd2dqx",
+        // table/write.py: end
         _ => row_mnemonic(row),
     }
 }
@@ -129,10 +133,12 @@ pub fn shift_name(row: Row) -> &'static str
     ensures { result.now ≡ without_last (row_mnemonic row) }
 {
     match row {
+        // table/write.py: shifts
         Row::rolb_m1 | Row::rolw_m1 | Row::roll_m1 | Row::rolq_m1 => "rol",
         Row::rorb_m1 | Row::rorw_m1 | Row::rorl_m1 | Row::rorq_m1 => "ror",
         Row::shlb_m1 | Row::shlw_m1 | Row::shll_m1 | Row::shlq_m1 => "shl",
         Row::shrb_m1 | Row::shrw_m1 | Row::shrl_m1 | Row::shrq_m1 => "shr",
         _ => "sar",
+        // table/write.py: end
     }
 }

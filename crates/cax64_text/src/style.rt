@@ -47,6 +47,7 @@ impl Style {
         ensures { result ≡ style_of row }
     {
         match row {
+            // table/write.py: styles
             Row::lock_xaddb_mr | Row::lock_xaddw_mr | Row::lock_xaddl_mr | Row::lock_xaddq_mr =>
                 Style::Forward,
             Row::xchgb_rm | Row::xchgw_rm | Row::xchgl_rm | Row::xchgq_rm => Style::Exchange,
@@ -66,6 +67,7 @@ impl Style {
             Row::vcmppd_b => Style::VexCompare(Elements::PackedDouble),
             Row::vcmpss_b => Style::VexCompare(Elements::ScalarSingle),
             Row::vcmpsd_b => Style::VexCompare(Elements::ScalarDouble),
+            // table/write.py: end
             _ => Style::Plain,
         }
     }
@@ -95,6 +97,7 @@ pub fn opcode_and_imm_len(row: Row) -> u8
     ensures most { result ≤ 6 }
 {
     match row {
+        // table/write.py: lengths
         Row::lock_addb_mi | Row::lock_addl_mi_sxb | Row::lock_addq_mi_sxb | Row::lock_orb_mi => 2,
         Row::lock_orl_mi_sxb | Row::lock_orq_mi_sxb | Row::lock_adcb_mi => 2,
         Row::lock_adcl_mi_sxb | Row::lock_adcq_mi_sxb | Row::lock_sbbb_mi => 2,
@@ -120,6 +123,7 @@ pub fn opcode_and_imm_len(row: Row) -> u8
         Row::jo_d32 | Row::jno_d32 | Row::jb_d32 | Row::jae_d32 | Row::je_d32 | Row::jne_d32 => 6,
         Row::jbe_d32 | Row::ja_d32 | Row::js_d32 | Row::jns_d32 | Row::jp_d32 | Row::jnp_d32 => 6,
         Row::jl_d32 | Row::jge_d32 | Row::jle_d32 | Row::jg_d32 => 6,
+        // table/write.py: end
         _ => 1,
     }
 }

@@ -64,6 +64,7 @@ pub mod xmm {
 
 /// The instructions, and the enumeration of them all.
 pub mod inst {
+    // table/write.py: instructions
     pub use arith::andb_i;
     pub use arith::mulxl_rvm;
     pub use arith::mulxq_rvm;
@@ -228,6 +229,7 @@ pub mod inst {
     pub use simd::vcmpss_b;
     pub use simd::vcvtpd2ps_a;
     pub use simd::vcvttpd2dq_a;
+    // table/write.py: end
 }
 
 /// REX prefixes and displacements.

@@ -1,3 +1,4 @@
+-- Written by table/write.py from table/instructions.txt.
 use Rattle.cax64_operand.specs.declared.immediate.Immediate.TheVariants.{Distance8, Distance32}
 use Rattle.cax64_operand.specs.declared.operand.Operand.TheVariants.{Imm}
 use Rattle.cax64_operand.specs.declared.operand.Operands.{Operands}

@@ -1,3 +1,4 @@
+// Written by table/write.py from table/instructions.txt.
 //! Jumps and calls by a distance of four bytes. (Intel SDM, volume 2, `JMP`, `Jcc` and `CALL`.)
 
 ghost use Rattle.std.specs.Prelude.{◌≡◌, IfOk, string_bytes};

@@ -1,3 +1,4 @@
+// Written by table/write.py from table/instructions.txt.
 //! Jumps by a distance of one byte. (Intel SDM, volume 2, `JMP` and `Jcc`.)
 
 ghost use Rattle.std.specs.Prelude.{◌≡◌, IfOk, string_bytes};

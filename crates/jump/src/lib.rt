@@ -2,6 +2,7 @@
 #![tactic(auto)]
 #![allow(non_camel_case_types)]
 
+// table/write.py: modules
 mod d32;
 mod d8;
 mod rm;
@@ -15,3 +16,4 @@ pub use d32::{
     jne_d32, jno_d32, jnp_d32, jns_d32, jo_d32, jp_d32, js_d32,
 };
 pub use rm::{callq_m, jmpq_m};
+// table/write.py: end

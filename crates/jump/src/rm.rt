@@ -1,3 +1,4 @@
+// Written by table/write.py from table/instructions.txt.
 //! Jumps and calls to the place that a register or memory holds. (Intel SDM, volume 2, `JMP` and `CALL`.)
 
 ghost use Rattle.std.specs.Prelude.{◌≡◌, IsTrue, IfOk, string_bytes};

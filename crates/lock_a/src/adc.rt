@@ -1,3 +1,4 @@
+// Written by table/write.py from table/instructions.txt.
 //! `lock adc`. (Intel SDM, volume 2, `ADC`.)
 
 ghost use Rattle.std.specs.Prelude.{◌≡◌};

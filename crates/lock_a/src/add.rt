@@ -1,3 +1,4 @@
+// Written by table/write.py from table/instructions.txt.
 //! `lock add`. (Intel SDM, volume 2, `ADD`.)
 
 ghost use Rattle.std.specs.Prelude.{◌≡◌};

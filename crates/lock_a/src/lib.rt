@@ -2,6 +2,7 @@
 #![tactic(auto)]
 #![allow(non_camel_case_types)]
 
+// table/write.py: modules
 mod adc;
 mod add;
 mod or;
@@ -18,3 +19,4 @@ pub use or::{
     lock_orb_mi, lock_orb_mr, lock_orl_mi, lock_orl_mi_sxb, lock_orl_mr, lock_orq_mi_sxb,
     lock_orq_mi_sxl, lock_orq_mr, lock_orw_mi, lock_orw_mr,
 };
+// table/write.py: end

@@ -1,3 +1,4 @@
+// Written by table/write.py from table/instructions.txt.
 //! `lock or`. (Intel SDM, volume 2, `OR`.)
 
 ghost use Rattle.std.specs.Prelude.{◌≡◌};

@@ -1,3 +1,4 @@
+// Written by table/write.py from table/instructions.txt.
 //! `lock and`. (Intel SDM, volume 2, `AND`.)
 
 ghost use Rattle.std.specs.Prelude.{◌≡◌};

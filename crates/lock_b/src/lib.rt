@@ -2,6 +2,7 @@
 #![tactic(auto)]
 #![allow(non_camel_case_types)]
 
+// table/write.py: modules
 mod and;
 mod sbb;
 mod sub;
@@ -23,3 +24,4 @@ pub use xor::{
     lock_xorb_mi, lock_xorb_mr, lock_xorl_mi, lock_xorl_mi_sxb, lock_xorl_mr, lock_xorq_mi_sxb,
     lock_xorq_mi_sxl, lock_xorq_mr, lock_xorw_mi, lock_xorw_mr,
 };
+// table/write.py: end

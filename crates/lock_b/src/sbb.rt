@@ -1,3 +1,4 @@
+// Written by table/write.py from table/instructions.txt.
 //! `lock sbb`. (Intel SDM, volume 2, `SBB`.)
 
 ghost use Rattle.std.specs.Prelude.{◌≡◌};

@@ -1,3 +1,4 @@
+// Written by table/write.py from table/instructions.txt.
 //! `lock sub`. (Intel SDM, volume 2, `SUB`.)
 
 ghost use Rattle.std.specs.Prelude.{◌≡◌};

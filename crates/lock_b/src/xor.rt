@@ -1,3 +1,4 @@
+// Written by table/write.py from table/instructions.txt.
 //! `lock xor`. (Intel SDM, volume 2, `XOR`.)
 
 ghost use Rattle.std.specs.Prelude.{◌≡◌};

@@ -1,3 +1,4 @@
+// Written by table/write.py from table/instructions.txt.
 //! `lock cmpxchg`. (Intel SDM, volume 2, `CMPXCHG` and `CMPXCHG8B/CMPXCHG16B`.)
 
 ghost use Rattle.std.specs.Prelude.{◌≡◌, None};

@@ -1,3 +1,4 @@
+// Written by table/write.py from table/instructions.txt.
 //! `lock xadd`. (Intel SDM, volume 2, `XADD`.)
 
 ghost use Rattle.std.specs.Prelude.{◌≡◌};

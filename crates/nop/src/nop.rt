@@ -1,3 +1,4 @@
+// Written by table/write.py from table/instructions.txt.
 //! Instructions that do nothing. (Intel SDM, volume 2, `NOP`, table 4-12.)
 
 ghost use Rattle.std.specs.Prelude.{◌≡◌, IfOk, string_bytes};

@@ -1,3 +1,4 @@
+// Written by table/write.py from table/instructions.txt.
 //! `andps`. (Intel SDM, volume 2, `ANDPS`.)
 
 ghost use Rattle.std.specs.Prelude.{◌≡◌};

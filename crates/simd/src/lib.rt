@@ -2,6 +2,7 @@
 #![tactic(auto)]
 #![allow(non_camel_case_types)]
 
+// table/write.py: modules
 mod and;
 mod cmp;
 mod vcmp;
@@ -11,3 +12,4 @@ pub use and::andps_a;
 pub use cmp::{cmppd_a, cmpps_a, cmpsd_a, cmpss_a};
 pub use vcmp::{vcmppd_b, vcmpps_b, vcmpsd_b, vcmpss_b};
 pub use vcvt::{vcvtpd2ps_a, vcvttpd2dq_a};
+// table/write.py: end

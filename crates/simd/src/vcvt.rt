@@ -1,3 +1,4 @@
+// Written by table/write.py from table/instructions.txt.
 //! Conversions. (Intel SDM, volume 2, `CVTPD2PS` and `CVTTPD2DQ`.)
 
 ghost use Rattle.std.specs.Prelude.{◌≡◌};

@@ -1,15 +1,18 @@
 //! Arithmetic without a lock.
 
 use crate::values::Values;
+// table/write.py: uses
 use cranelift_assembler_x64::inst::{
     andb_i, mulxl_rvm, mulxq_rvm, rolb_m1, roll_m1, rolq_m1, rolw_m1, rorb_m1, rorl_m1, rorq_m1,
     rorw_m1, sarb_m1, sarl_m1, sarq_m1, sarw_m1, shlb_m1, shll_m1, shlq_m1, shlw_m1, shrb_m1,
     shrl_m1, shrq_m1, shrw_m1, xchgb_rm, xchgl_rm, xchgq_rm, xchgw_rm,
 };
+// table/write.py: end
 use cranelift_assembler_x64::{Inst, Numbers};
 
 pub(crate) fn arithmetic(name: &str, v: &mut Values<'_>) -> Option<Inst<Numbers>> {
     match name {
+        // table/write.py: arithmetic
         "andb_i" => Some(Inst::andb_i(andb_i::new(v.fixed("al"), v.imm8("imm8")))),
         "mulxl_rvm" => Some(Inst::mulxl_rvm(mulxl_rvm::new(
             v.gpr("r32a"),
@@ -47,6 +50,7 @@ pub(crate) fn arithmetic(name: &str, v: &mut Values<'_>) -> Option<Inst<Numbers>
         "shrw_m1" => Some(Inst::shrw_m1(shrw_m1::new(v.gpr_mem("rm16")))),
         "shrl_m1" => Some(Inst::shrl_m1(shrl_m1::new(v.gpr_mem("rm32")))),
         "shrq_m1" => Some(Inst::shrq_m1(shrq_m1::new(v.gpr_mem("rm64")))),
+        // table/write.py: end
         _ => None,
     }
 }

@@ -1,6 +1,7 @@
 //! Locked arithmetic.
 
 use crate::values::Values;
+// table/write.py: uses
 use cranelift_assembler_x64::inst::{
     lock_adcb_mi, lock_adcb_mr, lock_adcl_mi, lock_adcl_mi_sxb, lock_adcl_mr, lock_adcq_mi_sxb,
     lock_adcq_mi_sxl, lock_adcq_mr, lock_adcw_mi, lock_adcw_mr, lock_addb_mi, lock_addb_mr,
@@ -17,10 +18,12 @@ use cranelift_assembler_x64::inst::{
     lock_xorl_mi, lock_xorl_mi_sxb, lock_xorl_mr, lock_xorq_mi_sxb, lock_xorq_mi_sxl, lock_xorq_mr,
     lock_xorw_mi, lock_xorw_mr,
 };
+// table/write.py: end
 use cranelift_assembler_x64::{Inst, Numbers};
 
 pub(crate) fn add_or_adc(name: &str, v: &mut Values<'_>) -> Option<Inst<Numbers>> {
     match name {
+        // table/write.py: add_or_adc
         "lock_addb_mi" => Some(Inst::lock_addb_mi(lock_addb_mi::new(
             v.amode("m8"),
             v.imm8("imm8"),
@@ -102,12 +105,14 @@ pub(crate) fn add_or_adc(name: &str, v: &mut Values<'_>) -> Option<Inst<Numbers>
         "lock_adcw_mr" => Some(Inst::lock_adcw_mr(lock_adcw_mr::new(v.amode("m16"), v.gpr("r16")))),
         "lock_adcl_mr" => Some(Inst::lock_adcl_mr(lock_adcl_mr::new(v.amode("m32"), v.gpr("r32")))),
         "lock_adcq_mr" => Some(Inst::lock_adcq_mr(lock_adcq_mr::new(v.amode("m64"), v.gpr("r64")))),
+        // table/write.py: end
         _ => None,
     }
 }
 
 pub(crate) fn sbb_and_sub(name: &str, v: &mut Values<'_>) -> Option<Inst<Numbers>> {
     match name {
+        // table/write.py: sbb_and_sub
         "lock_sbbb_mi" => Some(Inst::lock_sbbb_mi(lock_sbbb_mi::new(
             v.amode("m8"),
             v.imm8("imm8"),
@@ -192,12 +197,14 @@ pub(crate) fn sbb_and_sub(name: &str, v: &mut Values<'_>) -> Option<Inst<Numbers
         "lock_subw_mr" => Some(Inst::lock_subw_mr(lock_subw_mr::new(v.amode("m16"), v.gpr("r16")))),
         "lock_subl_mr" => Some(Inst::lock_subl_mr(lock_subl_mr::new(v.amode("m32"), v.gpr("r32")))),
         "lock_subq_mr" => Some(Inst::lock_subq_mr(lock_subq_mr::new(v.amode("m64"), v.gpr("r64")))),
+        // table/write.py: end
         _ => None,
     }
 }
 
 pub(crate) fn xor_exchange(name: &str, v: &mut Values<'_>) -> Option<Inst<Numbers>> {
     match name {
+        // table/write.py: xor_exchange
         "lock_xorb_mi" => Some(Inst::lock_xorb_mi(lock_xorb_mi::new(
             v.amode("m8"),
             v.imm8("imm8"),
@@ -269,6 +276,7 @@ pub(crate) fn xor_exchange(name: &str, v: &mut Values<'_>) -> Option<Inst<Number
             v.amode("m64"),
             v.gpr("r64"),
         ))),
+        // table/write.py: end
         _ => None,
     }
 }

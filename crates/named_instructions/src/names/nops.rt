@@ -1,9 +1,11 @@
 //! Instructions that do nothing.
 
 use crate::fields::parsed;
+// table/write.py: uses
 use cranelift_assembler_x64::inst::{
     nop_1b, nop_2b, nop_3b, nop_4b, nop_5b, nop_6b, nop_7b, nop_8b, nop_9b,
 };
+// table/write.py: end
 use cranelift_assembler_x64::{Inst, Numbers};
 
 /// The number of bytes of the nop of this name.
@@ -14,6 +16,7 @@ fn nop_length(name: &str) -> Option<u8> {
 
 pub(crate) fn nop(name: &str) -> Option<Inst<Numbers>> {
     match nop_length(name)? {
+        // table/write.py: nop
         1 => Some(Inst::nop_1b(nop_1b::new())),
         2 => Some(Inst::nop_2b(nop_2b::new())),
         3 => Some(Inst::nop_3b(nop_3b::new())),
@@ -23,6 +26,7 @@ pub(crate) fn nop(name: &str) -> Option<Inst<Numbers>> {
         7 => Some(Inst::nop_7b(nop_7b::new())),
         8 => Some(Inst::nop_8b(nop_8b::new())),
         9 => Some(Inst::nop_9b(nop_9b::new())),
+        // table/write.py: end
         _ => None,
     }
 }

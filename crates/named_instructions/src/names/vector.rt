@@ -1,14 +1,17 @@
 //! Instructions over XMM registers.
 
 use crate::values::Values;
+// table/write.py: uses
 use cranelift_assembler_x64::inst::{
     andps_a, cmppd_a, cmpps_a, cmpsd_a, cmpss_a, vcmppd_b, vcmpps_b, vcmpsd_b, vcmpss_b,
     vcvtpd2ps_a, vcvttpd2dq_a,
 };
+// table/write.py: end
 use cranelift_assembler_x64::{Inst, Numbers};
 
 pub(crate) fn vector(name: &str, v: &mut Values<'_>) -> Option<Inst<Numbers>> {
     match name {
+        // table/write.py: vector
         "andps_a" => Some(Inst::andps_a(andps_a::new(v.xmm("xmm1"), v.xmm_mem("xmm_m128")))),
         "cmpps_a" => Some(Inst::cmpps_a(cmpps_a::new(
             v.xmm("xmm1"),
@@ -62,6 +65,7 @@ pub(crate) fn vector(name: &str, v: &mut Values<'_>) -> Option<Inst<Numbers>> {
             v.xmm("xmm1"),
             v.xmm_mem("xmm_m128"),
         ))),
+        // table/write.py: end
         _ => None,
     }
 }

@@ -1,3 +1,4 @@
+-- Written by table/write.py from table/instructions.txt.
 -- the 139th variant, which the borrow checker does not cover: Making.antt has the proof
 use mathlib.Core.List.{[], ◌∷◌}
 use mathlib.Core.Path.{refl}
