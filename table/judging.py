@@ -209,7 +209,7 @@ def judge_variants(lines, _):
 def order_of_rows(root):
     """The names of all_rows, in their order."""
     text = (root / ROWS).read_text(encoding="utf-8")
-    return re.search(r"^all_rows =((?:\s+\w+ ∷)*)", text, re.M)[1].replace("∷", " ").split()
+    return re.search(r"^all_rows =((?:\s+row\.\w+ ∷)*)", text, re.M)[1].replace("∷", " ").replace("row.", "").split()
 
 
 def table_of(root, text):

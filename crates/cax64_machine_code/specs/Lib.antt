@@ -7,7 +7,6 @@ pub mod Evex
 pub mod Apx
 pub mod Line
 pub mod Rows
-pub mod Names
 pub mod Reading
 pub mod Sequence
 pub mod Shortest

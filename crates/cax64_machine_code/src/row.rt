@@ -1,7 +1,7 @@
 //! The rows of the table, by the names of their instructions.
 
 ghost use Rattle.std.specs.Prelude.{◌≡◌};
-ghost use Rattle.cax64_machine_code.specs.Names.{name_of};
+ghost use Rattle.cax64_machine_code.specs.Rows.{name_of};
 
 /// A row of the table: an instruction's opcode, prefixes and operands as its page in the Intel SDM has them. The nine
 /// no-operation instructions share four rows.

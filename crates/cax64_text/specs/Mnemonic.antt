@@ -1,6 +1,6 @@
 -- Mnemonics.
 use Rattle.std.specs.Prelude.{ℕ, ◌==◌, ◌++◌, Bool, true, false, if◌then◌else◌, List, [], ◌∷◌, codes}
-use Rattle.cax64_machine_code.specs.Names.{name_of}
+use Rattle.cax64_machine_code.specs.Rows.{name_of}
 use Rattle.cax64_machine_code.specs.declared.row.Row.{Row}
 use Rattle.cax64_machine_code.specs.declared.row.Row.TheVariants as row
 

@@ -37,7 +37,6 @@ pub use Rattle.cax64_machine_code.specs.Prefix
 pub use Rattle.cax64_machine_code.specs.Address as MachineAddress
 pub use Rattle.cax64_machine_code.specs.Evex as MachineEvex
 pub use Rattle.cax64_machine_code.specs.Apx as MachineApx
-pub use Rattle.cax64_machine_code.specs.Names as RowNames
 pub use Rattle.cax64_machine_code.specs.Line
 pub use Rattle.cax64_machine_code.specs.Rows
 pub use Rattle.cax64_machine_code.specs.Reading
