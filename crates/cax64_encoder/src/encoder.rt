@@ -165,7 +165,7 @@ fn tail_part(reg: u8, place: &NumberedPlace, displacement: i32, bytes_at_end: u8
 
 /// The code of the instruction of a row with these operands, whose memory operand has this displacement.
 #[inline(always)]
-fn code_of(row: Row, form: &NumberedForm, displacement: i32) -> Code
+pub fn code_of(row: Row, form: &NumberedForm, displacement: i32) -> Code
     requires fits { IsTrue (fits (line_of row) (form_named (line_of row) form.now)) }
     requires numbered { IsNumbered form.now.place }
     requires imm { HasImmWord (line_of row) form.now }

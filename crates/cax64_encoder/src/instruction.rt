@@ -1,6 +1,7 @@
 //! What every instruction can do, over its row and its operands.
 
 ghost use Rattle.std.specs.Prelude.{◌≡◌, ◌≤◌, ◌↔◌, ℕ, ℤ, true, Option, None, refl, IsTrue, OnOk, OnErr, IfErr, IsOk};
+ghost use Rattle.cax64_encoder.specs.EncodeError.{fault_found, IfRefused, NotRefused, OnFault};
 ghost use Rattle.cax64_encoder.specs.Fault.{is_encodable, fault_of_meant};
 ghost use Rattle.cax64_encoder.specs.Instruction.{Meaning, can_encode_in, fault_in, len_in, notices_in, Adds, Leaves};
 ghost use Rattle.cax64_encoder.specs.Meant.{Meant, meant_of};
@@ -16,6 +17,7 @@ ghost use Rattle.cax64_sink.specs.Room.{HasRoom, FallsBy};
 
 use crate::checked::Checked;
 use crate::content::Content;
+use crate::error::EncodeError;
 use crate::fault::{Fault, listed_fault};
 use crate::room::{Counting, Measuring, RoomNeeded};
 use cax64_machine_code::row::Row;
@@ -91,6 +93,32 @@ pub trait Instruction: HasOperands {
         ensures notice_room { FallsBy (S.state sink.old).notice_room (S.state sink.new).notice_room (notices_in (S.state sink.old) (meant self.now)) }
         ensures most { len_in (S.state sink.old) (meant self.now) ≤ 13 }
         ensures relative { ReadsRelative (meant self.now (S.state sink.old).offsets) };
+
+    /// Tests the instruction and puts it: what `first_fault` gives, and where that is `None` what `encode` does.
+    ///
+    /// At a fault nothing is put or told, and the sink is as before. A refusal of the sink leaves what `encode` leaves.
+    fn encode_checked<S: CodeSink>(&self, sink: &mut S) -> Result<(), EncodeError>
+        ensures fault { fault_found result ≡ fault_in (S.state sink.old) (meant self.now) }
+        ensures unchanged { OnFault result (sink.new ≡ sink.old) }
+        ensures adds { OnOk result (Adds (meant self.now) (S.state sink.old) (S.state sink.new)) }
+        ensures leaves { IfRefused result (λ _. Leaves (meant self.now) (S.state sink.old) (S.state sink.new)) }
+        ensures front { IsFront (S.state sink.old).bytes (S.state sink.new).bytes }
+        ensures error { IfRefused result (λ e. (S.state sink.old).answers e ≡ true) }
+        ensures keeps { Keeps (S.state sink.old) (S.state sink.new) }
+        ensures beside { S.may_become sink.old sink.new }
+        ensures enough { HasRoom (S.state sink.old).byte_room 13 → HasRoom (S.state sink.old).notice_room 1 → NotRefused result }
+        ensures room { HasRoom (S.state sink.old).byte_room (len_in (S.state sink.old) (meant self.now)) → HasRoom (S.state sink.old).notice_room (notices_in (S.state sink.old) (meant self.now)) → NotRefused result }
+        ensures byte_room { FallsBy (S.state sink.old).byte_room (S.state sink.new).byte_room (len_in (S.state sink.old) (meant self.now)) }
+        ensures notice_room { FallsBy (S.state sink.old).notice_room (S.state sink.new).notice_room (notices_in (S.state sink.old) (meant self.now)) }
+    {
+        if let Some(fault) = self.first_fault(&*sink) {
+            return Err(EncodeError::Fault(fault));
+        }
+        match self.encode(sink) {
+            Ok(()) => Ok(()),
+            Err(error) => Err(EncodeError::Sink(error)),
+        }
+    }
 
     // What it means is what its row means with its operands.
     ghost follows: { (i : Self) (offsets : ℕ → Option ℤ) → meant i offsets ≡ meant_of ⟦<Self::Family as RegisterFamily>⟧.family (Self.row_of i) (Self.operands_of i) offsets };

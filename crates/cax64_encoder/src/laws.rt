@@ -4,6 +4,7 @@ ghost use Rattle.std.specs.Prelude.{◌≡◌, ◌≤◌, ◌-◌, ◌↔◌, tr
 ghost use Rattle.cax64_encoder.specs.Instruction.{can_encode_in, len_in, Adds, Leaves};
 ghost use Rattle.cax64_sink.specs.FixedSink.{fixed_sink_state};
 
+use crate::error::EncodeError;
 use crate::fault::Fault;
 use crate::instruction::Instruction;
 use cax64_sink::{FixedSink, SinkError};
@@ -22,7 +23,8 @@ pub fn encode_to_fixed_sink<I: Instruction, const N: usize>(
     inst.encode(sink)
 }
 
-/// Faults compare equal where they are equal, and nowhere else. It does nothing: its clause is the law.
+/// Faults compare equal where they are equal, and nowhere else, and so do errors. It does nothing: its clauses are the laws.
 pub fn laws_of_equality()
-    ensures { (a b : Fault) → (⟦<Fault as PartialEq>⟧.eq a b ≡ true) ↔ (a ≡ b) }
+    ensures faults { (a b : Fault) → (⟦<Fault as PartialEq>⟧.eq a b ≡ true) ↔ (a ≡ b) }
+    ensures errors { (a b : EncodeError) → (⟦<EncodeError as PartialEq>⟧.eq a b ≡ true) ↔ (a ≡ b) }
 {}

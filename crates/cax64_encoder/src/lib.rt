@@ -8,6 +8,7 @@ pub mod checked;
 pub mod code;
 pub mod content;
 pub mod encoder;
+pub mod error;
 pub mod fault;
 mod front;
 pub mod imm;
@@ -22,6 +23,7 @@ pub mod room;
 pub mod short;
 mod task;
 
+pub use error::EncodeError;
 pub use fault::Fault;
 pub use instruction::Instruction;
 pub use room::RoomNeeded;
