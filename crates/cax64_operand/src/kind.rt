@@ -5,7 +5,7 @@ use cax64_register::Size;
 
 /// What an instruction does with an operand, and of which kind and size the operand is. A register or an address is
 /// read where the manual marks it `(r)`, written at `(w)`, both at `(r, w)`. (Intel SDM, volume 2, 3.1.1.3 and 3.1.1.4.)
-#[derive(Clone, Copy, Debug)]
+#[derive(Clone, Copy, Debug, PartialEq)]
 pub enum OperandKind {
     /// A general register that is read: `r8`, `r16`, `r32` or `r64`.
     ReadGpr(Size),
@@ -39,7 +39,7 @@ pub enum OperandKind {
 }
 
 /// The type of an immediate, and what it is to the instruction. (Intel SDM, volume 2, 3.1.1.3.)
-#[derive(Clone, Copy, Debug)]
+#[derive(Clone, Copy, Debug, PartialEq)]
 pub enum ImmediateKind {
     /// An unsigned byte: `imm8`.
     Imm8,

@@ -3,10 +3,10 @@ use Rattle.cax64_machine_code.specs.declared.line.ImmField.{ImmField}
 use Rattle.cax64_machine_code.specs.declared.line.ImmField.TheVariants as field
 use Rattle.cax64_machine_code.specs.declared.line.Line.{Line}
 use Rattle.cax64_operand.specs.Shape.{Rest, nothing, memory, register_or_memory, tail_takes, vvvv_takes, is_no_imm}
-use Rattle.cax64_signature.specs.declared.kind.ImmediateKind.{ImmediateKind}
-use Rattle.cax64_signature.specs.declared.kind.ImmediateKind.TheVariants.{Imm8, Imm16, Imm32, Simm8, Simm32, Distance8, Distance32, Predicate, VexPredicate}
-use Rattle.cax64_signature.specs.declared.kind.OperandKind.{OperandKind}
-use Rattle.cax64_signature.specs.declared.kind.OperandKind.TheVariants.{ReadGpr, ReadWriteGpr, WriteGpr, WriteTwoGprs, FixedReadGpr, FixedReadWriteGpr, ReadXmm, ReadWriteXmm, WriteXmm, ReadAmode, ReadGprMem, ReadWriteGprMem, ReadXmmMem, Imm}
+use Rattle.cax64_operand.specs.declared.kind.ImmediateKind.{ImmediateKind}
+use Rattle.cax64_operand.specs.declared.kind.ImmediateKind.TheVariants.{Imm8, Imm16, Imm32, Simm8, Simm32, Distance8, Distance32, Predicate, VexPredicate}
+use Rattle.cax64_operand.specs.declared.kind.OperandKind.{OperandKind}
+use Rattle.cax64_operand.specs.declared.kind.OperandKind.TheVariants.{ReadGpr, ReadWriteGpr, WriteGpr, WriteTwoGprs, FixedReadGpr, FixedReadWriteGpr, ReadXmm, ReadWriteXmm, WriteXmm, ReadAmode, ReadGprMem, ReadWriteGprMem, ReadXmmMem, Imm}
 
 -- What a line of the table asks of operands, told from their kinds.
 

@@ -4,10 +4,10 @@ use Rattle.cax64_operand.specs.declared.immediate.Immediate.{Immediate}
 use Rattle.cax64_operand.specs.declared.immediate.Immediate.TheVariants as immediate
 use Rattle.cax64_operand.specs.declared.operand.Operand.{Operand}
 use Rattle.cax64_operand.specs.declared.operand.Operand.TheVariants as operand
-use Rattle.cax64_signature.specs.declared.kind.ImmediateKind.{ImmediateKind}
-use Rattle.cax64_signature.specs.declared.kind.ImmediateKind.TheVariants.{Imm8, Imm16, Imm32, Simm8, Simm32, Distance8, Distance32, Predicate, VexPredicate}
-use Rattle.cax64_signature.specs.declared.kind.OperandKind.{OperandKind}
-use Rattle.cax64_signature.specs.declared.kind.OperandKind.TheVariants.{ReadGpr, ReadWriteGpr, WriteGpr, WriteTwoGprs, FixedReadGpr, FixedReadWriteGpr, ReadXmm, ReadWriteXmm, WriteXmm, ReadAmode, ReadGprMem, ReadWriteGprMem, ReadXmmMem, Imm}
+use Rattle.cax64_operand.specs.declared.kind.ImmediateKind.{ImmediateKind}
+use Rattle.cax64_operand.specs.declared.kind.ImmediateKind.TheVariants.{Imm8, Imm16, Imm32, Simm8, Simm32, Distance8, Distance32, Predicate, VexPredicate}
+use Rattle.cax64_operand.specs.declared.kind.OperandKind.{OperandKind}
+use Rattle.cax64_operand.specs.declared.kind.OperandKind.TheVariants.{ReadGpr, ReadWriteGpr, WriteGpr, WriteTwoGprs, FixedReadGpr, FixedReadWriteGpr, ReadXmm, ReadWriteXmm, WriteXmm, ReadAmode, ReadGprMem, ReadWriteGprMem, ReadXmmMem, Imm}
 
 -- the kind of an immediate: all but its value
 abbrev pub kind_of_imm : Immediate → ImmediateKind

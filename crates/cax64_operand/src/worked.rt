@@ -1,13 +1,13 @@
 //! Worked signatures: operands that have that of a row, and others that haven't.
 
 ghost use Rattle.std.specs.Prelude.{ℕ, None, pos, negsuc};
-ghost use Rattle.cax64_signature.specs.Worked.{Has};
+ghost use Rattle.cax64_operand.specs.Worked.{Has};
 
+use crate::{Immediate, Nop, Operand, Operands};
 use cax64_address::amode::Amode;
 use cax64_address::operand::GprMem;
 use cax64_immediate::Extension;
 use cax64_machine_code::row::Row;
-use cax64_operand::{Immediate, Nop, Operand, Operands};
 use cax64_register::Size;
 
 /// An addition of a byte to memory, which extends its sign. An unsigned byte isn't its immediate, nor what no signed byte

@@ -3,8 +3,8 @@ use Rattle.std.proofs.lemmas.Bool.Decides.{nat_tests}
 use Rattle.cax64_machine_code.specs.Rows.{line_of}
 use Rattle.cax64_machine_code.specs.declared.row.Row.{Row}
 use Rattle.cax64_machine_code.specs.declared.row.Row.TheVariants.{lock_addb_mi}
-use Rattle.cax64_signature.proofs.Taken.{line_takes, is_few}
-use Rattle.cax64_signature.specs.Signature.{signature_of}
+use Rattle.cax64_operand.proofs.Taken.{line_takes, is_few}
+use Rattle.cax64_operand.specs.Signature.{signature_of}
 
 -- each row's line takes its signature
 pub row_takes : (row : Row) → line_takes (line_of row) (signature_of row) ≡ true

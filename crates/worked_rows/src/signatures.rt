@@ -1,10 +1,9 @@
 //! Signatures of rows of each group, beside what the manual says of their instructions. (Intel SDM, volume 2, the pages
 //! of the instructions.)
 
-use crate::laws::laws_of_signatures;
-use crate::rows::signature;
 use cax64_machine_code::row::Row;
-use cax64_operand::Numbers;
+use cax64_operand::laws::laws_of_signatures;
+use cax64_operand::{Numbers, signature};
 use std::alloc::{AllocError, Global};
 
 /// Whether the signature of the row prints so.

@@ -6,10 +6,10 @@ use Rattle.cax64_operand.specs.NopRow.{nop_row}
 use Rattle.cax64_operand.specs.OperandList.{list_of, nop_of}
 use Rattle.cax64_operand.specs.declared.operand.Operands.{Operands}
 use Rattle.cax64_register.specs.declared.gpr.Size.TheVariants.{Byte, Word, Doubleword, Quadword}
-use Rattle.cax64_signature.specs.Kind.{kinds_of, imms_in_range}
-use Rattle.cax64_signature.specs.declared.kind.ImmediateKind.TheVariants.{Imm8, Imm16, Imm32, Simm8, Simm32, Distance8, Distance32, Predicate, VexPredicate}
-use Rattle.cax64_signature.specs.declared.kind.OperandKind.{OperandKind}
-use Rattle.cax64_signature.specs.declared.kind.OperandKind.TheVariants.{ReadGpr, ReadWriteGpr, WriteTwoGprs, FixedReadGpr, FixedReadWriteGpr, ReadXmm, ReadWriteXmm, WriteXmm, ReadAmode, ReadGprMem, ReadWriteGprMem, ReadXmmMem, Imm}
+use Rattle.cax64_operand.specs.Kind.{kinds_of, imms_in_range}
+use Rattle.cax64_operand.specs.declared.kind.ImmediateKind.TheVariants.{Imm8, Imm16, Imm32, Simm8, Simm32, Distance8, Distance32, Predicate, VexPredicate}
+use Rattle.cax64_operand.specs.declared.kind.OperandKind.{OperandKind}
+use Rattle.cax64_operand.specs.declared.kind.OperandKind.TheVariants.{ReadGpr, ReadWriteGpr, WriteTwoGprs, FixedReadGpr, FixedReadWriteGpr, ReadXmm, ReadWriteXmm, WriteXmm, ReadAmode, ReadGprMem, ReadWriteGprMem, ReadXmmMem, Imm}
 
 -- the registers that rows fix, by their numbers (Intel SDM, volume 2, table 3-1)
 abbrev rax : ℕ

@@ -1,7 +1,7 @@
 //! The signature of each row of the table: what operands its instructions have.
 
 ghost use Rattle.std.specs.Prelude.{◌≡◌};
-ghost use Rattle.cax64_signature.specs.Signature.{signature_of};
+ghost use Rattle.cax64_operand.specs.Signature.{signature_of};
 
 use crate::kind::{ImmediateKind, OperandKind};
 use cax64_immediate::Extension;

@@ -15,10 +15,10 @@ use Rattle.cax64_operand.specs.declared.operand.Operand.{Operand}
 use Rattle.cax64_operand.specs.declared.operand.Operand.TheVariants as operand
 use Rattle.cax64_operand.specs.declared.operand.Operands.{Operands}
 use Rattle.cax64_operand.specs.declared.operand.Operands.TheVariants as operands
-use Rattle.cax64_signature.proofs.Taken.{registers_in, rest_in, field_of, imm_field_in, same_field, line_takes}
-use Rattle.cax64_signature.proofs.Table.{row_takes}
-use Rattle.cax64_signature.specs.Kind.{kind_of_imm, kinds_of, imms_in_range}
-use Rattle.cax64_signature.specs.Signature.{signature_of, HasSignature}
+use Rattle.cax64_operand.proofs.Taken.{registers_in, rest_in, field_of, imm_field_in, same_field, line_takes}
+use Rattle.cax64_operand.proofs.Table.{row_takes}
+use Rattle.cax64_operand.specs.Kind.{kind_of_imm, kinds_of, imms_in_range}
+use Rattle.cax64_operand.specs.Signature.{signature_of, HasSignature}
 
 -- What the kinds tell of operands is so.
 
@@ -72,12 +72,13 @@ line_takes_them line o h k =
 pub row_shape : {R A B C D E F : Type 0} (row : Row) (o : List (Operand R A B C D E F)) → kinds_of o ≡ signature_of row → imms_in_range o ≡ true → takes (line_of row) o ≡ true
 row_shape row o e h = line_takes_them (line_of row) o h (ap (λ kinds. line_takes (line_of row) kinds) e ∙ row_takes row)
 
-pub shape : {R A B C D E F : Type 0} (row : Row) (o : Operands R A B C D E F) → HasSignature row o → HasShape row o
-shape row (operands.Nop nop) h = h
-shape {R} {A} {B} {C} {D} {E} {F} row operands.Zero h =
+-- An instruction of a row's signature has the row's shape.
+pub has_shape : {R A B C D E F : Type 0} (row : Row) (o : Operands R A B C D E F) → HasSignature row o → HasShape row o
+has_shape row (operands.Nop nop) h = h
+has_shape {R} {A} {B} {C} {D} {E} {F} row operands.Zero h =
     let none : List (Operand R A B C D E F) = [] in
     row_shape row none h.0 h.1
-shape row o h = row_shape row (list_of o) h.0 h.1
+has_shape row o h = row_shape row (list_of o) h.0 h.1
 
 pub few_operands : {R A B C D E F : Type 0} (o : Operands R A B C D E F) → length (list_of o) ≤ 5
 few_operands operands.Zero = lit≤ tt
