@@ -1,4 +1,5 @@
-"""The reader's index: a slot for each opcode of a map, or each digit of one, and in it a place for each set of prefixes."""
+"""The reader's index: a slot for each opcode of a map, or each digit of one, and in it a place for each set of
+prefixes."""
 
 import re
 

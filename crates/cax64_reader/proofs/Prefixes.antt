@@ -5,7 +5,7 @@ use Rattle.std.specs.Prelude.{◌==◌, ◌&&◌, ◌||◌, not, if◌then◌els
 use Rattle.cax64_machine_code.specs.Prefix.{no_legacy, is_no_legacy, begins_vex, after_vex, after_legacy, prefix_at, legacy_at, rex_of, rex_at, Prefix, legacy_prefix, Vex, vex_two_byte, vex_three_byte, is_vex_map, vex_at}
 use Rattle.cax64_machine_code.specs.declared.line.LegacySet.{LegacySet}
 use Rattle.cax64_table.specs.Cursor.{next_byte}
-use Rattle.cax64_reader.specs.Legacy.{added}
+use Rattle.cax64_table.specs.LegacyNumber.{added}
 
 some_same : {A : Type 0} (a b : A) → ◌≡◌ {A = Option A} (Some a) (Some b) → a ≡ b
 some_same a b e = cc

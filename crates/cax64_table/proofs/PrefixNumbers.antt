@@ -13,7 +13,7 @@ use Rattle.cax64_machine_code.specs.declared.line.VvvvField.TheVariants.{VvvvReg
 use Rattle.cax64_machine_code.specs.declared.row.Row.{Row}
 use Rattle.cax64_machine_code.specs.declared.row.Row.TheVariants.{lock_addb_mi}
 use Rattle.cax64_table.specs.LegacyNumber.{set_number}
-use Rattle.cax64_table.specs.Matching.{low_in, takes_w, numbers_fit}
+use Rattle.cax64_table.specs.Matching.{low_in, numbers_fit}
 use Rattle.cax64_table.specs.Packed.{bits_at, flag_at, number_of, entry_of, prefix_field, w_field}
 use Rattle.cax64_table.specs.PrefixNumbers.{map_number, numbers_of, AreNumbers}
 use Rattle.cax64_table.specs.declared.prefix.PrefixNumbers.{PrefixNumbers}
