@@ -21,23 +21,6 @@ fn bit(byte: u8, place: u32) -> bool
     (byte >> place) % 2 == 1
 }
 
-/// The legacy prefixes at the front, and what follows them.
-#[inline(always)]
-fn legacy(bytes: &[u8]) -> (LegacyPrefixes, &[u8])
-    ensures { ◌≡◌ {A = LegacySet × List ℕ} (set_in result.0, result.1.now) (legacy_at no_legacy bytes.now) }
-{
-    let mut seen = LegacyPrefixes::none();
-    let mut rest = bytes;
-    while let Some((byte, behind)) = next(rest) {
-        let Some(more) = seen.with(byte) else {
-            break
-        };
-        seen = more;
-        rest = behind;
-    }
-    (seen, rest)
-}
-
 /// Legacy prefixes and a REX byte.
 #[inline(always)]
 fn with_rex(seen: LegacyPrefixes, byte: u8) -> Front
@@ -146,7 +129,7 @@ fn begins_with_vex(seen: LegacyPrefixes, first: u8) -> bool
 pub(crate) fn read_front(bytes: &[u8]) -> Option<(Front, &[u8])>
     ensures { option_map (λ r. (prefix_of r.0, r.1.now)) result ≡ prefix_at bytes.now }
 {
-    let (seen, rest) = legacy(bytes);
+    let (seen, rest) = LegacyPrefixes::read(bytes);
     let Some((first, behind)) = next(rest) else {
         return Some((without_rex(seen), rest));
     };

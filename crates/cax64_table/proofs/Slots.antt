@@ -117,9 +117,9 @@ row_in_slot numbers opcode rest row o m k =
     let p = and_parts (low_in (entry_of row) == numbers.low % 64) (takes_w (entry_of row) numbers.w) k in
     let low : low_of row ≡ numbers.low % 64 = equal _ _ p.0 in
     let slot : slot_of (entry_for numbers.low opcode) rest ≡ slot_for row =
-      ap (λ (map : ℕ). slot_of (entry_in map opcode) rest) (same_map (low_of row) numbers.low low)
-      ∙ ap (λ (z : Opcode). slot_of (entry_for (low_of row) z) rest) (sym o)
-      ∙ slot_is row rest m in
+    ap (λ (map : ℕ). slot_of (entry_in map opcode) rest) (same_map (low_of row) numbers.low low)
+    ∙ ap (λ (z : Opcode). slot_of (entry_for (low_of row) z) rest) (sym o)
+    ∙ slot_is row rest m in
     ap (λ (s : ℕ). row_in s (numbers.low % 16) numbers.w) slot
     ∙ ap (λ (place : ℕ). row_in (slot_for row) place numbers.w) (same_place (low_of row) numbers.low low)
     ∙ in_slot row numbers.w p.1

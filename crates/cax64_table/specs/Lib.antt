@@ -1,11 +1,11 @@
 -- What the clauses of public functions say.
 pub mod Cursor
 pub mod Legacy
+pub mod LegacyNumber
 pub mod PrefixNumbers
 pub mod Digit
 pub mod Numbers
 -- Steps of the proofs.
-pub mod LegacyNumber
 pub mod Packed
 pub mod Slot
 pub mod Matching

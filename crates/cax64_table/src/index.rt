@@ -303,7 +303,7 @@ fn entry(numbers: PrefixNumbers, opcode: Opcode) -> u16
     ensures is { result ≡ entry_for numbers.low opcode }
     ensures fits { Fits result }
 {
-    let map = 2 * usize::from(numbers.low / 16 % 4) + usize::from(opcode.escape);
+    let map = 2 * (usize::from(numbers.low) / 16 % 4) + usize::from(opcode.escape);
     SLOTS[map][usize::from(opcode.byte)]
 }
 
@@ -354,5 +354,5 @@ pub(crate) fn row_of_key(numbers: PrefixNumbers, opcode: Opcode, rest: &[u8]) ->
     ensures all { (row : Row) → (line_of row).opcode ≡ opcode → digit_matches (line_of row).tail rest.now ≡ true → key_fits numbers (entry_of row) ≡ true → result ≡ Some row }
 {
     let slot = slot(entry(numbers, opcode), rest);
-    row_in(slot, usize::from(numbers.low % 16), numbers.w)
+    row_in(slot, usize::from(numbers.low) % 16, numbers.w)
 }

@@ -3,6 +3,8 @@
 ghost use Rattle.std.specs.Prelude.{◌≡◌, option_map, IfSome};
 ghost use Rattle.cax64_table.specs.LegacyNumber.{set_of, added, IsSet};
 
+use crate::cursor::next;
+
 /// Some of the legacy prefixes F0, 66, F2 and F3, as their number, so that they stay in a register.
 #[derive(Clone, Copy)]
 pub struct LegacyPrefixes {
@@ -28,27 +30,30 @@ fn with_prefix(seen: u8, byte: u8) -> Option<u8>
 }
 
 impl LegacyPrefixes {
-    ghost use Rattle.cax64_machine_code.specs.Prefix.{no_legacy, is_no_legacy};
+    ghost use Rattle.std.specs.Prelude.{ℕ, List};
+    ghost use Rattle.cax64_machine_code.specs.Prefix.{no_legacy, is_no_legacy, legacy_at};
+    ghost use Rattle.cax64_machine_code.specs.declared.line.LegacySet.{LegacySet};
     ghost use Rattle.cax64_table.specs.Legacy.{set_in};
 
-    /// None of them.
+    /// Those at the front, and what follows them.
     #[inline(always)]
-    pub fn none() -> LegacyPrefixes
-        ensures { set_in result ≡ no_legacy }
+    pub fn read(bytes: &[u8]) -> (LegacyPrefixes, &[u8])
+        ensures { ◌≡◌ {A = LegacySet × List ℕ} (set_in result.0, result.1.now) (legacy_at no_legacy bytes.now) }
     {
-        LegacyPrefixes { number: 0 }
+        // The loop keeps the number alone, whose branches stay simple so.
+        let mut number = 0;
+        let mut rest = bytes;
+        while let Some((byte, behind)) = next(rest) {
+            let Some(more) = with_prefix(number, byte) else {
+                break
+            };
+            number = more;
+            rest = behind;
+        }
+        (LegacyPrefixes { number }, rest)
     }
 
-    /// These and this byte, where it is a prefix that may still come.
-    #[inline(always)]
-    pub fn with(self, byte: u8) -> Option<LegacyPrefixes>
-        ensures { option_map set_in result ≡ added (set_in self) byte }
-    {
-        let number = with_prefix(self.number, byte)?;
-        Some(LegacyPrefixes { number })
-    }
-
-    /// Whether none of them was seen.
+    /// Whether there are none.
     #[inline(always)]
     pub fn is_empty(self) -> bool
         ensures { result ≡ is_no_legacy (set_in self) }
