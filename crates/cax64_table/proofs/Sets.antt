@@ -3,9 +3,7 @@ use Rattle.std.specs.Prelude.{◌==◌, ◌||◌}
 use Rattle.std.specs.Int.{from_bool}
 use Rattle.cax64_machine_code.specs.Prefix.{no_legacy}
 use Rattle.cax64_machine_code.specs.declared.line.LegacySet.{LegacySet}
-use Rattle.cax64_table.specs.PrefixNumbers.{set_number}
-use Rattle.cax64_reader.specs.Legacy.{added}
-use Rattle.cax64_reader.specs.PrefixWith.{set_of, IsSet}
+use Rattle.cax64_table.specs.LegacyNumber.{set_number, set_of, added, IsSet}
 
 -- A set of legacy prefixes and its number.
 
@@ -29,7 +27,7 @@ bits false false false true = refl
 bits false false false false = refl
 
 -- the set of a set's number is that set
-set_again : (set : LegacySet) → set_of (set_number set) ≡ set
+pub set_again : (set : LegacySet) → set_of (set_number set) ≡ set
 set_again set = bits set.lock set.operand_size set.repne set.rep
 
 pub set_is : (low : ℕ) (set : LegacySet) → low ≡ set_number set → set_of low ≡ set
@@ -48,30 +46,30 @@ one_or_not : (n : ℕ) (t : Bool) → from_bool t ≡ n → (n == 1) ≡ t
 one_or_not n true e = rw (← e) refl
 one_or_not n false e = rw (← e) refl
 
-pub lock_is : (low : ℕ) (t : Bool) → from_bool t ≡ low / 2 % 2 → (set_of low).lock ≡ t
+pub lock_is : (low : ℕ) (t : Bool) → from_bool t ≡ low % 2 → (set_of low).lock ≡ t
 unfolding set_of
-lock_is low t e = one_or_not (low / 2 % 2) t e
+lock_is low t e = one_or_not (low % 2) t e
 
-pub operand_size_is : (low : ℕ) (t : Bool) → from_bool t ≡ low / 4 % 2 → (set_of low).operand_size ≡ t
+pub operand_size_is : (low : ℕ) (t : Bool) → from_bool t ≡ low / 2 % 2 → (set_of low).operand_size ≡ t
 unfolding set_of
-operand_size_is low t e = one_or_not (low / 4 % 2) t e
+operand_size_is low t e = one_or_not (low / 2 % 2) t e
 
-no_repeat : (low a b : ℕ) (c d : Bool) → low ≡ 2 * a + 4 * b + 8 * from_bool c + 16 * from_bool d → low < 8 → c || d ≡ false
+no_repeat : (low a b : ℕ) (c d : Bool) → low ≡ a + 2 * b + 4 * from_bool c + 8 * from_bool d → low < 4 → c || d ≡ false
 no_repeat low a b false false e h = refl
 no_repeat low a b false true e h = absurd (omega arith)
 no_repeat low a b true false e h = absurd (omega arith)
 no_repeat low a b true true e h = absurd (omega arith)
 
 -- no repeat prefix has been seen
-pub repeats_not : (low : ℕ) → IsSet low → low < 8 → (set_of low).repne || (set_of low).rep ≡ false
+pub repeats_not : (low : ℕ) → IsSet low → low < 4 → (set_of low).repne || (set_of low).rep ≡ false
 repeats_not low s h = no_repeat low (from_bool (set_of low).lock) (from_bool (set_of low).operand_size) (set_of low).repne (set_of low).rep s.same h
 
 -- the numbers of the sets with one prefix more
 
-pub lock_more : (low : ℕ) → IsSet low → (set_of low).lock ≡ false → low + 2 ≡ set_number (record (set_of low) { lock = true })
+pub lock_more : (low : ℕ) → IsSet low → (set_of low).lock ≡ false → low + 1 ≡ set_number (record (set_of low) { lock = true })
 lock_more low s e = let l : from_bool (set_of low).lock ≡ 0 = ap from_bool e in let h = s.same in omega arith
 
-pub operand_size_more : (low : ℕ) → IsSet low → (set_of low).operand_size ≡ false → low + 4 ≡ set_number (record (set_of low) { operand_size = true })
+pub operand_size_more : (low : ℕ) → IsSet low → (set_of low).operand_size ≡ false → low + 2 ≡ set_number (record (set_of low) { operand_size = true })
 operand_size_more low s e = let l : from_bool (set_of low).operand_size ≡ 0 = ap from_bool e in let h = s.same in omega arith
 
 first_not : (a b : Bool) → a || b ≡ false → from_bool a ≡ 0
@@ -83,22 +81,22 @@ second_not true b e = cc
 second_not false true e = cc
 second_not false false e = refl
 
-pub repne_more : (low : ℕ) → IsSet low → (set_of low).repne || (set_of low).rep ≡ false → low + 8 ≡ set_number (record (set_of low) { repne = true })
+pub repne_more : (low : ℕ) → IsSet low → (set_of low).repne || (set_of low).rep ≡ false → low + 4 ≡ set_number (record (set_of low) { repne = true })
 repne_more low s e = let l = first_not (set_of low).repne (set_of low).rep e in let h = s.same in omega arith
 
-pub rep_more : (low : ℕ) → IsSet low → (set_of low).repne || (set_of low).rep ≡ false → low + 16 ≡ set_number (record (set_of low) { rep = true })
+pub rep_more : (low : ℕ) → IsSet low → (set_of low).repne || (set_of low).rep ≡ false → low + 8 ≡ set_number (record (set_of low) { rep = true })
 rep_more low s e = let l = second_not (set_of low).repne (set_of low).rep e in let h = s.same in omega arith
 
 -- a byte that is a prefix that may still come
 
-pub added_lock : (low byte : ℕ) → IsSet low → byte ≡ 0xF0 → (set_of low).lock ≡ false → ◌≡◌ {A = Option LegacySet} (Some (set_of (low + 2))) (added (set_of low) byte)
-added_lock low byte s e f = rw (e, set_is (low + 2) (record (set_of low) { lock = true }) (lock_more low s f), f) refl
+pub added_lock : (low byte : ℕ) → IsSet low → byte ≡ 0xF0 → (set_of low).lock ≡ false → ◌≡◌ {A = Option LegacySet} (Some (set_of (low + 1))) (added (set_of low) byte)
+added_lock low byte s e f = rw (e, set_is (low + 1) (record (set_of low) { lock = true }) (lock_more low s f), f) refl
 
-pub added_operand_size : (low byte : ℕ) → IsSet low → byte ≡ 0x66 → (set_of low).operand_size ≡ false → ◌≡◌ {A = Option LegacySet} (Some (set_of (low + 4))) (added (set_of low) byte)
-added_operand_size low byte s e f = rw (e, set_is (low + 4) (record (set_of low) { operand_size = true }) (operand_size_more low s f), f) refl
+pub added_operand_size : (low byte : ℕ) → IsSet low → byte ≡ 0x66 → (set_of low).operand_size ≡ false → ◌≡◌ {A = Option LegacySet} (Some (set_of (low + 2))) (added (set_of low) byte)
+added_operand_size low byte s e f = rw (e, set_is (low + 2) (record (set_of low) { operand_size = true }) (operand_size_more low s f), f) refl
 
-pub added_repne : (low byte : ℕ) → IsSet low → byte ≡ 0xF2 → low < 8 → ◌≡◌ {A = Option LegacySet} (Some (set_of (low + 8))) (added (set_of low) byte)
-added_repne low byte s e h = let f = repeats_not low s h in rw (e, set_is (low + 8) (record (set_of low) { repne = true }) (repne_more low s f), f) refl
+pub added_repne : (low byte : ℕ) → IsSet low → byte ≡ 0xF2 → low < 4 → ◌≡◌ {A = Option LegacySet} (Some (set_of (low + 4))) (added (set_of low) byte)
+added_repne low byte s e h = let f = repeats_not low s h in rw (e, set_is (low + 4) (record (set_of low) { repne = true }) (repne_more low s f), f) refl
 
-pub added_rep : (low byte : ℕ) → IsSet low → byte ≡ 0xF3 → low < 8 → ◌≡◌ {A = Option LegacySet} (Some (set_of (low + 16))) (added (set_of low) byte)
-added_rep low byte s e h = let f = repeats_not low s h in rw (e, set_is (low + 16) (record (set_of low) { rep = true }) (rep_more low s f), f) refl
+pub added_rep : (low byte : ℕ) → IsSet low → byte ≡ 0xF3 → low < 4 → ◌≡◌ {A = Option LegacySet} (Some (set_of (low + 8))) (added (set_of low) byte)
+added_rep low byte s e h = let f = repeats_not low s h in rw (e, set_is (low + 8) (record (set_of low) { rep = true }) (rep_more low s f), f) refl
