@@ -17,6 +17,7 @@ pub struct Known {
 
 impl Known {
     /// None.
+    #[inline(always)]
     pub fn new() -> Known
         ensures { (key : ℕ) → known_at result key ≡ None }
     {
