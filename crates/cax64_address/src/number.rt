@@ -197,8 +197,7 @@ pub(crate) fn add_hexadecimal<A: Allocator>(
     ensures front { IsFront (string_bytes out.old) (string_bytes out.new) }
 {
     prepare(out, 2, number)?;
-    out.push('0')?;
-    out.push('x')?;
+    out.push_str("0x")?;
     add_hex_digits(out, number)
 }
 
