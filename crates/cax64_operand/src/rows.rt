@@ -8,14 +8,13 @@ use cax64_immediate::Extension;
 use cax64_machine_code::row::Row;
 use cax64_register::Size;
 
-/// The kinds of operands of a row, in the order of visits. Above the rows of each signature stands how the manual writes
-/// their operands.
+/// The kinds of operands of a row, in the order of visits.
 #[tactic(auto, unfolding(crate::specs::Signature::signature_of))]
 pub fn signature(row: Row) -> &'static [OperandKind]
     ensures { result.now ≡ signature_of row }
 {
     match row {
-        // m8, imm8
+        // table/write.py: signatures
         Row::lock_addb_mi
         | Row::lock_orb_mi
         | Row::lock_adcb_mi
@@ -26,7 +25,6 @@ pub fn signature(row: Row) -> &'static [OperandKind]
             OperandKind::ReadAmode,
             OperandKind::Imm(ImmediateKind::Imm8),
         ],
-        // m16, imm16
         Row::lock_addw_mi
         | Row::lock_orw_mi
         | Row::lock_adcw_mi
@@ -37,7 +35,6 @@ pub fn signature(row: Row) -> &'static [OperandKind]
             OperandKind::ReadAmode,
             OperandKind::Imm(ImmediateKind::Imm16),
         ],
-        // m32, imm32
         Row::lock_addl_mi
         | Row::lock_orl_mi
         | Row::lock_adcl_mi
@@ -48,7 +45,6 @@ pub fn signature(row: Row) -> &'static [OperandKind]
             OperandKind::ReadAmode,
             OperandKind::Imm(ImmediateKind::Imm32),
         ],
-        // m64, imm32
         Row::lock_addq_mi_sxl
         | Row::lock_orq_mi_sxl
         | Row::lock_adcq_mi_sxl
@@ -59,7 +55,6 @@ pub fn signature(row: Row) -> &'static [OperandKind]
             OperandKind::ReadAmode,
             OperandKind::Imm(ImmediateKind::Simm32(Extension::SignExtendQuad)),
         ],
-        // m32, imm8
         Row::lock_addl_mi_sxb
         | Row::lock_orl_mi_sxb
         | Row::lock_adcl_mi_sxb
@@ -70,7 +65,6 @@ pub fn signature(row: Row) -> &'static [OperandKind]
             OperandKind::ReadAmode,
             OperandKind::Imm(ImmediateKind::Simm8(Extension::SignExtendLong)),
         ],
-        // m64, imm8
         Row::lock_addq_mi_sxb
         | Row::lock_orq_mi_sxb
         | Row::lock_adcq_mi_sxb
@@ -81,7 +75,6 @@ pub fn signature(row: Row) -> &'static [OperandKind]
             OperandKind::ReadAmode,
             OperandKind::Imm(ImmediateKind::Simm8(Extension::SignExtendQuad)),
         ],
-        // m8, r8
         Row::lock_addb_mr
         | Row::lock_orb_mr
         | Row::lock_adcb_mr
@@ -89,7 +82,6 @@ pub fn signature(row: Row) -> &'static [OperandKind]
         | Row::lock_andb_mr
         | Row::lock_subb_mr
         | Row::lock_xorb_mr => &[OperandKind::ReadAmode, OperandKind::ReadGpr(Size::Byte)],
-        // m16, r16
         Row::lock_addw_mr
         | Row::lock_orw_mr
         | Row::lock_adcw_mr
@@ -97,7 +89,6 @@ pub fn signature(row: Row) -> &'static [OperandKind]
         | Row::lock_andw_mr
         | Row::lock_subw_mr
         | Row::lock_xorw_mr => &[OperandKind::ReadAmode, OperandKind::ReadGpr(Size::Word)],
-        // m32, r32
         Row::lock_addl_mr
         | Row::lock_orl_mr
         | Row::lock_adcl_mr
@@ -108,7 +99,6 @@ pub fn signature(row: Row) -> &'static [OperandKind]
             OperandKind::ReadAmode,
             OperandKind::ReadGpr(Size::Doubleword),
         ],
-        // m64, r64
         Row::lock_addq_mr
         | Row::lock_orq_mr
         | Row::lock_adcq_mr
@@ -116,51 +106,42 @@ pub fn signature(row: Row) -> &'static [OperandKind]
         | Row::lock_andq_mr
         | Row::lock_subq_mr
         | Row::lock_xorq_mr => &[OperandKind::ReadAmode, OperandKind::ReadGpr(Size::Quadword)],
-        // m8, r8, exchanged
         Row::lock_xaddb_mr | Row::xchgb_rm => &[
             OperandKind::ReadWriteGpr(Size::Byte),
             OperandKind::ReadAmode,
         ],
-        // m16, r16, exchanged
         Row::lock_xaddw_mr | Row::xchgw_rm => &[
             OperandKind::ReadWriteGpr(Size::Word),
             OperandKind::ReadAmode,
         ],
-        // m32, r32, exchanged
         Row::lock_xaddl_mr | Row::xchgl_rm => &[
             OperandKind::ReadWriteGpr(Size::Doubleword),
             OperandKind::ReadAmode,
         ],
-        // m64, r64, exchanged
         Row::lock_xaddq_mr | Row::xchgq_rm => &[
             OperandKind::ReadWriteGpr(Size::Quadword),
             OperandKind::ReadAmode,
         ],
-        // m8, r8, with AL
         Row::lock_cmpxchgb_mr => &[
             OperandKind::ReadAmode,
             OperandKind::ReadGpr(Size::Byte),
             OperandKind::FixedReadWriteGpr(0, None),
         ],
-        // m16, r16, with AX
         Row::lock_cmpxchgw_mr => &[
             OperandKind::ReadAmode,
             OperandKind::ReadGpr(Size::Word),
             OperandKind::FixedReadWriteGpr(0, None),
         ],
-        // m32, r32, with EAX
         Row::lock_cmpxchgl_mr => &[
             OperandKind::ReadAmode,
             OperandKind::ReadGpr(Size::Doubleword),
             OperandKind::FixedReadWriteGpr(0, None),
         ],
-        // m64, r64, with RAX
         Row::lock_cmpxchgq_mr => &[
             OperandKind::ReadAmode,
             OperandKind::ReadGpr(Size::Quadword),
             OperandKind::FixedReadWriteGpr(0, None),
         ],
-        // m128, with RDX:RAX and RCX:RBX
         Row::lock_cmpxchg16b_m => &[
             OperandKind::ReadAmode,
             OperandKind::FixedReadWriteGpr(0, None),
@@ -168,38 +149,29 @@ pub fn signature(row: Row) -> &'static [OperandKind]
             OperandKind::FixedReadGpr(1, None),
             OperandKind::FixedReadGpr(3, None),
         ],
-        // r/m8, 1
         Row::rolb_m1 | Row::rorb_m1 | Row::shlb_m1 | Row::shrb_m1 | Row::sarb_m1 => &[
             OperandKind::ReadWriteGprMem(Size::Byte),
         ],
-        // r/m16, 1
         Row::rolw_m1 | Row::rorw_m1 | Row::shlw_m1 | Row::shrw_m1 | Row::sarw_m1 => &[
             OperandKind::ReadWriteGprMem(Size::Word),
         ],
-        // r/m32, 1
         Row::roll_m1 | Row::rorl_m1 | Row::shll_m1 | Row::shrl_m1 | Row::sarl_m1 => &[
             OperandKind::ReadWriteGprMem(Size::Doubleword),
         ],
-        // r/m64, 1
         Row::rolq_m1 | Row::rorq_m1 | Row::shlq_m1 | Row::shrq_m1 | Row::sarq_m1 => &[
             OperandKind::ReadWriteGprMem(Size::Quadword),
         ],
-        // r/m64
         Row::callq_m | Row::jmpq_m => &[OperandKind::ReadGprMem(Size::Quadword)],
-        // xmm1, xmm2/m128
         Row::andps_a => &[OperandKind::ReadWriteXmm, OperandKind::ReadXmmMem],
-        // xmm1, xmm2/m128 (m32, m64 of one value), imm8
         Row::cmpps_a | Row::cmppd_a | Row::cmpss_a | Row::cmpsd_a => &[
             OperandKind::ReadWriteXmm,
             OperandKind::ReadXmmMem,
             OperandKind::Imm(ImmediateKind::Predicate),
         ],
-        // AL, imm8
         Row::andb_i => &[
             OperandKind::FixedReadWriteGpr(0, Some(Size::Byte)),
             OperandKind::Imm(ImmediateKind::Imm8),
         ],
-        // rel32
         Row::callq_d
         | Row::jmp_d32
         | Row::jo_d32
@@ -218,7 +190,6 @@ pub fn signature(row: Row) -> &'static [OperandKind]
         | Row::jge_d32
         | Row::jle_d32
         | Row::jg_d32 => &[OperandKind::Imm(ImmediateKind::Distance32)],
-        // rel8
         Row::jmp_d8
         | Row::jo_d8
         | Row::jno_d8
@@ -236,32 +207,26 @@ pub fn signature(row: Row) -> &'static [OperandKind]
         | Row::jge_d8
         | Row::jle_d8
         | Row::jg_d8 => &[OperandKind::Imm(ImmediateKind::Distance8)],
-        // xmm1, xmm2, xmm3/m128 (m32, m64 of one value), imm8
         Row::vcmpps_b | Row::vcmppd_b | Row::vcmpss_b | Row::vcmpsd_b => &[
             OperandKind::WriteXmm,
             OperandKind::ReadXmm,
             OperandKind::ReadXmmMem,
             OperandKind::Imm(ImmediateKind::VexPredicate),
         ],
-        // xmm1, xmm2/m128
         Row::vcvtpd2ps_a | Row::vcvttpd2dq_a => &[OperandKind::WriteXmm, OperandKind::ReadXmmMem],
-        // r32a, r32b, r/m32, with EDX
         Row::mulxl_rvm => &[
             OperandKind::WriteTwoGprs(Size::Doubleword),
             OperandKind::ReadGprMem(Size::Doubleword),
             OperandKind::FixedReadGpr(2, None),
         ],
-        // r64a, r64b, r/m64, with RDX
         Row::mulxq_rvm => &[
             OperandKind::WriteTwoGprs(Size::Quadword),
             OperandKind::ReadGprMem(Size::Quadword),
             OperandKind::FixedReadGpr(2, None),
         ],
-        // no operands
         Row::nop_1b | Row::nop_2b => &[],
-        // r/m32
         Row::nopl_rm => &[OperandKind::ReadGprMem(Size::Doubleword)],
-        // r/m16
         Row::nopw_rm => &[OperandKind::ReadGprMem(Size::Word)],
+        // table/write.py: end
     }
 }
