@@ -4,6 +4,7 @@ prefixes."""
 import re
 
 from formatting import filled
+from instruction import LEGACY_PREFIXES
 
 SOURCE = "crates/cax64_table/src/index.rt"
 
@@ -101,20 +102,55 @@ def given_to(names, cells, places):
     return [rows[name].name for name in names]
 
 
+def prefix_words(place, is_vex):
+    """What a place is called in the name of a macro."""
+    if is_vex:
+        return ("none", "66", "f3", "f2")[place]
+    return "_".join(prefix.lower() for bit, prefix in enumerate(LEGACY_PREFIXES) if place >> bit & 1) or "none"
+
+
+def macro_for(places, is_vex):
+    """A macro for rows at these places: its name, what it is given, its cells, and its lines."""
+    words, names, cells, texts = ["vex" if is_vex else "rows"], [], [], []
+    for place, (without, with_w) in enumerate(places):
+        new = [f"row_{len(names) + step + 1}" for step in range(len({row.name for row in (without, with_w) if row}))]
+        names += new
+        if not new:
+            cells.append((None, None))
+            texts.append("NO_ROW")
+            continue
+        form = "by_w" if len(new) == 2 else "any" if without is with_w else "without_w" if without else "with_w"
+        cells.append((new[0] if without else None, new[-1] if with_w else None))
+        texts.append(f"{form}!({', '.join(f'${name}' for name in new)})")
+        words += [prefix_words(place, is_vex), form]
+    name = "_".join(words)
+    given = ", ".join(f"${row}:ident" for row in names)
+    lines = ["", f"macro_rules! {name} {{", f"    ({given}) => {{ [{', '.join(texts)}] }};", "}"]
+    return (name, names, cells), lines
+
+
 def slot_line(name, rows, macros):
-    """The macro for these rows; one for those of a VEX map is called so."""
+    """The call of a macro for these rows, or None; one for those of a VEX map is called so."""
     is_vex = bool(rows and rows[0].code.vex)
     for macro, names, cells in macros:
         given = given_to(names, cells, places_of(rows)) if macro.startswith("vex_") == is_vex else None
         if given is not None:
             return f"    {macro}!({', '.join(given)}), // {name}"
-    raise Unplaced(rows[0], f"no macro of {SOURCE} puts rows where the prefixes and W of those of opcode {name} ask")
+    return None
 
 
 def index_lines(slots, macros):
-    named = [("no opcode", []), *slots]
-    return [f"static INDEX: [[[Option<Row>; 2]; {PREFIX_COUNT}]; {len(named)}] = [",
-            *(slot_line(name, rows, macros) for name, rows in named), "];"]
+    """The index, and the macros that it needs beside those that stand by hand."""
+    named, lines, written = [("no opcode", []), *slots], [], []
+    for name, rows in named:
+        line = slot_line(name, rows, macros)
+        if line is None:
+            macro, more = macro_for(places_of(rows), bool(rows[0].code.vex))
+            macros.append(macro)
+            written += more
+            line = slot_line(name, rows, macros)
+        lines.append(line)
+    return [f"static INDEX: [[[Option<Row>; 2]; {PREFIX_COUNT}]; {len(named)}] = [", *lines, "];"], written
 
 
 def map_lines(entries, number):
@@ -124,8 +160,11 @@ def map_lines(entries, number):
 
 
 def write(table, sources, text):
-    """`text` is what stands in the index's file, whose macros are by hand."""
+    """`text` is what stands in the index's file, of whose macros some are by hand."""
     entries, slots = slots_of(table.rows)
     maps = [line for number in range(MAP_COUNT) for line in map_lines(entries, number)]
-    sources.part(SOURCE, "slots", [f"static SLOTS: [[u16; 256]; {MAP_COUNT}] = [", *maps, "];"])
-    sources.part(SOURCE, "index", index_lines(slots, macros_of(text)))
+    by_hand = [macro for macro in macros_of(text) if not macro[0].startswith(("rows_", "vex_none_", "vex_66_", "vex_f"))
+               or macro[0] in ("vex_66", "vex_f2")]
+    lines, written = index_lines(slots, by_hand)
+    sources.part(SOURCE, "slots", [f"static SLOTS: [[u16; 256]; {MAP_COUNT}] = [", *maps, "];", *written])
+    sources.part(SOURCE, "index", lines)

@@ -67,8 +67,6 @@ BAD_PAIRS = (
     (JUMP.replace("EB | imm8:distance", "F0 W0 83 /0 | m32 imm8:sx32"),
      "lock_addl_mi_sxb: its prefixes, W, opcode and digit are those of jmp_d8, line 8"),
     (JUMP.replace("EB", "83"), "lock_addl_mi_sxb: its opcode has a digit here, and none in jmp_d8, line 8"),
-    (JUMP.replace("EB", "W0 EB"),
-     f"jmp_d8: no macro of {INDEX} puts rows where the prefixes and W of those of opcode EB ask"),
 )
 
 
