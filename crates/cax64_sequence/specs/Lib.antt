@@ -1,3 +1,4 @@
 -- What the clauses of public functions say.
 pub mod List
+pub mod Stopped
 pub mod Message

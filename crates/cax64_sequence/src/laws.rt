@@ -7,6 +7,7 @@ ghost use Rattle.cax64_sink.specs.FixedSink.{fixed_sink_state};
 ghost use Rattle.cax64_machine_code.specs.Reading.{Parts};
 ghost use Rattle.cax64_machine_code.specs.Sequence.{ReadsAllAs};
 
+use crate::checked::Stopped;
 use crate::sequence::{Refused, encode_each};
 use cax64_encoder::instruction::Instruction;
 use cax64_sink::{FixedSink, SinkError};
@@ -33,7 +34,9 @@ pub fn first_of_a_list()
     ensures { (meant : Parts) (later : List Parts) (b : List ℕ) → ReadsAllAs (meant ∷ later) b → FirstReads meant later b }
 {}
 
-/// Refusals of lists compare equal where they are equal, and nowhere else. It does nothing: its clause is the law.
+/// Refusals of lists, and stops, compare equal where they are equal, and nowhere else. It does nothing: its clauses are the
+/// laws.
 pub fn laws_of_equality()
-    ensures { (a b : Refused) → (⟦<Refused as PartialEq>⟧.eq a b ≡ true) ↔ (a ≡ b) }
+    ensures refused { (a b : Refused) → (⟦<Refused as PartialEq>⟧.eq a b ≡ true) ↔ (a ≡ b) }
+    ensures stopped { (a b : Stopped) → (⟦<Stopped as PartialEq>⟧.eq a b ≡ true) ↔ (a ≡ b) }
 {}

@@ -65,8 +65,10 @@ pub use Rattle.cax64_encoder.specs.Message as FaultMessage
 pub use Rattle.cax64_encoder.specs.Notices
 pub use Rattle.cax64_encoder.specs.Relative
 pub use Rattle.cax64_encoder.specs.Instruction
+pub use Rattle.cax64_encoder.specs.EncodeError
 pub use Rattle.cax64_inst.specs.Inst
 pub use Rattle.cax64_sequence.specs.List
+pub use Rattle.cax64_sequence.specs.Stopped
 pub use Rattle.cax64_sequence.specs.Message as RefusedMessage
 pub use Rattle.cax64_renaming.specs.Renamed
 -- Texts and features.

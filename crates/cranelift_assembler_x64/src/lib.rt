@@ -29,7 +29,7 @@ pub use cax64_address::operand::{GprMem, XmmMem};
 pub use cax64_address::tail::emit_modrm_sib_disp;
 pub use cax64_address::text::Dialect;
 pub use cax64_encode_all::{encode_all, encode_all_whole};
-pub use cax64_encoder::{Fault, Instruction, RoomNeeded};
+pub use cax64_encoder::{EncodeError, Fault, Instruction, RoomNeeded};
 pub use cax64_feature::{AvailableFeatures, Feature, Features};
 pub use cax64_immediate::{
     Extension, Imm8, Imm16, Imm32, Imm64, OutOfRange, Simm8, Simm16, Simm32,
@@ -43,7 +43,9 @@ pub use cax64_operand::{
 pub use cax64_prefix::rex::RexPrefix;
 pub use cax64_register::{AsReg, Fixed, Gpr, NonRspGpr, Registers, Size, Xmm, register_name};
 pub use cax64_renaming::rename;
-pub use cax64_sequence::{Refused, all_encodable, encode_each, encode_each_whole};
+pub use cax64_sequence::{
+    Refused, Stopped, all_encodable, encode_each, encode_each_checked, encode_each_whole,
+};
 pub use cax64_sink::{
     CodeSink, Constant, DeferredTarget, FixedSink, KnownOffset, Label, Notice, Recorder, SinkError,
     TrapCode,

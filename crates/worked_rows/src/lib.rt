@@ -5,6 +5,8 @@
 #[cfg(test)]
 mod addresses;
 #[cfg(test)]
+mod checked;
+#[cfg(test)]
 mod families;
 #[cfg(test)]
 mod fixed_sinks;

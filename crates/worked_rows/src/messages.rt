@@ -1,6 +1,6 @@
 //! Texts of errors.
 
-use cranelift_assembler_x64::{Fault, OutOfRange, Refused, SinkError};
+use cranelift_assembler_x64::{EncodeError, Fault, OutOfRange, Refused, SinkError, Stopped};
 use std::alloc::AllocError;
 
 #[test]
@@ -19,6 +19,24 @@ fn a_refused_list_prints(rt: HostRuntime) -> Result<(), AllocError> {
     };
     let text = refused.to_string(rt.alloc())?;
     assert!(rt; text.as_str() == "instruction 3 of the list isn't whole: the sink is full");
+    Ok(())
+}
+
+#[test]
+fn what_a_checked_call_found_prints(rt: HostRuntime) -> Result<(), AllocError> {
+    let refused = EncodeError::Sink(SinkError::Full).to_string(rt.alloc())?;
+    assert!(rt; refused.as_str() == "the sink is full");
+    let fault = EncodeError::Fault(Fault::Unknown(7)).to_string(rt.alloc())?;
+    assert!(rt; fault.as_str() == "the late offset 7 isn't known");
+    let stopped = Stopped {
+        whole: 3,
+        error: EncodeError::Fault(Fault::Register(2)),
+    };
+    let text = stopped.to_string(rt.alloc())?;
+    assert!(rt;
+        text.as_str()
+            == "instruction 3 of the list isn't whole: register 2 in the order of visits isn't real"
+    );
     Ok(())
 }
 

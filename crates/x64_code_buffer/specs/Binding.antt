@@ -1,5 +1,5 @@
 -- What labels and constants are bound to.
-use Rattle.std.specs.Prelude.{◌≡◌, ◌≢◌, ℕ, ◌-◌, nat_lt, nat_eq, if◌then◌else◌, Option, Some, None, Result, Ok, Err, slice_index_or, vec_len, vec_capacity}
+use Rattle.std.specs.Prelude.{◌≡◌, ◌≢◌, ℕ, ◌-◌, nat_lt, nat_eq, if◌then◌else◌, Option, Some, None, option_and_then, Result, Ok, Err, slice_index_or, vec_len, vec_capacity}
 use Rattle.std.specs.HashMap.{get}
 use Rattle.std.specs.Option.{option_or}
 use Rattle.cax64_sink.specs.declared.DeferredTarget.{DeferredTarget}
@@ -11,7 +11,7 @@ use Rattle.x64_code_buffer.specs.declared.bindings.Bindings.{Bindings}
 -- the place that a target is bound to
 abbrev pub place_bound : {A : Type 0} → Bindings A → DeferredTarget → Option ℕ
 place_bound b (target.Label label) = slice_index_or b.labels.items label.0 None
-place_bound b (target.Constant constant) = option_or (slice_index_or b.listed.items constant.0 None) (get nat_eq b.others constant.0)
+place_bound b (target.Constant constant) = option_or (slice_index_or b.listed.items constant.0 None) (option_and_then (λ others. get nat_eq others constant.0) b.others)
 place_bound b target.None = None
 
 -- how many more labels there is memory for

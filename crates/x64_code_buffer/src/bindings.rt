@@ -1,6 +1,6 @@
 //! What labels and constants are bound to.
 
-ghost use Rattle.std.specs.Prelude.{◌≡◌, ◌↔◌, ◌+◌, ◌^◌, ◌⊎◌, ◌<◌, ◌≤◌, Some, None, Ok, Err, IfOk, IfErr, OnOk, OnErr, IsOk, MatchOption, if◌then◌else◌, is_ok, length, nat_eq, vec_len};
+ghost use Rattle.std.specs.Prelude.{ℕ, ◌≡◌, ◌≢◌, ◌↔◌, ◌+◌, ◌^◌, ◌⊎◌, ◌<◌, ◌≤◌, Some, None, Ok, Err, IfOk, IfErr, OnOk, OnErr, IsOk, MatchOption, option_and_then, if◌then◌else◌, is_ok, length, nat_eq, vec_len};
 ghost use Rattle.std.specs.HashMap.{get};
 ghost use Rattle.std.below.core.specs.declared.int.u32.TheConstants.{MAX};
 ghost use Rattle.x64_code_buffer.specs.declared.errors.BindError.{BindError};
@@ -15,6 +15,9 @@ use std::hash::{BuildHasherDefault, FoldHasher};
 /// How near behind the end of the list a key has to be to be listed. A constant adds no more places to it than these.
 const NEAR: usize = 16;
 
+/// Places by the keys of constants.
+type Places<A> = HashMap<u32, usize, BuildHasherDefault<FoldHasher>, A>;
+
 /// For how many labels a first block is, as `Vec::push` would ask for it.
 const FIRST_LABELS: usize = 4;
 
@@ -22,12 +25,12 @@ const FIRST_LABELS: usize = 4;
 ///
 /// Constants are mostly numbered from 0 on, and bound in about this order. One with a key of the list, or near behind it, is
 /// listed by key, where there is memory for the list: it takes one block, and finds a constant without hashing. A map has
-/// all others.
+/// all others. It is made at the first of these: an empty one is made and dropped at a price that a small buffer notices.
 #[derive(Drop)]
 pub struct Bindings<A: Allocator> {
     labels: Vec<Option<usize>, A>,
     listed: Vec<Option<usize>, A>,
-    others: HashMap<u32, usize, BuildHasherDefault<FoldHasher>, A>,
+    others: Option<Places<A>>,
     ghost few: { vec_len labels ≤ MAX },
 }
 
@@ -45,7 +48,7 @@ impl<A: Allocator + Copy> Bindings<A> {
         Bindings {
             labels: Vec::new(alloc),
             listed: Vec::new(alloc),
-            others: HashMap::new(alloc),
+            others: None,
         }
     }
 }
@@ -80,9 +83,9 @@ impl<A: Allocator> Bindings<A> {
     /// The place that the map has for a constant. It stays out of the code for labels and for constants in the list.
     #[inline(never)]
     fn other_place(&self, constant: Constant) -> Option<usize>
-        ensures { result ≡ get nat_eq self.now.others constant.0 }
+        ensures { result ≡ option_and_then (λ others. get nat_eq others constant.0) self.now.others }
     {
-        self.others.get(&constant.0).copied()
+        self.others.as_ref()?.get(&constant.0).copied()
     }
 
     /// Makes room for the places of so many more labels.
@@ -146,7 +149,9 @@ impl<A: Allocator> Bindings<A> {
     {
         self.labels.clear();
         self.listed.clear();
-        self.others.clear();
+        if let Some(others) = &mut self.others {
+            others.clear();
+        }
     }
 }
 
@@ -172,14 +177,30 @@ impl<A: Allocator + Clone> Bindings<A> {
                 return Ok(());
             }
         }
-        match self.others.insert(constant.0, place) {
-            Ok(None) => Ok(()),
-            Ok(Some(bound)) => {
-                let _ = self.others.insert(constant.0, bound);
-                Err(BindError::Twice)
-            }
-            Err(_) => Err(BindError::NoMemory),
+        self.bind_other(constant, place)
+    }
+
+    /// Binds a constant that isn't listed, in the map.
+    fn bind_other(&mut self, constant: Constant, place: usize) -> Result<(), BindError>
+        requires { length self.old.listed.items ≤ constant.0 }
+        ensures answer { MatchOption (place_bound self.old (DeferredTarget.Constant constant)) ((result ≡ Ok tt) ⊎ (result ≡ Err BindError.NoMemory)) (λ _. result ≡ Err BindError.Twice) }
+        ensures binds { OnOk result (AddsBinding (DeferredTarget.Constant constant) place (place_bound self.old) (place_bound self.new)) }
+        ensures unchanged { OnErr result (SamePlaces (place_bound self.old) (place_bound self.new)) }
+        ensures labels { length self.new.labels.items ≡ length self.old.labels.items }
+        ensures spare { spare_labels self.new ≡ spare_labels self.old }
+    {
+        if let Some(others) = &mut self.others {
+            return bind_in(others, constant.0, place);
         }
+        let alloc = self
+            .labels
+            .allocator()
+            .clone()
+            .map_err(|_| BindError::NoMemory)?;
+        let mut others = HashMap::new(alloc);
+        let bound = bind_in(&mut others, constant.0, place);
+        self.others = Some(others);
+        bound
     }
 
     /// Makes the list long enough for a key.
@@ -195,5 +216,27 @@ impl<A: Allocator + Clone> Bindings<A> {
             return Ok(());
         }
         self.listed.resize(key + 1, None)
+    }
+}
+
+/// Binds the constant with a key in a map.
+fn bind_in<A: Allocator + Clone>(
+    others: &mut Places<A>,
+    key: u32,
+    place: usize,
+) -> Result<(), BindError>
+    ensures answer { MatchOption (get nat_eq others.old key) ((result ≡ Ok tt) ⊎ (result ≡ Err BindError.NoMemory)) (λ _. result ≡ Err BindError.Twice) }
+    ensures free { OnOk result (get nat_eq others.old key ≡ None) }
+    ensures binds { OnOk result (get nat_eq others.new key ≡ Some place) }
+    ensures others { OnOk result ((other : ℕ) → other ≢ key → get nat_eq others.new other ≡ get nat_eq others.old other) }
+    ensures unchanged { OnErr result ((other : ℕ) → get nat_eq others.new other ≡ get nat_eq others.old other) }
+{
+    match others.insert(key, place) {
+        Ok(None) => Ok(()),
+        Ok(Some(bound)) => {
+            let _ = others.insert(key, bound);
+            Err(BindError::Twice)
+        }
+        Err(_) => Err(BindError::NoMemory),
     }
 }

@@ -2,7 +2,8 @@
 
 ghost use Rattle.std.specs.Prelude.{◌≡◌, ◌↔◌, refl, ◌+◌, ◌⊎◌, ◌≤◌, ℕ, [], Some, None, Ok, Err, IsOk, IsTrue, List, ◌∷◌, IfOk, IfErr, OnOk, OnErr, All, MatchOption, if◌then◌else◌, is_ok, length, slice_index, take};
 ghost use Rattle.std.specs.Int.{to_le_bytes, w16, w32, w64};
-ghost use Rattle.cax64_encoder.specs.Instruction.{can_encode_in, len_in, notices_in, Adds};
+ghost use Rattle.cax64_encoder.specs.EncodeError.{fault_found, IfRefused, NotRefused, OnFault};
+ghost use Rattle.cax64_encoder.specs.Instruction.{can_encode_in, fault_in, len_in, notices_in, Adds};
 ghost use Rattle.cax64_machine_code.specs.declared.reading.Reading.{Reading};
 ghost use Rattle.cax64_sink.specs.Call.{Step, put, trap, target};
 ghost use Rattle.cax64_sink.specs.Keeps.{Keeps};
@@ -19,6 +20,7 @@ use crate::bindings::Bindings;
 use crate::errors::{BindError, FinishError};
 use crate::resolve::resolve_uses;
 use crate::room::make_first_room;
+use cax64_encoder::EncodeError;
 use cax64_encoder::instruction::Instruction;
 use cax64_sink::{
     CodeSink, Constant, DeferredTarget, KnownOffset, Label, Notice, Recorder, SinkError, TrapCode,
@@ -185,6 +187,36 @@ impl<A: Allocator> CodeBuffer<A> {
         self.is_fresh = false;
         self.recorder.reserve_ahead(13, 1)?;
         inst.encode(&mut self.recorder)
+    }
+
+    /// Tests an instruction, for the offsets that are set, and puts it as [`push`](Self::push) does.
+    ///
+    /// The test comes before room is made, so that at a fault all is as it was. A refusal leaves what that of `push` leaves.
+    pub fn push_checked<I: Instruction>(&mut self, inst: &I) -> Result<(), EncodeError>
+        ensures fault { fault_found result ≡ fault_in (buffer_state self.old) (I.meant inst.now) }
+        ensures untouched { OnFault result (self.new ≡ self.old) }
+        ensures adds { OnOk result (Adds (I.meant inst.now) (buffer_state self.old) (buffer_state self.new)) }
+        ensures unchanged { OnErr result (AsBefore (buffer_state self.old) (buffer_state self.new)) }
+        ensures error { IfRefused result (λ e. e ≡ SinkError.NoMemory) }
+        ensures enough { HasRoom (buffer_state self.old).byte_room 13 → HasRoom (buffer_state self.old).notice_room 1 → NotRefused result }
+        ensures byte_room { FallsBy (buffer_state self.old).byte_room (buffer_state self.new).byte_room (len_in (buffer_state self.old) (I.meant inst.now)) }
+        ensures notice_room { FallsBy (buffer_state self.old).notice_room (buffer_state self.new).notice_room (notices_in (buffer_state self.old) (I.meant inst.now)) }
+        ensures most_bytes { OnOk result (len_in (buffer_state self.old) (I.meant inst.now) ≤ 13) }
+        ensures most_notices { notices_in (buffer_state self.old) (I.meant inst.now) ≤ 1 }
+        ensures keeps { Keeps (buffer_state self.old) (buffer_state self.new) }
+        ensures labels { label_count self.new ≡ label_count self.old }
+        ensures label_room { label_room self.new ≡ label_room self.old }
+        ensures places { SamePlaces (places_of self.old) (places_of self.new) }
+        ensures filled { let meant = (I.meant inst.now (buffer_state self.old).offsets).parts in (readings : List Reading) → Filled readings (length (buffer_state self.old).bytes) (buffer_state self.old) (places_of self.old) → OnOk result (FilledOn meant readings (buffer_state self.new) (places_of self.new)) }
+        ensures refused { OnErr result (StaysFilled self.old self.new) }
+    {
+        if let Some(fault) = inst.first_fault(&self.recorder) {
+            return Err(EncodeError::Fault(fault));
+        }
+        match self.push(inst) {
+            Ok(()) => Ok(()),
+            Err(error) => Err(EncodeError::Sink(error)),
+        }
     }
 
     /// Patches the field of each use of a label or a constant, in place, and gives the bytes. Takes no memory.

@@ -1,11 +1,10 @@
 use Rattle.std.proofs.Common.{◌≡◌, ◌≤◌, ◌∙◌, arith, ap, ℕ, List, length, get_or, None}
-use Rattle.cax64_sink.specs.Recorder.{recorder_state}
 use Rattle.cax64_sink.specs.Sink.{State}
 use Rattle.x64_code_buffer.specs.Binding.{place_bound}
 use Rattle.x64_code_buffer.specs.Patching.{all_patched}
 use Rattle.x64_code_buffer.specs.Use.{uses_of, first_refusal}
 use Rattle.x64_code_buffer.proofs.Finished.{settle}
-use Rattle.x64_code_buffer.proofs.Patched.{all_length, all_others, all_fields, refused, is_first, bytes_are}
+use Rattle.x64_code_buffer.proofs.Patched.{all_length, all_others, all_fields, refused, is_first}
 use Rattle.x64_code_buffer.proofs.Settling.{each_apart}
 use Rattle.x64_code_buffer.proofs.resolve.resolve_uses.Goals as goal
 
