@@ -1,12 +1,12 @@
 use Rattle.std.proofs.Common.{◌≡◌, ◌<◌, Bool, refl, slice_index}
 use Rattle.std.proofs.lemmas.Bool.{ltb-true}
-use Rattle.std.specs.Prelude.{true, false, nat_lt, ◌||◌}
+use Rattle.std.specs.Prelude.{true, false, nat_lt, ◌||◌, ◌&&◌}
 use Rattle.cax64_machine_code.specs.declared.row.Row.{Row}
 use Rattle.cax64_machine_code.specs.declared.row.Row.TheVariants.{lock_addb_mi}
 use Rattle.cax64_machine_code.specs.Len.{is_w1}
 use Rattle.cax64_machine_code.specs.Line.{imm_bytes, same_bool}
 use Rattle.cax64_machine_code.specs.Rows.{line_of}
-use Rattle.cax64_table.specs.Numbers.{digit_of, has_8bit, is_vex, has_pp, has_map, has_l}
+use Rattle.cax64_table.specs.Numbers.{has_register, has_vvvv, digit_of, has_8bit, is_vex, has_pp, has_map, has_l}
 use Rattle.cax64_table.specs.Packed.{unpacked, bits_at, flag_at, number_of, entry_of}
 use Rattle.cax64_table.specs.declared.packed.TheConstants.{TABLE}
 
@@ -42,6 +42,16 @@ pub vex_is : (row : Row) → flag_at (entry_of row) 6 ≡ is_vex (line_of row).p
 unfolding line_of number_of
 vex_is lock_addb_mi = refl
 vex_is _ = refl
+
+pub register_is : (row : Row) → flag_at (entry_of row) 16 ≡ has_register (line_of row).tail
+unfolding line_of number_of
+register_is lock_addb_mi = refl
+register_is _ = refl
+
+pub vvvv_is : (row : Row) → (flag_at (entry_of row) 6 && flag_at (entry_of row) 12) ≡ has_vvvv (line_of row).prefix
+unfolding line_of number_of
+vvvv_is lock_addb_mi = refl
+vvvv_is _ = refl
 
 pub w_is : (row : Row) → flag_at (entry_of row) 4 ≡ is_w1 (line_of row).w
 unfolding line_of number_of

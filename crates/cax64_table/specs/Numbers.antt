@@ -8,6 +8,7 @@ use Rattle.cax64_machine_code.specs.declared.line.RegField.TheVariants.{Digit, R
 use Rattle.cax64_machine_code.specs.declared.line.PlaceField.TheVariants.{Memory, RegisterOrMemory, Register8OrMemory}
 use Rattle.cax64_machine_code.specs.declared.line.TailField.{TailField}
 use Rattle.cax64_machine_code.specs.declared.line.TailField.TheVariants.{NoTail, Modrm}
+use Rattle.cax64_machine_code.specs.declared.line.VvvvField.TheVariants.{VvvvRegister, Stored1111}
 use Rattle.cax64_table.specs.declared.numbers.HeldBytes.{HeldBytes}
 
 -- the digit in the reg field, 0 where a register or nothing stands there
@@ -16,6 +17,19 @@ digit_of NoTail = 0
 digit_of (Modrm (Digit d) field) = d
 digit_of (Modrm Register8 field) = 0
 digit_of (Modrm Register field) = 0
+
+-- a register stands in the reg field
+abbrev pub has_register : TailField → Bool
+has_register NoTail = false
+has_register (Modrm (Digit d) field) = false
+has_register (Modrm Register8 field) = true
+has_register (Modrm Register field) = true
+
+-- a register stands in vvvv
+abbrev pub has_vvvv : PrefixField → Bool
+has_vvvv (LegacyField set rex) = false
+has_vvvv (VexField pp map l VvvvRegister) = true
+has_vvvv (VexField pp map l Stored1111) = false
 
 -- the reg field is an 8-bit register, the place may be one
 abbrev pub uses_8bit_reg : TailField → Bool

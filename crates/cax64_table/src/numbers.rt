@@ -4,7 +4,7 @@ ghost use Rattle.std.specs.Prelude.{◌≡◌, ◌≤◌, ◌<◌, ◌^◌, fals
 ghost use Rattle.cax64_machine_code.specs.Len.{is_w1};
 ghost use Rattle.cax64_machine_code.specs.Line.{imm_bytes, opcode_bytes};
 ghost use Rattle.cax64_machine_code.specs.Rows.{line_of};
-ghost use Rattle.cax64_table.specs.Numbers.{digit_of, has_8bit, is_vex, held, legacy_bytes_of, has_pp, has_map, has_l};
+ghost use Rattle.cax64_table.specs.Numbers.{digit_of, has_8bit, has_register, has_vvvv, is_vex, held, legacy_bytes_of, has_pp, has_map, has_l};
 
 use crate::packed::{bits, entry, flag, half_word};
 use cax64_machine_code::row::Row;
@@ -26,6 +26,23 @@ pub fn digit(row: Row) -> u8
 {
     // Of 8, which stands for no digit, the lowest bits are 0.
     bits(entry(row), 17, 3)
+}
+
+/// Whether a register stands in the reg field.
+#[inline(always)]
+pub fn has_register(row: Row) -> bool
+    ensures { result ≡ has_register (line_of row).tail }
+{
+    flag(entry(row), 16)
+}
+
+/// Whether a register stands in vvvv.
+#[inline(always)]
+pub fn has_vvvv(row: Row) -> bool
+    ensures { result ≡ has_vvvv (line_of row).prefix }
+{
+    let packed = entry(row);
+    flag(packed, 6) & flag(packed, 12)
 }
 
 /// How many bytes of immediate there are.
