@@ -1,0 +1,5 @@
+pub mod Place
+pub mod Fits
+pub mod Operands
+pub mod Data
+pub mod Form

@@ -1,0 +1,7 @@
+//! Instructions as data: a row and operands by their numbers, in one type of 32 bytes.
+#![tactic(auto)]
+
+pub mod data;
+pub mod place;
+
+pub use data::InstData;
