@@ -27,7 +27,8 @@ use Rattle.cax64_machine_code.specs.declared.line.ImmField.TheVariants as field
 use Rattle.cax64_operand.specs.Shape.{Rest, nothing, memory, register_or_memory}
 use Rattle.cax64_inst_data.specs.Data.{kept_of, operands_by, data_operands, data_row}
 use Rattle.cax64_inst_data.specs.Fits.{place_fits, imm_fits, kinds_fit, fits}
-use Rattle.cax64_inst_data.specs.Form.{when, operand_by, data_form, content_by, data_content}
+use Rattle.cax64_inst_data.specs.When.{when}
+use Rattle.cax64_inst_data.specs.Form.{operand_by, data_form, content_by, data_content}
 use Rattle.cax64_inst_data.specs.Operands.{Kept, filled, listed}
 use Rattle.cax64_inst_data.specs.declared.data.InstData.{InstData}
 use Rattle.cax64_inst_data.specs.declared.place.PlaceKind.{PlaceKind}

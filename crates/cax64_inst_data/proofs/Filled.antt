@@ -28,7 +28,7 @@ use Rattle.cax64_signature.specs.declared.kind.ImmediateKind.TheVariants.{Imm8, 
 use Rattle.cax64_signature.specs.declared.kind.OperandKind.{OperandKind}
 use Rattle.cax64_signature.specs.declared.kind.OperandKind.TheVariants.{ReadGpr, ReadWriteGpr, WriteGpr, WriteTwoGprs, FixedReadGpr, FixedReadWriteGpr, ReadXmm, ReadWriteXmm, WriteXmm, ReadAmode, ReadGprMem, ReadWriteGprMem, ReadXmmMem, Imm}
 use Rattle.cax64_signature.proofs.Taken.{registers_in, rest_in, field_of, imm_field_in}
-use Rattle.cax64_inst_data.specs.Operands.{Kept, filled, head, tail, next, next_fixed, imm_by, amode_of, is_register}
+use Rattle.cax64_inst_data.specs.Operands.{Kept, filled, head, tail, next, next_fixed, imm_by, amode_by, amode_of, is_register}
 use Rattle.cax64_inst_data.specs.Fits.{imm_fits}
 use Rattle.cax64_inst_data.specs.declared.place.DataPlace.{DataPlace}
 use Rattle.cax64_inst_data.specs.declared.place.PlaceKind.{PlaceKind}
@@ -141,8 +141,8 @@ place_or_memory false base numbers = numbers
 
 abbrev pub rest_by : Rest → PlaceKind → DataPlace → NumberedPlace
 rest_by nothing kind p = no_place
-rest_by memory kind p = numbered_amode plain (amode_of p)
-rest_by register_or_memory kind p = place_or_memory (is_register kind) p.base (numbered_amode plain (amode_of p))
+rest_by memory kind p = numbered_amode plain (amode_by kind p)
+rest_by register_or_memory kind p = place_or_memory (is_register kind) p.base (numbered_amode plain (amode_by kind p))
 
 gpr_place : (b : Bool) (base : ℕ) (amode : Amode ℕ) → numbered_place plain (gpr_mem_place plain.settled plain.enc (if b then gpr_mem.Gpr base else gpr_mem.Mem amode)) ≡ place_or_memory b base (numbered_amode plain amode)
 gpr_place true base amode = refl

@@ -1,3 +1,4 @@
 pub mod Filled
 pub mod Content
 pub mod Signature
+pub mod Placed

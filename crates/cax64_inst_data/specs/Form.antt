@@ -8,7 +8,8 @@ use Rattle.cax64_encoder.specs.declared.number.Number.TheVariants.{Settled}
 use Rattle.cax64_encoder.specs.declared.role.PlaceOperand as encoder
 use Rattle.cax64_encoder.specs.declared.role.PlaceOperand.{PlaceOperand}
 use Rattle.cax64_table.specs.Numbers.{has_register, has_vvvv}
-use Rattle.cax64_inst_data.specs.Operands.{amode_of}
+use Rattle.cax64_inst_data.specs.Operands.{amode_by}
+use Rattle.cax64_inst_data.specs.When.{when}
 use Rattle.cax64_inst_data.specs.declared.data.InstData.{InstData}
 use Rattle.cax64_inst_data.specs.declared.place.DataPlace.{DataPlace}
 use Rattle.cax64_inst_data.specs.declared.place.PlaceKind.{PlaceKind}
@@ -16,17 +17,14 @@ use Rattle.cax64_inst_data.specs.declared.place.PlaceKind.TheVariants.{Absent, R
 
 -- What the encoder is given of data.
 
-abbrev pub when : Bool → ℕ → Option ℕ
-when present number = if present then Some number else None
-
 abbrev pub operand_by : PlaceKind → DataPlace → PlaceOperand ℕ
 operand_by Absent p = encoder.TheVariants.NoPlace
 operand_by Register p = encoder.TheVariants.Register (Settled p.base)
-operand_by Base p = encoder.TheVariants.Memory (amode_of p)
-operand_by BaseAndIndex p = encoder.TheVariants.Memory (amode_of p)
-operand_by Label p = encoder.TheVariants.Memory (amode_of p)
-operand_by Constant p = encoder.TheVariants.Memory (amode_of p)
-operand_by NoTarget p = encoder.TheVariants.Memory (amode_of p)
+operand_by Base p = encoder.TheVariants.Memory (amode_by Base p)
+operand_by BaseAndIndex p = encoder.TheVariants.Memory (amode_by BaseAndIndex p)
+operand_by Label p = encoder.TheVariants.Memory (amode_by Label p)
+operand_by Constant p = encoder.TheVariants.Memory (amode_by Constant p)
+operand_by NoTarget p = encoder.TheVariants.Memory (amode_by NoTarget p)
 
 -- the place as the encoder has it
 abbrev pub place_operand : DataPlace → PlaceOperand ℕ

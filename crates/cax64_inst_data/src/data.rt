@@ -1,11 +1,16 @@
 //! The type of an instruction as data.
 
 ghost use Rattle.std.specs.Prelude.{◌≡◌, true};
+ghost use Rattle.cax64_operand.specs.NopRow.{nop_row};
 ghost use Rattle.cax64_inst_data.specs.Fits.{fits};
+ghost use Rattle.cax64_inst_data.specs.When.{when};
 
 use crate::place::DataPlace;
+use cax64_encoder::content::Content;
+use cax64_encoder::numbered::NumberedForm;
 use cax64_machine_code::row::Row;
-use cax64_operand::Nop;
+use cax64_operand::{FromOperands, Nop, Numbers};
+use cax64_table::numbers;
 
 /// An instruction: a row of the table, and operands by their numbers.
 #[derive(Clone, Copy, Debug, PartialEq)]
@@ -18,4 +23,68 @@ pub struct InstData {
     vvvv: u8,
     fixed: [u8; 4],
     ghost is_kept: { fits nop row reg vvvv fixed place.kind imm ≡ true },
+}
+
+impl InstData {
+    ghost use Rattle.cax64_inst_data.specs.Data.{data_row};
+    ghost use Rattle.cax64_inst_data.specs.Form.{data_content, data_form};
+    ghost use Rattle.cax64_encoder.specs.Content.{content_of};
+
+    /// The operands that the bytes hold, of an instruction that is no no-operation.
+    #[inline(always)]
+    fn form(&self) -> NumberedForm
+        ensures { result ≡ data_form self.now }
+    {
+        NumberedForm {
+            reg: when(numbers::has_register(self.row), self.reg),
+            vvvv: when(numbers::has_vvvv(self.row), self.vvvv),
+            place: self.place.numbered(),
+            imm: self.imm,
+        }
+    }
+
+    /// What the encoder keeps of the operands.
+    #[inline(always)]
+    pub(crate) fn content(&self) -> Content
+        ensures { result ≡ data_content self.now }
+    {
+        match self.nop {
+            Some(nop) => <Content as FromOperands<Numbers>>::nop(nop),
+            None => Content {
+                nop: None,
+                form: self.form(),
+            },
+        }
+    }
+
+    /// The row of the table.
+    #[inline(always)]
+    pub(crate) fn its_row(&self) -> Row
+        ensures { result ≡ data_row self.now }
+    {
+        match self.nop {
+            Some(nop) => nop_row(nop),
+            None => self.row,
+        }
+    }
+}
+
+/// The row of a no-operation.
+fn nop_row(nop: Nop) -> Row
+    ensures { result ≡ nop_row nop }
+{
+    match nop {
+        Nop::One => Row::nop_1b,
+        Nop::Two => Row::nop_2b,
+        Nop::Three | Nop::Four | Nop::Five | Nop::Seven | Nop::Eight => Row::nopl_rm,
+        Nop::Six | Nop::Nine => Row::nopw_rm,
+    }
+}
+
+/// A number, where it stands for something.
+#[inline(always)]
+fn when(present: bool, number: u8) -> Option<u8>
+    ensures { result ≡ when present number }
+{
+    if present { Some(number) } else { None }
 }

@@ -4,8 +4,9 @@ ghost use Rattle.std.specs.Prelude.{◌≡◌, true};
 ghost use Rattle.cax64_inst_data.specs.Place.{is_plain};
 
 use cax64_address::amode::Scale;
-use cax64_address::offset::AmodeOffset;
-use cax64_sink::{KnownOffset, TrapCode};
+use cax64_address::offset::{AmodeOffset, AmodeOffsetPlusKnownOffset};
+use cax64_encoder::numbered::NumberedPlace;
+use cax64_sink::{Constant, DeferredTarget, KnownOffset, Label, TrapCode};
 
 /// What stands in the rest of the tail.
 #[derive(Clone, Copy, Debug, PartialEq)]
@@ -44,20 +45,84 @@ pub struct DataPlace {
 }
 
 impl DataPlace {
-    /// No place.
+    ghost use Rattle.cax64_encoder.specs.Numbered.{plain, numbered_place};
+    ghost use Rattle.cax64_inst_data.specs.Form.{place_operand};
+    ghost use Rattle.cax64_inst_data.specs.Placed.{has_index, placed, relative_by};
+    ghost use Rattle.cax64_inst_data.specs.Fits.{is_present};
+    ghost use Rattle.cax64_inst_data.specs.Operands.{is_register};
+
+    /// The target of a place relative to the end.
     #[inline(always)]
-    pub fn absent() -> DataPlace
-        ensures { result.kind ≡ PlaceKind.Absent }
+    fn relative(&self) -> Option<DeferredTarget>
+        ensures { result ≡ relative_by self.now.kind self.now.target }
     {
-        DataPlace {
-            kind: PlaceKind::Absent,
-            base: 0,
-            index: 0,
-            scale: Scale::One,
-            trap: None,
-            offset: None,
-            displacement: AmodeOffset::ZERO,
-            target: 0,
+        match self.kind {
+            PlaceKind::Absent
+            | PlaceKind::Register
+            | PlaceKind::Base
+            | PlaceKind::BaseAndIndex => None,
+            PlaceKind::Label => Some(DeferredTarget::Label(Label(self.target))),
+            PlaceKind::Constant => Some(DeferredTarget::Constant(Constant(self.target))),
+            PlaceKind::NoTarget => Some(DeferredTarget::None),
         }
+    }
+
+    /// The numbers as they stand here.
+    #[inline(always)]
+    fn placed(&self) -> NumberedPlace
+        ensures { result ≡ placed self.now }
+    {
+        let is_register = self.kind.is_register();
+        NumberedPlace {
+            stands: self.kind.is_present(),
+            is_register,
+            has_index: self.kind.has_index(),
+            relative: self.relative(),
+            base: self.base,
+            index: self.index,
+            register: if is_register { self.base } else { 0 },
+            scale: self.scale,
+            displacement: AmodeOffsetPlusKnownOffset {
+                simm32: self.displacement,
+                offset: self.offset,
+            },
+            trap: self.trap,
+        }
+    }
+
+    /// The numbers of the place that this stands for.
+    #[tactic(auto, using(crate::proofs::Placed::numbers_are))]
+    #[inline(always)]
+    pub fn numbered(&self) -> NumberedPlace
+        ensures { result ≡ numbered_place plain (place_operand self.now) }
+    {
+        self.placed()
+    }
+}
+
+impl PlaceKind {
+    ghost use Rattle.cax64_inst_data.specs.Placed.{has_index};
+    ghost use Rattle.cax64_inst_data.specs.Fits.{is_present};
+    ghost use Rattle.cax64_inst_data.specs.Operands.{is_register};
+
+    #[inline(always)]
+    fn is_register(self) -> bool
+        ensures { result ≡ is_register self }
+    {
+        matches!(self, PlaceKind::Register)
+    }
+
+    #[inline(always)]
+    fn is_present(self) -> bool
+        ensures { result ≡ is_present self }
+    {
+        !matches!(self, PlaceKind::Absent)
+    }
+
+    #[inline(always)]
+    fn has_index(self) -> bool
+        ensures { result ≡ has_index self }
+    {
+        matches!(self, PlaceKind::BaseAndIndex)
     }
 }
