@@ -11,6 +11,8 @@ use Rattle.cax64_operand.specs.OperandList.{list_of}
 use Rattle.cax64_operand.specs.declared.instruction.Numbers.{Numbers}
 use Rattle.cax64_operand.specs.declared.nop.Nop.{Nop}
 use Rattle.cax64_operand.specs.declared.operand.Operand.{Operand}
+use Rattle.cax64_operand.specs.Shape.{HasShape}
+use Rattle.cax64_signature.proofs.Shapes.{shape}
 use Rattle.cax64_signature.proofs.Taken.{field_of, imm_field_in, registers_in, rest_in}
 use Rattle.cax64_signature.specs.Kind.{kinds_of, imms_in_range}
 use Rattle.cax64_signature.specs.Signature.{signature_of, HasSignature}
@@ -156,3 +158,6 @@ signature_when d None e =
 -- the operands of data have its row's signature
 pub has_signature : (d : InstData) → HasSignature (data_row d) (data_operands d)
 has_signature d = signature_when d d.nop refl
+
+pub has_shape : (d : InstData) → HasShape (data_row d) (data_operands d)
+has_shape d = shape (data_row d) (data_operands d) (has_signature d)

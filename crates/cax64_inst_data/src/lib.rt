@@ -2,6 +2,7 @@
 #![tactic(auto)]
 
 pub mod data;
+mod encode;
 pub mod place;
 
 pub use data::InstData;
