@@ -2,3 +2,4 @@ pub mod Filled
 pub mod Content
 pub mod Signature
 pub mod Placed
+pub mod Encodable

@@ -5,3 +5,4 @@ pub mod Data
 pub mod When
 pub mod Form
 pub mod Placed
+pub mod Encodable

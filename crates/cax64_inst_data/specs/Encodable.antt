@@ -1,0 +1,42 @@
+use Rattle.std.specs.Prelude.{ℕ, ◌==◌, ◌&&◌, not, nat_lt, Bool, true, false, List, [], ◌∷◌}
+use Rattle.cax64_address.specs.declared.amode.Amode.{Amode}
+use Rattle.cax64_address.specs.declared.amode.Amode.TheVariants.{ImmReg, ImmRegRegShift, RipRelative}
+use Rattle.cax64_signature.specs.declared.kind.OperandKind.{OperandKind}
+use Rattle.cax64_signature.specs.declared.kind.OperandKind.TheVariants.{ReadGpr, ReadWriteGpr, WriteGpr, WriteTwoGprs, FixedReadGpr, FixedReadWriteGpr, ReadXmm, ReadWriteXmm, WriteXmm, ReadAmode, ReadGprMem, ReadWriteGprMem, ReadXmmMem, Imm}
+use Rattle.cax64_inst_data.specs.Operands.{head, tail}
+
+-- What has to hold of the numbers of data.
+
+abbrev pub real : ℕ → Bool
+real number = nat_lt number 16
+
+abbrev pub all_real : List ℕ → Bool
+all_real [] = true
+all_real (r ∷ later) = real r && all_real later
+
+abbrev pub place_met : Amode ℕ → Bool
+place_met (ImmReg base simm32 trap) = real base
+place_met (ImmRegRegShift base index scale simm32 trap) = real base && (real index && not (index == 4))
+place_met (RipRelative target) = true
+
+abbrev pub gpr_or_memory_met : Bool → ℕ → Amode ℕ → Bool
+gpr_or_memory_met true base amode = real base
+gpr_or_memory_met false base amode = place_met amode
+
+-- the fixed registers that kinds ask for
+abbrev pub fixed_met : List OperandKind → List ℕ → Bool
+fixed_met [] fixed = true
+fixed_met (FixedReadGpr expected size ∷ later) fixed = (head fixed == expected) && fixed_met later (tail fixed)
+fixed_met (FixedReadWriteGpr expected size ∷ later) fixed = (head fixed == expected) && fixed_met later (tail fixed)
+fixed_met (ReadGpr size ∷ later) fixed = fixed_met later fixed
+fixed_met (ReadWriteGpr size ∷ later) fixed = fixed_met later fixed
+fixed_met (WriteGpr size ∷ later) fixed = fixed_met later fixed
+fixed_met (WriteTwoGprs size ∷ later) fixed = fixed_met later fixed
+fixed_met (ReadXmm ∷ later) fixed = fixed_met later fixed
+fixed_met (ReadWriteXmm ∷ later) fixed = fixed_met later fixed
+fixed_met (WriteXmm ∷ later) fixed = fixed_met later fixed
+fixed_met (ReadAmode ∷ later) fixed = fixed_met later fixed
+fixed_met (ReadGprMem size ∷ later) fixed = fixed_met later fixed
+fixed_met (ReadWriteGprMem size ∷ later) fixed = fixed_met later fixed
+fixed_met (ReadXmmMem ∷ later) fixed = fixed_met later fixed
+fixed_met (Imm imm ∷ later) fixed = fixed_met later fixed
