@@ -1,4 +1,4 @@
-use Rattle.std.proofs.Common.{◌≡◌, ℕ, suc, ◌+◌, refl, ◌∙◌, ap, sym, arith, Bool, true, false, Option, Some, None, List, [], ◌∷◌, ℤ}
+use Rattle.std.proofs.Common.{◌≡◌, ℕ, zero, suc, ◌+◌, refl, ◌∙◌, ap, sym, arith, Bool, true, false, Option, Some, None, List, [], ◌∷◌, ℤ}
 use Rattle.std.specs.Prelude.{◌&&◌, ◌||◌, ◌==◌, nat_lt, drop, if◌then◌else◌}
 use Rattle.std.proofs.lemmas.Bool.{and_parts}
 use Rattle.std.proofs.lemmas.Bool.Decides.{nat_tests}
@@ -23,7 +23,7 @@ use Rattle.cax64_inst_data.proofs.Filled.{numbers}
 -- Operands that are filled in can be encoded where the registers, the fixed ones and the place are as they have to be.
 
 -- the registers, one after the other
-abbrev registers_met : List OperandKind → List ℕ → Bool
+abbrev pub registers_met : List OperandKind → List ℕ → Bool
 registers_met [] rs = true
 registers_met (ReadGpr size ∷ later) rs = real (head rs) && registers_met later (tail rs)
 registers_met (ReadWriteGpr size ∷ later) rs = real (head rs) && registers_met later (tail rs)
@@ -41,7 +41,7 @@ registers_met (ReadXmmMem ∷ later) rs = registers_met later rs
 registers_met (Imm imm ∷ later) rs = registers_met later rs
 
 -- the places, of which a signature has one at most
-abbrev places_met : List OperandKind → DataPlace → Bool
+abbrev pub places_met : List OperandKind → DataPlace → Bool
 places_met [] p = true
 places_met (ReadGpr size ∷ later) p = places_met later p
 places_met (ReadWriteGpr size ∷ later) p = places_met later p
@@ -58,10 +58,10 @@ places_met (ReadWriteGprMem size ∷ later) p = gpr_or_memory_met (is_register p
 places_met (ReadXmmMem ∷ later) p = gpr_or_memory_met (is_register p.kind) p.base (amode_of p) && places_met later p
 places_met (Imm imm ∷ later) p = places_met later p
 
-abbrev met_of : List OperandKind → DataPlace → Kept → Bool
+abbrev pub met_of : List OperandKind → DataPlace → Kept → Bool
 met_of kinds p k = (checked_roles plain (roles_of (numbers ◌==◌) (filled kinds p k))).met
 
-abbrev parts_met : List OperandKind → DataPlace → Kept → Bool
+abbrev pub parts_met : List OperandKind → DataPlace → Kept → Bool
 parts_met kinds p k = registers_met kinds k.registers && (fixed_met kinds k.fixed && places_met kinds p)
 
 register_first : (a r f p : Bool) → (a && (r && (f && p))) ≡ ((a && r) && (f && p))
@@ -95,7 +95,7 @@ xmm_met : (b : Bool) (base : ℕ) (amode : Amode ℕ) (later : Checked) → (wit
 xmm_met true base amode later = refl
 xmm_met false base amode later = ap (λ (x : Bool). x && later.met) (amode_met_is amode)
 
-met_is : (kinds : List OperandKind) (p : DataPlace) (k : Kept) → met_of kinds p k ≡ parts_met kinds p k
+pub met_is : (kinds : List OperandKind) (p : DataPlace) (k : Kept) → met_of kinds p k ≡ parts_met kinds p k
 met_is [] p k = refl
 met_is (ReadGpr size ∷ later) p k = ap (λ (x : Bool). real (head k.registers) && x) (met_is later p (next k)) ∙ register_first (real (head k.registers)) (registers_met later (tail k.registers)) (fixed_met later k.fixed) (places_met later p)
 met_is (ReadWriteGpr size ∷ later) p k = ap (λ (x : Bool). real (head k.registers) && x) (met_is later p (next k)) ∙ register_first (real (head k.registers)) (registers_met later (tail k.registers)) (fixed_met later k.fixed) (places_met later p)
@@ -111,3 +111,55 @@ met_is (ReadGprMem size ∷ later) p k = gpr_met (is_register p.kind) p.base (am
 met_is (ReadWriteGprMem size ∷ later) p k = gpr_met (is_register p.kind) p.base (amode_of p) (checked_roles plain (roles_of (numbers ◌==◌) (filled later p k))) ∙ ap (λ (x : Bool). gpr_or_memory_met (is_register p.kind) p.base (amode_of p) && x) (met_is later p k) ∙ place_first (gpr_or_memory_met (is_register p.kind) p.base (amode_of p)) (registers_met later k.registers) (fixed_met later k.fixed) (places_met later p)
 met_is (ReadXmmMem ∷ later) p k = xmm_met (is_register p.kind) p.base (amode_of p) (checked_roles plain (roles_of (numbers ◌==◌) (filled later p k))) ∙ ap (λ (x : Bool). gpr_or_memory_met (is_register p.kind) p.base (amode_of p) && x) (met_is later p k) ∙ place_first (gpr_or_memory_met (is_register p.kind) p.base (amode_of p)) (registers_met later k.registers) (fixed_met later k.fixed) (places_met later p)
 met_is (Imm imm ∷ later) p k = met_is later p k
+
+-- Of registers and of fixed registers all are asked, since what isn't there is 0.
+
+zero_real : (rs : List ℕ) → all_zero rs ≡ true → all_real rs ≡ true
+zero_real [] h = refl
+zero_real (r ∷ later) h =
+    let p = and_parts (r == 0) _ h in
+    let e : r ≡ 0 = grind (arith, nat_tests, p.0) in
+    rw e (zero_real later p.1)
+
+pub drop_more : (n r : ℕ) (rs : List ℕ) → drop (1 + n) (r ∷ rs) ≡ drop n rs
+drop_more n r rs = let e : 1 + n ≡ suc n = omega arith in rw e refl
+
+drop_two : (n r q : ℕ) (rs : List ℕ) → drop (2 + n) (r ∷ q ∷ rs) ≡ drop n rs
+drop_two n r q rs = let e : 2 + n ≡ suc (suc n) = omega arith in rw e refl
+
+drop_none : (n : ℕ) → all_zero (drop n []) ≡ true
+drop_none zero = refl
+drop_none (suc n) = refl
+
+with_true : (b : Bool) → ((b && true) && true) ≡ (b && true)
+with_true true = refl
+with_true false = refl
+
+and_then : (a b c : Bool) → ((a && b) && c) ≡ (a && (b && c))
+and_then true b c = refl
+and_then false b c = refl
+
+pub all_registers : (kinds : List OperandKind) (rs : List ℕ) → all_zero (drop (registers_in kinds) rs) ≡ true → registers_met kinds rs ≡ all_real rs
+all_registers [] rs h = sym (zero_real rs h)
+all_registers (ReadGpr size ∷ later) [] h = all_registers later [] (drop_none _)
+all_registers (ReadGpr size ∷ later) (r ∷ rs) h = ap (λ (x : Bool). real r && x) (all_registers later rs (rw (drop_more (registers_in later) r rs) at h))
+all_registers (ReadWriteGpr size ∷ later) [] h = all_registers later [] (drop_none _)
+all_registers (ReadWriteGpr size ∷ later) (r ∷ rs) h = ap (λ (x : Bool). real r && x) (all_registers later rs (rw (drop_more (registers_in later) r rs) at h))
+all_registers (WriteGpr size ∷ later) [] h = all_registers later [] (drop_none _)
+all_registers (WriteGpr size ∷ later) (r ∷ rs) h = ap (λ (x : Bool). real r && x) (all_registers later rs (rw (drop_more (registers_in later) r rs) at h))
+all_registers (WriteTwoGprs size ∷ later) [] h = all_registers later [] (drop_none _)
+all_registers (WriteTwoGprs size ∷ later) (r ∷ []) h = ap (λ (x : Bool). (real r && true) && x) (all_registers later [] (drop_none _)) ∙ with_true (real r)
+all_registers (WriteTwoGprs size ∷ later) (r ∷ q ∷ rs) h = ap (λ (x : Bool). (real r && real q) && x) (all_registers later rs (rw (drop_two (registers_in later) r q rs) at h)) ∙ and_then (real r) (real q) (all_real rs)
+all_registers (FixedReadGpr expected size ∷ later) rs h = all_registers later rs h
+all_registers (FixedReadWriteGpr expected size ∷ later) rs h = all_registers later rs h
+all_registers (ReadXmm ∷ later) [] h = all_registers later [] (drop_none _)
+all_registers (ReadXmm ∷ later) (r ∷ rs) h = ap (λ (x : Bool). real r && x) (all_registers later rs (rw (drop_more (registers_in later) r rs) at h))
+all_registers (ReadWriteXmm ∷ later) [] h = all_registers later [] (drop_none _)
+all_registers (ReadWriteXmm ∷ later) (r ∷ rs) h = ap (λ (x : Bool). real r && x) (all_registers later rs (rw (drop_more (registers_in later) r rs) at h))
+all_registers (WriteXmm ∷ later) [] h = all_registers later [] (drop_none _)
+all_registers (WriteXmm ∷ later) (r ∷ rs) h = ap (λ (x : Bool). real r && x) (all_registers later rs (rw (drop_more (registers_in later) r rs) at h))
+all_registers (ReadAmode ∷ later) rs h = all_registers later rs h
+all_registers (ReadGprMem size ∷ later) rs h = all_registers later rs h
+all_registers (ReadWriteGprMem size ∷ later) rs h = all_registers later rs h
+all_registers (ReadXmmMem ∷ later) rs h = all_registers later rs h
+all_registers (Imm imm ∷ later) rs h = all_registers later rs h

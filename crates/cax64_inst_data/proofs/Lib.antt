@@ -3,3 +3,4 @@ pub mod Content
 pub mod Signature
 pub mod Placed
 pub mod Encodable
+pub mod Tested

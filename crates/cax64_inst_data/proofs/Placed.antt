@@ -18,7 +18,7 @@ use Rattle.cax64_inst_data.specs.declared.place.PlaceKind.TheVariants.{Absent, R
 
 -- The numbers of a place are those of what it stands for.
 
-is_value : (n k : ℕ) → (n == k) ≡ true → n ≡ k
+pub is_value : (n k : ℕ) → (n == k) ≡ true → n ≡ k
 is_value n k h = grind (arith, nat_tests)
 
 scale_is : (s : Scale) → is_one s ≡ true → s ≡ One
@@ -27,7 +27,7 @@ scale_is Two h = cc
 scale_is Four h = cc
 scale_is Eight h = cc
 
-none_is : {T : Type 0} (o : Option T) → is_none o ≡ true → o ≡ None
+pub none_is : {T : Type 0} (o : Option T) → is_none o ≡ true → o ≡ None
 none_is None h = refl
 none_is (Some v) h = cc
 
@@ -35,13 +35,13 @@ zero_is : (z : ℤ) → is_zero z ≡ true → z ≡ pos 0
 zero_is (pos n) h = let e : n ≡ 0 = is_value n 0 h in rw e refl
 zero_is (negsuc n) h = cc
 
-record Nothing (s : Scale) (t : Option TrapCode) (o : Option ℕ) (d : ℤ) : Type 0 where
-  scale : s ≡ One
-  trap : t ≡ None
-  offset : o ≡ None
-  displacement : d ≡ pos 0
+pub record Nothing (s : Scale) (t : Option TrapCode) (o : Option ℕ) (d : ℤ) : Type 0 where
+  pub scale : s ≡ One
+  pub trap : t ≡ None
+  pub offset : o ≡ None
+  pub displacement : d ≡ pos 0
 
-nothing_is : (s : Scale) (t : Option TrapCode) (o : Option ℕ) (d : ℤ) → nothing_more s t o d ≡ true → Nothing s t o d
+pub nothing_is : (s : Scale) (t : Option TrapCode) (o : Option ℕ) (d : ℤ) → nothing_more s t o d ≡ true → Nothing s t o d
 nothing_is s t o d h =
     let a = and_parts (is_one s) _ h in
     let b = and_parts (is_none t) _ a.1 in

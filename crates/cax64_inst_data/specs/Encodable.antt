@@ -4,6 +4,8 @@ use Rattle.cax64_address.specs.declared.amode.Amode.TheVariants.{ImmReg, ImmRegR
 use Rattle.cax64_signature.specs.declared.kind.OperandKind.{OperandKind}
 use Rattle.cax64_signature.specs.declared.kind.OperandKind.TheVariants.{ReadGpr, ReadWriteGpr, WriteGpr, WriteTwoGprs, FixedReadGpr, FixedReadWriteGpr, ReadXmm, ReadWriteXmm, WriteXmm, ReadAmode, ReadGprMem, ReadWriteGprMem, ReadXmmMem, Imm}
 use Rattle.cax64_inst_data.specs.Operands.{head, tail}
+use Rattle.cax64_inst_data.specs.Placed.{has_index}
+use Rattle.cax64_inst_data.specs.declared.place.PlaceKind.{PlaceKind}
 
 -- What has to hold of the numbers of data.
 
@@ -40,3 +42,30 @@ fixed_met (ReadGprMem size ∷ later) fixed = fixed_met later fixed
 fixed_met (ReadWriteGprMem size ∷ later) fixed = fixed_met later fixed
 fixed_met (ReadXmmMem ∷ later) fixed = fixed_met later fixed
 fixed_met (Imm imm ∷ later) fixed = fixed_met later fixed
+
+-- the numbers that fixed registers have to hold, in their order
+abbrev pub expected_of : List OperandKind → List ℕ
+expected_of [] = []
+expected_of (ReadGpr size ∷ later) = expected_of later
+expected_of (ReadWriteGpr size ∷ later) = expected_of later
+expected_of (WriteGpr size ∷ later) = expected_of later
+expected_of (WriteTwoGprs size ∷ later) = expected_of later
+expected_of (FixedReadGpr expected size ∷ later) = expected ∷ expected_of later
+expected_of (FixedReadWriteGpr expected size ∷ later) = expected ∷ expected_of later
+expected_of (ReadXmm ∷ later) = expected_of later
+expected_of (ReadWriteXmm ∷ later) = expected_of later
+expected_of (WriteXmm ∷ later) = expected_of later
+expected_of (ReadAmode ∷ later) = expected_of later
+expected_of (ReadGprMem size ∷ later) = expected_of later
+expected_of (ReadWriteGprMem size ∷ later) = expected_of later
+expected_of (ReadXmmMem ∷ later) = expected_of later
+expected_of (Imm imm ∷ later) = expected_of later
+
+-- each number is the one in its place, or 0 where there is none
+abbrev pub matches : List ℕ → List ℕ → Bool
+matches [] expected = true
+matches (f ∷ later) expected = (f == head expected) && matches later (tail expected)
+
+-- base and index are real, and an index isn't number 4
+abbrev pub numbers_met : PlaceKind → ℕ → ℕ → Bool
+numbers_met kind base index = real base && (real index && not (has_index kind && (index == 4)))
