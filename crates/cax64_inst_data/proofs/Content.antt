@@ -131,12 +131,13 @@ module _ (same : ℕ → ℕ → Bool) (d : InstData) (none : d.nop ≡ None) wh
       let p = and_parts _ _ fitted in
       let q = and_parts _ _ p.1 in
       let r = and_parts _ _ q.1 in
+      let w = and_parts _ _ r.1 in
       let whole = sym (with_all_numbers plain (roles_of (numbers same) l)) in
       whole ∙ same_parts
         (reg_is same kinds d.place (kept_of d) ∙ ap (λ (b : Bool). when b d.reg) (sym (register_in_row d.row)))
         (vvvv_is same kinds d.place (kept_of d) ∙ ap (λ (b : Bool). when b d.vvvv) (sym (vvvv_in_row d.row)))
         (place_is same kinds d.place (kept_of d) ∙ fitted_place (rest_in kinds) d.place.kind d.place r.0)
-        (imm_is same kinds d.place (kept_of d) r.1 ∙ fitted_word (imm_field_in kinds) d.imm r.1)
+        (imm_is same kinds d.place (kept_of d) w.0 ∙ fitted_word (imm_field_in kinds) d.imm w.0)
 
 abbrev with_form : NumberedForm → Content
 with_form form = record { nop = None; form = form }

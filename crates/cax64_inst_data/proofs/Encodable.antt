@@ -23,22 +23,22 @@ use Rattle.cax64_inst_data.proofs.Filled.{numbers}
 -- Operands that are filled in can be encoded where the registers, the fixed ones and the place are as they have to be.
 
 -- the registers, one after the other
-abbrev pub registers_met : List OperandKind → List ℕ → Bool
-registers_met [] rs = true
-registers_met (ReadGpr size ∷ later) rs = real (head rs) && registers_met later (tail rs)
-registers_met (ReadWriteGpr size ∷ later) rs = real (head rs) && registers_met later (tail rs)
-registers_met (WriteGpr size ∷ later) rs = real (head rs) && registers_met later (tail rs)
-registers_met (WriteTwoGprs size ∷ later) rs = (real (head rs) && real (head (tail rs))) && registers_met later (tail (tail rs))
-registers_met (FixedReadGpr expected size ∷ later) rs = registers_met later rs
-registers_met (FixedReadWriteGpr expected size ∷ later) rs = registers_met later rs
-registers_met (ReadXmm ∷ later) rs = real (head rs) && registers_met later (tail rs)
-registers_met (ReadWriteXmm ∷ later) rs = real (head rs) && registers_met later (tail rs)
-registers_met (WriteXmm ∷ later) rs = real (head rs) && registers_met later (tail rs)
-registers_met (ReadAmode ∷ later) rs = registers_met later rs
-registers_met (ReadGprMem size ∷ later) rs = registers_met later rs
-registers_met (ReadWriteGprMem size ∷ later) rs = registers_met later rs
-registers_met (ReadXmmMem ∷ later) rs = registers_met later rs
-registers_met (Imm imm ∷ later) rs = registers_met later rs
+abbrev pub registers_real : List OperandKind → List ℕ → Bool
+registers_real [] rs = true
+registers_real (ReadGpr size ∷ later) rs = real (head rs) && registers_real later (tail rs)
+registers_real (ReadWriteGpr size ∷ later) rs = real (head rs) && registers_real later (tail rs)
+registers_real (WriteGpr size ∷ later) rs = real (head rs) && registers_real later (tail rs)
+registers_real (WriteTwoGprs size ∷ later) rs = (real (head rs) && real (head (tail rs))) && registers_real later (tail (tail rs))
+registers_real (FixedReadGpr expected size ∷ later) rs = registers_real later rs
+registers_real (FixedReadWriteGpr expected size ∷ later) rs = registers_real later rs
+registers_real (ReadXmm ∷ later) rs = real (head rs) && registers_real later (tail rs)
+registers_real (ReadWriteXmm ∷ later) rs = real (head rs) && registers_real later (tail rs)
+registers_real (WriteXmm ∷ later) rs = real (head rs) && registers_real later (tail rs)
+registers_real (ReadAmode ∷ later) rs = registers_real later rs
+registers_real (ReadGprMem size ∷ later) rs = registers_real later rs
+registers_real (ReadWriteGprMem size ∷ later) rs = registers_real later rs
+registers_real (ReadXmmMem ∷ later) rs = registers_real later rs
+registers_real (Imm imm ∷ later) rs = registers_real later rs
 
 -- the places, of which a signature has one at most
 abbrev pub places_met : List OperandKind → DataPlace → Bool
@@ -62,7 +62,7 @@ abbrev pub met_of : List OperandKind → DataPlace → Kept → Bool
 met_of kinds p k = (checked_roles plain (roles_of (numbers ◌==◌) (filled kinds p k))).met
 
 abbrev pub parts_met : List OperandKind → DataPlace → Kept → Bool
-parts_met kinds p k = registers_met kinds k.registers && (fixed_met kinds k.fixed && places_met kinds p)
+parts_met kinds p k = registers_real kinds k.registers && (fixed_met kinds k.fixed && places_met kinds p)
 
 register_first : (a r f p : Bool) → (a && (r && (f && p))) ≡ ((a && r) && (f && p))
 register_first true r f p = refl
@@ -97,24 +97,24 @@ xmm_met false base amode later = ap (λ (x : Bool). x && later.met) (amode_met_i
 
 pub met_is : (kinds : List OperandKind) (p : DataPlace) (k : Kept) → met_of kinds p k ≡ parts_met kinds p k
 met_is [] p k = refl
-met_is (ReadGpr size ∷ later) p k = ap (λ (x : Bool). real (head k.registers) && x) (met_is later p (next k)) ∙ register_first (real (head k.registers)) (registers_met later (tail k.registers)) (fixed_met later k.fixed) (places_met later p)
-met_is (ReadWriteGpr size ∷ later) p k = ap (λ (x : Bool). real (head k.registers) && x) (met_is later p (next k)) ∙ register_first (real (head k.registers)) (registers_met later (tail k.registers)) (fixed_met later k.fixed) (places_met later p)
-met_is (WriteGpr size ∷ later) p k = ap (λ (x : Bool). real (head k.registers) && x) (met_is later p (next k)) ∙ register_first (real (head k.registers)) (registers_met later (tail k.registers)) (fixed_met later k.fixed) (places_met later p)
-met_is (WriteTwoGprs size ∷ later) p k = ap (λ (x : Bool). x && met_of later p (next (next k))) (two_real (head k.registers) (head (tail k.registers))) ∙ ap (λ (x : Bool). (real (head k.registers) && real (head (tail k.registers))) && x) (met_is later p (next (next k))) ∙ register_first (real (head k.registers) && real (head (tail k.registers))) (registers_met later (tail (tail k.registers))) (fixed_met later k.fixed) (places_met later p)
-met_is (FixedReadGpr expected size ∷ later) p k = ap (λ (x : Bool). (head k.fixed == expected) && x) (met_is later p (next_fixed k)) ∙ fixed_first (head k.fixed == expected) (registers_met later k.registers) (fixed_met later (tail k.fixed)) (places_met later p)
-met_is (FixedReadWriteGpr expected size ∷ later) p k = ap (λ (x : Bool). (head k.fixed == expected) && x) (met_is later p (next_fixed k)) ∙ fixed_first (head k.fixed == expected) (registers_met later k.registers) (fixed_met later (tail k.fixed)) (places_met later p)
-met_is (ReadXmm ∷ later) p k = ap (λ (x : Bool). real (head k.registers) && x) (met_is later p (next k)) ∙ register_first (real (head k.registers)) (registers_met later (tail k.registers)) (fixed_met later k.fixed) (places_met later p)
-met_is (ReadWriteXmm ∷ later) p k = ap (λ (x : Bool). real (head k.registers) && x) (met_is later p (next k)) ∙ register_first (real (head k.registers)) (registers_met later (tail k.registers)) (fixed_met later k.fixed) (places_met later p)
-met_is (WriteXmm ∷ later) p k = ap (λ (x : Bool). real (head k.registers) && x) (met_is later p (next k)) ∙ register_first (real (head k.registers)) (registers_met later (tail k.registers)) (fixed_met later k.fixed) (places_met later p)
-met_is (ReadAmode ∷ later) p k = ap (λ (x : Bool). x && met_of later p k) (amode_met_is (amode_of p)) ∙ ap (λ (x : Bool). place_met (amode_of p) && x) (met_is later p k) ∙ place_first (place_met (amode_of p)) (registers_met later k.registers) (fixed_met later k.fixed) (places_met later p)
-met_is (ReadGprMem size ∷ later) p k = gpr_met (is_register p.kind) p.base (amode_of p) (checked_roles plain (roles_of (numbers ◌==◌) (filled later p k))) ∙ ap (λ (x : Bool). gpr_or_memory_met (is_register p.kind) p.base (amode_of p) && x) (met_is later p k) ∙ place_first (gpr_or_memory_met (is_register p.kind) p.base (amode_of p)) (registers_met later k.registers) (fixed_met later k.fixed) (places_met later p)
-met_is (ReadWriteGprMem size ∷ later) p k = gpr_met (is_register p.kind) p.base (amode_of p) (checked_roles plain (roles_of (numbers ◌==◌) (filled later p k))) ∙ ap (λ (x : Bool). gpr_or_memory_met (is_register p.kind) p.base (amode_of p) && x) (met_is later p k) ∙ place_first (gpr_or_memory_met (is_register p.kind) p.base (amode_of p)) (registers_met later k.registers) (fixed_met later k.fixed) (places_met later p)
-met_is (ReadXmmMem ∷ later) p k = xmm_met (is_register p.kind) p.base (amode_of p) (checked_roles plain (roles_of (numbers ◌==◌) (filled later p k))) ∙ ap (λ (x : Bool). gpr_or_memory_met (is_register p.kind) p.base (amode_of p) && x) (met_is later p k) ∙ place_first (gpr_or_memory_met (is_register p.kind) p.base (amode_of p)) (registers_met later k.registers) (fixed_met later k.fixed) (places_met later p)
+met_is (ReadGpr size ∷ later) p k = ap (λ (x : Bool). real (head k.registers) && x) (met_is later p (next k)) ∙ register_first (real (head k.registers)) (registers_real later (tail k.registers)) (fixed_met later k.fixed) (places_met later p)
+met_is (ReadWriteGpr size ∷ later) p k = ap (λ (x : Bool). real (head k.registers) && x) (met_is later p (next k)) ∙ register_first (real (head k.registers)) (registers_real later (tail k.registers)) (fixed_met later k.fixed) (places_met later p)
+met_is (WriteGpr size ∷ later) p k = ap (λ (x : Bool). real (head k.registers) && x) (met_is later p (next k)) ∙ register_first (real (head k.registers)) (registers_real later (tail k.registers)) (fixed_met later k.fixed) (places_met later p)
+met_is (WriteTwoGprs size ∷ later) p k = ap (λ (x : Bool). x && met_of later p (next (next k))) (two_real (head k.registers) (head (tail k.registers))) ∙ ap (λ (x : Bool). (real (head k.registers) && real (head (tail k.registers))) && x) (met_is later p (next (next k))) ∙ register_first (real (head k.registers) && real (head (tail k.registers))) (registers_real later (tail (tail k.registers))) (fixed_met later k.fixed) (places_met later p)
+met_is (FixedReadGpr expected size ∷ later) p k = ap (λ (x : Bool). (head k.fixed == expected) && x) (met_is later p (next_fixed k)) ∙ fixed_first (head k.fixed == expected) (registers_real later k.registers) (fixed_met later (tail k.fixed)) (places_met later p)
+met_is (FixedReadWriteGpr expected size ∷ later) p k = ap (λ (x : Bool). (head k.fixed == expected) && x) (met_is later p (next_fixed k)) ∙ fixed_first (head k.fixed == expected) (registers_real later k.registers) (fixed_met later (tail k.fixed)) (places_met later p)
+met_is (ReadXmm ∷ later) p k = ap (λ (x : Bool). real (head k.registers) && x) (met_is later p (next k)) ∙ register_first (real (head k.registers)) (registers_real later (tail k.registers)) (fixed_met later k.fixed) (places_met later p)
+met_is (ReadWriteXmm ∷ later) p k = ap (λ (x : Bool). real (head k.registers) && x) (met_is later p (next k)) ∙ register_first (real (head k.registers)) (registers_real later (tail k.registers)) (fixed_met later k.fixed) (places_met later p)
+met_is (WriteXmm ∷ later) p k = ap (λ (x : Bool). real (head k.registers) && x) (met_is later p (next k)) ∙ register_first (real (head k.registers)) (registers_real later (tail k.registers)) (fixed_met later k.fixed) (places_met later p)
+met_is (ReadAmode ∷ later) p k = ap (λ (x : Bool). x && met_of later p k) (amode_met_is (amode_of p)) ∙ ap (λ (x : Bool). place_met (amode_of p) && x) (met_is later p k) ∙ place_first (place_met (amode_of p)) (registers_real later k.registers) (fixed_met later k.fixed) (places_met later p)
+met_is (ReadGprMem size ∷ later) p k = gpr_met (is_register p.kind) p.base (amode_of p) (checked_roles plain (roles_of (numbers ◌==◌) (filled later p k))) ∙ ap (λ (x : Bool). gpr_or_memory_met (is_register p.kind) p.base (amode_of p) && x) (met_is later p k) ∙ place_first (gpr_or_memory_met (is_register p.kind) p.base (amode_of p)) (registers_real later k.registers) (fixed_met later k.fixed) (places_met later p)
+met_is (ReadWriteGprMem size ∷ later) p k = gpr_met (is_register p.kind) p.base (amode_of p) (checked_roles plain (roles_of (numbers ◌==◌) (filled later p k))) ∙ ap (λ (x : Bool). gpr_or_memory_met (is_register p.kind) p.base (amode_of p) && x) (met_is later p k) ∙ place_first (gpr_or_memory_met (is_register p.kind) p.base (amode_of p)) (registers_real later k.registers) (fixed_met later k.fixed) (places_met later p)
+met_is (ReadXmmMem ∷ later) p k = xmm_met (is_register p.kind) p.base (amode_of p) (checked_roles plain (roles_of (numbers ◌==◌) (filled later p k))) ∙ ap (λ (x : Bool). gpr_or_memory_met (is_register p.kind) p.base (amode_of p) && x) (met_is later p k) ∙ place_first (gpr_or_memory_met (is_register p.kind) p.base (amode_of p)) (registers_real later k.registers) (fixed_met later k.fixed) (places_met later p)
 met_is (Imm imm ∷ later) p k = met_is later p k
 
 -- Of registers and of fixed registers all are asked, since what isn't there is 0.
 
-zero_real : (rs : List ℕ) → all_zero rs ≡ true → all_real rs ≡ true
+pub zero_real : (rs : List ℕ) → all_zero rs ≡ true → all_real rs ≡ true
 zero_real [] h = refl
 zero_real (r ∷ later) h =
     let p = and_parts (r == 0) _ h in
@@ -139,7 +139,7 @@ and_then : (a b c : Bool) → ((a && b) && c) ≡ (a && (b && c))
 and_then true b c = refl
 and_then false b c = refl
 
-pub all_registers : (kinds : List OperandKind) (rs : List ℕ) → all_zero (drop (registers_in kinds) rs) ≡ true → registers_met kinds rs ≡ all_real rs
+pub all_registers : (kinds : List OperandKind) (rs : List ℕ) → all_zero (drop (registers_in kinds) rs) ≡ true → registers_real kinds rs ≡ all_real rs
 all_registers [] rs h = sym (zero_real rs h)
 all_registers (ReadGpr size ∷ later) [] h = all_registers later [] (drop_none _)
 all_registers (ReadGpr size ∷ later) (r ∷ rs) h = ap (λ (x : Bool). real r && x) (all_registers later rs (rw (drop_more (registers_in later) r rs) at h))

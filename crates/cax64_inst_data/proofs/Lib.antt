@@ -4,3 +4,4 @@ pub mod Signature
 pub mod Placed
 pub mod Encodable
 pub mod Tested
+pub mod Conditions

@@ -144,7 +144,8 @@ imm_fitted : (kinds : List OperandKind) (reg vvvv : ℕ) (fixed : List ℕ) (kin
 imm_fitted kinds reg vvvv fixed kind imm h =
     let p = and_parts (all_zero (drop (registers_in kinds) (reg ∷ vvvv ∷ []))) _ h in
     let q = and_parts (all_zero (drop (fixed_in kinds) fixed)) _ p.1 in
-    (and_parts (place_fits (rest_in kinds) kind) _ q.1).1
+    let r = and_parts (place_fits (rest_in kinds) kind) _ q.1 in
+    (and_parts (imm_fits (imm_field_in kinds) imm) _ r.1).0
 
 signature_when : (d : InstData) (nop : Option Nop) → d.nop ≡ nop → HasSignature (row_by nop d) (operands_by nop d)
 signature_when d (Some nop) e = refl

@@ -19,8 +19,8 @@ use Rattle.cax64_signature.proofs.Taken.{registers_in, rest_in}
 use Rattle.cax64_signature.specs.Signature.{signature_of}
 use Rattle.cax64_signature.specs.declared.kind.OperandKind.{OperandKind}
 use Rattle.cax64_signature.specs.declared.kind.OperandKind.TheVariants.{ReadGpr, ReadWriteGpr, WriteGpr, WriteTwoGprs, FixedReadGpr, FixedReadWriteGpr, ReadXmm, ReadWriteXmm, WriteXmm, ReadAmode, ReadGprMem, ReadWriteGprMem, ReadXmmMem, Imm}
-use Rattle.cax64_inst_data.specs.Encodable.{real, place_met, gpr_or_memory_met, fixed_met, matches, expected_of, numbers_met}
-use Rattle.cax64_inst_data.specs.Fits.{all_zero, fixed_in, place_fits}
+use Rattle.cax64_inst_data.specs.Encodable.{real, place_met, gpr_or_memory_met, fixed_met, matches, numbers_met}
+use Rattle.cax64_inst_data.specs.Fits.{all_zero, expected_of, fixed_in, place_fits}
 use Rattle.cax64_inst_data.specs.Operands.{Kept, filled, head, tail, next, next_fixed, amode_by, amode_of, is_register}
 use Rattle.cax64_inst_data.specs.Place.{is_plain, is_one, nothing_more}
 use Rattle.cax64_inst_data.specs.declared.place.DataPlace.{DataPlace}
@@ -89,7 +89,7 @@ none_met (ReadWriteGprMem size ∷ later) p h = cc
 none_met (ReadXmmMem ∷ later) p h = cc
 none_met (Imm imm ∷ later) p h = none_met later p h
 
-abbrev rest_met : Rest → PlaceKind → DataPlace → Bool
+abbrev pub rest_met : Rest → PlaceKind → DataPlace → Bool
 rest_met nothing kind p = true
 rest_met memory kind p = place_met (amode_by kind p)
 rest_met register_or_memory kind p = gpr_or_memory_met (is_register kind) p.base (amode_by kind p)
@@ -120,7 +120,7 @@ number_first true b e = rw (← e) refl
 number_first false b e = rw (← e) refl
 
 -- what is tested whatever the kind
-tested : (rest : Rest) (kind : PlaceKind) (p : DataPlace) → place_fits rest kind ≡ true → is_plain kind p.base p.index p.scale p.trap p.offset p.displacement p.target ≡ true → rest_met rest kind p ≡ numbers_met kind p.base p.index
+pub tested : (rest : Rest) (kind : PlaceKind) (p : DataPlace) → place_fits rest kind ≡ true → is_plain kind p.base p.index p.scale p.trap p.offset p.displacement p.target ≡ true → rest_met rest kind p ≡ numbers_met kind p.base p.index
 tested nothing Absent p h plain =
     let a = and_parts (p.base == 0) _ plain in
     let b = and_parts (p.index == 0) _ a.1 in
@@ -192,12 +192,12 @@ place_tested row p h = one_met (signature_of row) p (row_has_one row) ∙ tested
 
 -- the fixed registers
 
+pub zeros : (fs : List ℕ) → all_zero fs ≡ true → matches fs [] ≡ true
+zeros [] h = refl
+zeros (f ∷ fs) h = let p = and_parts (f == 0) _ h in rw (p.0) (zeros fs p.1)
+
 pub all_fixed : (kinds : List OperandKind) (fs : List ℕ) → nat_le (fixed_in kinds) (length fs) ≡ true → all_zero (drop (fixed_in kinds) fs) ≡ true → fixed_met kinds fs ≡ matches fs (expected_of kinds)
 all_fixed [] fs few h = sym (zeros fs h)
-  where
-    zeros : (fs : List ℕ) → all_zero fs ≡ true → matches fs [] ≡ true
-    zeros [] h = refl
-    zeros (f ∷ fs) h = let p = and_parts (f == 0) _ h in rw (p.0) (zeros fs p.1)
 all_fixed (ReadGpr size ∷ later) fs few h = all_fixed later fs few h
 all_fixed (ReadWriteGpr size ∷ later) fs few h = all_fixed later fs few h
 all_fixed (WriteGpr size ∷ later) fs few h = all_fixed later fs few h
@@ -217,7 +217,7 @@ all_fixed (Imm imm ∷ later) fs few h = all_fixed later fs few h
 
 -- the late offset
 
-abbrev rest_offset : Rest → PlaceKind → DataPlace → AmodeOffsetPlusKnownOffset
+abbrev pub rest_offset : Rest → PlaceKind → DataPlace → AmodeOffsetPlusKnownOffset
 rest_offset nothing kind p = no_displacement
 rest_offset memory kind p = offset_of (amode_by kind p)
 rest_offset register_or_memory kind p = if is_register kind then no_displacement else offset_of (amode_by kind p)
@@ -250,7 +250,7 @@ offset_is (ReadWriteGprMem size ∷ later) p k = gpr_offset (is_register p.kind)
 offset_is (ReadXmmMem ∷ later) p k = xmm_offset (is_register p.kind) p.base (amode_of p) (checked_roles plain (roles_of (numbers ◌==◌) (filled later p k)))
 offset_is (Imm imm ∷ later) p k = offset_is later p k
 
-offset_fits : (offsets : ℕ → Option ℤ) (rest : Rest) (kind : PlaceKind) (p : DataPlace) → place_fits rest kind ≡ true → is_plain kind p.base p.index p.scale p.trap p.offset p.displacement p.target ≡ true → sum_fits offsets (rest_offset rest kind p).offset (rest_offset rest kind p).simm32 ≡ sum_fits offsets p.offset p.displacement
+pub offset_fits : (offsets : ℕ → Option ℤ) (rest : Rest) (kind : PlaceKind) (p : DataPlace) → place_fits rest kind ≡ true → is_plain kind p.base p.index p.scale p.trap p.offset p.displacement p.target ≡ true → sum_fits offsets (rest_offset rest kind p).offset (rest_offset rest kind p).simm32 ≡ sum_fits offsets p.offset p.displacement
 offset_fits offsets nothing Absent p h plain =
     let a = and_parts (p.base == 0) _ plain in
     let b = and_parts (p.index == 0) _ a.1 in

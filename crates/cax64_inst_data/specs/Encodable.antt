@@ -43,24 +43,6 @@ fixed_met (ReadWriteGprMem size ∷ later) fixed = fixed_met later fixed
 fixed_met (ReadXmmMem ∷ later) fixed = fixed_met later fixed
 fixed_met (Imm imm ∷ later) fixed = fixed_met later fixed
 
--- the numbers that fixed registers have to hold, in their order
-abbrev pub expected_of : List OperandKind → List ℕ
-expected_of [] = []
-expected_of (ReadGpr size ∷ later) = expected_of later
-expected_of (ReadWriteGpr size ∷ later) = expected_of later
-expected_of (WriteGpr size ∷ later) = expected_of later
-expected_of (WriteTwoGprs size ∷ later) = expected_of later
-expected_of (FixedReadGpr expected size ∷ later) = expected ∷ expected_of later
-expected_of (FixedReadWriteGpr expected size ∷ later) = expected ∷ expected_of later
-expected_of (ReadXmm ∷ later) = expected_of later
-expected_of (ReadWriteXmm ∷ later) = expected_of later
-expected_of (WriteXmm ∷ later) = expected_of later
-expected_of (ReadAmode ∷ later) = expected_of later
-expected_of (ReadGprMem size ∷ later) = expected_of later
-expected_of (ReadWriteGprMem size ∷ later) = expected_of later
-expected_of (ReadXmmMem ∷ later) = expected_of later
-expected_of (Imm imm ∷ later) = expected_of later
-
 -- each number is the one in its place, or 0 where there is none
 abbrev pub matches : List ℕ → List ℕ → Bool
 matches [] expected = true
@@ -69,3 +51,7 @@ matches (f ∷ later) expected = (f == head expected) && matches later (tail exp
 -- base and index are real, and an index isn't number 4
 abbrev pub numbers_met : PlaceKind → ℕ → ℕ → Bool
 numbers_met kind base index = real base && (real index && not (has_index kind && (index == 4)))
+
+-- four numbers of a list, with 0 behind its end
+abbrev pub four : List ℕ → List ℕ
+four ns = head ns ∷ head (tail ns) ∷ head (tail (tail ns)) ∷ head (tail (tail (tail ns))) ∷ []

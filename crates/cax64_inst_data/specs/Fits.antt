@@ -1,4 +1,4 @@
-use Rattle.std.specs.Prelude.{ℕ, ◌+◌, ◌==◌, ◌^◌, ◌&&◌, nat_lt, Bool, true, false, if◌then◌else◌, Option, Some, None, List, [], ◌∷◌, drop}
+use Rattle.std.specs.Prelude.{ℕ, ◌+◌, ◌==◌, ◌^◌, ◌&&◌, nat_lt, Bool, true, false, if◌then◌else◌, Option, Some, None, List, [], ◌∷◌, drop, length}
 use Rattle.cax64_machine_code.specs.declared.line.ImmField.{ImmField}
 use Rattle.cax64_machine_code.specs.declared.line.ImmField.TheVariants as field
 use Rattle.cax64_machine_code.specs.declared.row.Row.{Row}
@@ -74,9 +74,31 @@ imm_fits (field.Imm size) word = nat_lt word (256 ^ size)
 imm_fits (field.Simm size) word = nat_lt word (256 ^ size)
 
 abbrev pub kinds_fit : List OperandKind → ℕ → ℕ → List ℕ → PlaceKind → ℕ → Bool
-kinds_fit kinds reg vvvv fixed kind imm = all_zero (drop (registers_in kinds) (reg ∷ vvvv ∷ [])) && (all_zero (drop (fixed_in kinds) fixed) && (place_fits (rest_in kinds) kind && imm_fits (imm_field_in kinds) imm))
+kinds_fit kinds reg vvvv fixed kind imm = all_zero (drop (registers_in kinds) (reg ∷ vvvv ∷ [])) && (all_zero (drop (fixed_in kinds) fixed) && (place_fits (rest_in kinds) kind && (imm_fits (imm_field_in kinds) imm && (length fixed == 4))))
 
--- of a no-operation nothing is kept but which it is
+-- the numbers that fixed registers have to hold, in their order
+abbrev pub expected_of : List OperandKind → List ℕ
+expected_of [] = []
+expected_of (ReadGpr size ∷ later) = expected_of later
+expected_of (ReadWriteGpr size ∷ later) = expected_of later
+expected_of (WriteGpr size ∷ later) = expected_of later
+expected_of (WriteTwoGprs size ∷ later) = expected_of later
+expected_of (FixedReadGpr expected size ∷ later) = expected ∷ expected_of later
+expected_of (FixedReadWriteGpr expected size ∷ later) = expected ∷ expected_of later
+expected_of (ReadXmm ∷ later) = expected_of later
+expected_of (ReadWriteXmm ∷ later) = expected_of later
+expected_of (WriteXmm ∷ later) = expected_of later
+expected_of (ReadAmode ∷ later) = expected_of later
+expected_of (ReadGprMem size ∷ later) = expected_of later
+expected_of (ReadWriteGprMem size ∷ later) = expected_of later
+expected_of (ReadXmmMem ∷ later) = expected_of later
+expected_of (Imm imm ∷ later) = expected_of later
+
+abbrev pub is_empty : List ℕ → Bool
+is_empty [] = true
+is_empty (n ∷ later) = false
+
+-- Of a no-operation nothing is kept but which it is, and a row that fixes no register.
 abbrev pub fits : Option Nop → Row → ℕ → ℕ → List ℕ → PlaceKind → ℕ → Bool
 fits None row reg vvvv fixed kind imm = kinds_fit (signature_of row) reg vvvv fixed kind imm
-fits (Some nop) row reg vvvv fixed kind imm = kinds_fit [] reg vvvv fixed kind imm
+fits (Some nop) row reg vvvv fixed kind imm = kinds_fit [] reg vvvv fixed kind imm && is_empty (expected_of (signature_of row))

@@ -6,3 +6,4 @@ pub mod When
 pub mod Form
 pub mod Placed
 pub mod Encodable
+pub mod Registers

@@ -2,7 +2,9 @@
 
 ghost use Rattle.std.specs.Prelude.{◌≡◌, true};
 ghost use Rattle.cax64_operand.specs.NopRow.{nop_row};
-ghost use Rattle.cax64_inst_data.specs.Fits.{fits};
+ghost use Rattle.cax64_inst_data.specs.Fits.{expected_of, fits};
+ghost use Rattle.cax64_signature.specs.Signature.{signature_of};
+ghost use Rattle.cax64_inst_data.specs.Encodable.{four};
 ghost use Rattle.cax64_inst_data.specs.When.{when};
 
 use crate::place::DataPlace;
@@ -10,6 +12,7 @@ use cax64_encoder::content::Content;
 use cax64_encoder::numbered::NumberedForm;
 use cax64_machine_code::row::Row;
 use cax64_operand::{FromOperands, Nop, Numbers};
+use cax64_register::gpr;
 use cax64_table::numbers;
 
 /// An instruction: a row of the table, and operands by their numbers.
@@ -28,7 +31,7 @@ pub struct InstData {
 impl InstData {
     ghost use Rattle.cax64_inst_data.specs.Data.{data_row};
     ghost use Rattle.cax64_inst_data.specs.Form.{data_content, data_form};
-    ghost use Rattle.cax64_encoder.specs.Content.{content_of};
+    ghost use Rattle.cax64_inst_data.specs.Registers.{registers_met};
 
     /// The operands that the bytes hold, of an instruction that is no no-operation.
     #[inline(always)]
@@ -57,6 +60,17 @@ impl InstData {
         }
     }
 
+    /// Whether each register is as it has to be.
+    #[inline(always)]
+    pub(crate) fn is_met(&self) -> bool
+        ensures { result ≡ registers_met self.now }
+    {
+        let [a, b, c, d] = self.fixed;
+        let [e, f, g, h] = expected(self.row);
+        let fixed = (a == e) & (b == f) & (c == g) & (d == h);
+        (self.reg < 16) & (self.vvvv < 16) & fixed & self.place.is_met()
+    }
+
     /// The row of the table.
     #[inline(always)]
     pub(crate) fn its_row(&self) -> Row
@@ -66,6 +80,19 @@ impl InstData {
             Some(nop) => nop_row(nop),
             None => self.row,
         }
+    }
+}
+
+/// The numbers that the fixed registers of a row have to hold, in the order of visits, and 0 behind them.
+#[tactic(auto, unfolding(cax64_signature::specs::Signature::signature_of))]
+#[inline(always)]
+fn expected(row: Row) -> [u8; 4]
+    ensures { result ≡ four (expected_of (signature_of row)) }
+{
+    match row {
+        Row::lock_cmpxchg16b_m => [gpr::enc::RAX, gpr::enc::RDX, gpr::enc::RCX, gpr::enc::RBX],
+        Row::mulxl_rvm | Row::mulxq_rvm => [gpr::enc::RDX, 0, 0, 0],
+        _ => [0; 4],
     }
 }
 

@@ -6,7 +6,7 @@ ghost use Rattle.cax64_inst_data.specs.Place.{is_plain};
 use cax64_address::amode::Scale;
 use cax64_address::offset::{AmodeOffset, AmodeOffsetPlusKnownOffset};
 use cax64_encoder::numbered::NumberedPlace;
-use cax64_sink::{Constant, DeferredTarget, KnownOffset, Label, TrapCode};
+use cax64_sink::{CodeSink, Constant, DeferredTarget, KnownOffset, Label, TrapCode};
 
 /// What stands in the rest of the tail.
 #[derive(Clone, Copy, Debug, PartialEq)]
@@ -45,7 +45,9 @@ pub struct DataPlace {
 }
 
 impl DataPlace {
+    ghost use Rattle.cax64_address.specs.Offset.{sum_fits};
     ghost use Rattle.cax64_encoder.specs.Numbered.{plain, numbered_place};
+    ghost use Rattle.cax64_inst_data.specs.Encodable.{numbers_met};
     ghost use Rattle.cax64_inst_data.specs.Form.{place_operand};
     ghost use Rattle.cax64_inst_data.specs.Placed.{has_index, placed, relative_by};
     ghost use Rattle.cax64_inst_data.specs.Fits.{is_present};
@@ -88,6 +90,26 @@ impl DataPlace {
             },
             trap: self.trap,
         }
+    }
+
+    /// Whether base and index are real, and an index isn't the stack pointer. What there isn't is 0.
+    #[inline(always)]
+    pub fn is_met(&self) -> bool
+        ensures { result ≡ numbers_met self.now.kind self.now.base self.now.index }
+    {
+        (self.base < 16) & (self.index < 16) & !(self.kind.has_index() & (self.index == 4))
+    }
+
+    /// Whether the late offset is absent, or known to the sink with a sum that is an `i32`.
+    #[inline(always)]
+    pub fn offset_fits<S: CodeSink>(&self, sink: &S) -> bool
+        ensures { result ≡ sum_fits (S.state sink.now).offsets self.now.offset self.now.displacement }
+    {
+        let displacement = AmodeOffsetPlusKnownOffset {
+            simm32: self.displacement,
+            offset: self.offset,
+        };
+        displacement.fits(sink)
     }
 
     /// The numbers of the place that this stands for.
