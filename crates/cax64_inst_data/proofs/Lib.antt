@@ -5,3 +5,4 @@ pub mod Placed
 pub mod Encodable
 pub mod Tested
 pub mod Conditions
+pub mod OneMore

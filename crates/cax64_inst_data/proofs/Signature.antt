@@ -21,7 +21,7 @@ use Rattle.cax64_signature.specs.declared.kind.ImmediateKind.TheVariants.{Imm8, 
 use Rattle.cax64_signature.specs.declared.kind.OperandKind.{OperandKind}
 use Rattle.cax64_signature.specs.declared.kind.OperandKind.TheVariants.{ReadGpr, ReadWriteGpr, WriteGpr, WriteTwoGprs, FixedReadGpr, FixedReadWriteGpr, ReadXmm, ReadWriteXmm, WriteXmm, ReadAmode, ReadGprMem, ReadWriteGprMem, ReadXmmMem, Imm}
 use Rattle.cax64_inst_data.specs.Data.{kept_of, operands_by, data_operands, row_by, data_row}
-use Rattle.cax64_inst_data.specs.Fits.{all_zero, fixed_in, place_fits, imm_fits, kinds_fit, fits}
+use Rattle.cax64_inst_data.specs.Fits.{all_zero, each_fits, fixed_in, place_fits, imm_fits, kinds_fit, fits}
 use Rattle.cax64_inst_data.specs.Operands.{Kept, filled, listed, next, next_fixed, imm_by}
 use Rattle.cax64_inst_data.specs.declared.data.InstData.{InstData}
 use Rattle.cax64_inst_data.specs.declared.place.DataPlace.{DataPlace}
@@ -162,3 +162,44 @@ has_signature d = signature_when d d.nop refl
 
 pub has_shape : (d : InstData) → HasShape (data_row d) (data_operands d)
 has_shape d = shape (data_row d) (data_operands d) (has_signature d)
+
+none_fits : (kinds : List OperandKind) (word : ℕ) → no_imm kinds ≡ true → each_fits kinds word ≡ true
+none_fits [] word h = refl
+none_fits (ReadGpr size ∷ later) word h = none_fits later word h
+none_fits (ReadWriteGpr size ∷ later) word h = none_fits later word h
+none_fits (WriteGpr size ∷ later) word h = none_fits later word h
+none_fits (WriteTwoGprs size ∷ later) word h = none_fits later word h
+none_fits (FixedReadGpr expected size ∷ later) word h = none_fits later word h
+none_fits (FixedReadWriteGpr expected size ∷ later) word h = none_fits later word h
+none_fits (ReadXmm ∷ later) word h = none_fits later word h
+none_fits (ReadWriteXmm ∷ later) word h = none_fits later word h
+none_fits (WriteXmm ∷ later) word h = none_fits later word h
+none_fits (ReadAmode ∷ later) word h = none_fits later word h
+none_fits (ReadGprMem size ∷ later) word h = none_fits later word h
+none_fits (ReadWriteGprMem size ∷ later) word h = none_fits later word h
+none_fits (ReadXmmMem ∷ later) word h = none_fits later word h
+none_fits (Imm imm ∷ later) word h = cc
+
+each_fitted : (kinds : List OperandKind) (word : ℕ) → one_imm kinds ≡ true → imm_fits (imm_field_in kinds) word ≡ true → each_fits kinds word ≡ true
+each_fitted [] word one h = refl
+each_fitted (ReadGpr size ∷ later) word one h = each_fitted later word one h
+each_fitted (ReadWriteGpr size ∷ later) word one h = each_fitted later word one h
+each_fitted (WriteGpr size ∷ later) word one h = each_fitted later word one h
+each_fitted (WriteTwoGprs size ∷ later) word one h = each_fitted later word one h
+each_fitted (FixedReadGpr expected size ∷ later) word one h = each_fitted later word one h
+each_fitted (FixedReadWriteGpr expected size ∷ later) word one h = each_fitted later word one h
+each_fitted (ReadXmm ∷ later) word one h = each_fitted later word one h
+each_fitted (ReadWriteXmm ∷ later) word one h = each_fitted later word one h
+each_fitted (WriteXmm ∷ later) word one h = each_fitted later word one h
+each_fitted (ReadAmode ∷ later) word one h = each_fitted later word one h
+each_fitted (ReadGprMem size ∷ later) word one h = each_fitted later word one h
+each_fitted (ReadWriteGprMem size ∷ later) word one h = each_fitted later word one h
+each_fitted (ReadXmmMem ∷ later) word one h = each_fitted later word one h
+each_fitted (Imm imm ∷ later) word one h = both _ _ h (none_fits later word one)
+
+-- each immediate of data has its bytes and no others
+pub data_fits : (d : InstData) → d.nop ≡ None → each_fits (signature_of d.row) d.imm ≡ true
+data_fits d e =
+    let h : fits d.nop d.row d.reg d.vvvv d.fixed d.place.kind d.imm ≡ true = d.is_kept in
+    let fitted : kinds_fit (signature_of d.row) d.reg d.vvvv d.fixed d.place.kind d.imm ≡ true = rw e at h in
+    each_fitted (signature_of d.row) d.imm (row_has_one d.row) (imm_fitted (signature_of d.row) d.reg d.vvvv d.fixed d.place.kind d.imm fitted)

@@ -4,7 +4,7 @@ use Rattle.cax64_machine_code.specs.declared.line.ImmField.TheVariants as field
 use Rattle.cax64_machine_code.specs.declared.row.Row.{Row}
 use Rattle.cax64_operand.specs.Shape.{Rest, nothing, memory, register_or_memory}
 use Rattle.cax64_operand.specs.declared.nop.Nop.{Nop}
-use Rattle.cax64_signature.proofs.Taken.{registers_in, rest_in, imm_field_in}
+use Rattle.cax64_signature.proofs.Taken.{registers_in, rest_in, field_of, imm_field_in}
 use Rattle.cax64_signature.specs.Signature.{signature_of}
 use Rattle.cax64_signature.specs.declared.kind.OperandKind.{OperandKind}
 use Rattle.cax64_signature.specs.declared.kind.OperandKind.TheVariants.{ReadGpr, ReadWriteGpr, WriteGpr, WriteTwoGprs, FixedReadGpr, FixedReadWriteGpr, ReadXmm, ReadWriteXmm, WriteXmm, ReadAmode, ReadGprMem, ReadWriteGprMem, ReadXmmMem, Imm}
@@ -102,3 +102,24 @@ is_empty (n ∷ later) = false
 abbrev pub fits : Option Nop → Row → ℕ → ℕ → List ℕ → PlaceKind → ℕ → Bool
 fits None row reg vvvv fixed kind imm = kinds_fit (signature_of row) reg vvvv fixed kind imm
 fits (Some nop) row reg vvvv fixed kind imm = kinds_fit [] reg vvvv fixed kind imm && is_empty (expected_of (signature_of row))
+
+-- of a kind that is an immediate, its bytes and no others
+abbrev pub kind_fits : OperandKind → ℕ → Bool
+kind_fits (ReadGpr size) word = true
+kind_fits (ReadWriteGpr size) word = true
+kind_fits (WriteGpr size) word = true
+kind_fits (WriteTwoGprs size) word = true
+kind_fits (FixedReadGpr expected size) word = true
+kind_fits (FixedReadWriteGpr expected size) word = true
+kind_fits ReadXmm word = true
+kind_fits ReadWriteXmm word = true
+kind_fits WriteXmm word = true
+kind_fits ReadAmode word = true
+kind_fits (ReadGprMem size) word = true
+kind_fits (ReadWriteGprMem size) word = true
+kind_fits ReadXmmMem word = true
+kind_fits (Imm imm) word = imm_fits (field_of imm) word
+
+abbrev pub each_fits : List OperandKind → ℕ → Bool
+each_fits [] word = true
+each_fits (kind ∷ later) word = kind_fits kind word && each_fits later word

@@ -87,23 +87,43 @@ next k = record { registers = tail k.registers; fixed = k.fixed; imm = k.imm }
 abbrev pub next_fixed : Kept → Kept
 next_fixed k = record { registers = k.registers; fixed = tail k.fixed; imm = k.imm }
 
+-- the operand of a kind, and what is kept behind it
+abbrev pub operand_by : OperandKind → DataPlace → Kept → Operand Numbers ℕ ℕ ℕ ℕ ℕ ℕ
+operand_by (ReadGpr size) p k = operand.ReadGpr (head k.registers) size
+operand_by (ReadWriteGpr size) p k = operand.ReadWriteGpr (head k.registers) size
+operand_by (WriteGpr size) p k = operand.WriteGpr (head k.registers) size
+operand_by (WriteTwoGprs size) p k = operand.WriteTwoGprs (head k.registers) (head (tail k.registers)) size
+operand_by (FixedReadGpr expected size) p k = operand.FixedReadGpr (head k.fixed) expected size
+operand_by (FixedReadWriteGpr expected size) p k = operand.FixedReadWriteGpr (head k.fixed) expected size
+operand_by ReadXmm p k = operand.ReadXmm (head k.registers)
+operand_by ReadWriteXmm p k = operand.ReadWriteXmm (head k.registers)
+operand_by WriteXmm p k = operand.WriteXmm (head k.registers)
+operand_by ReadAmode p k = operand.ReadAmode (amode_of p)
+operand_by (ReadGprMem size) p k = operand.ReadGprMem (gpr_mem_of p) size
+operand_by (ReadWriteGprMem size) p k = operand.ReadWriteGprMem (gpr_mem_of p) size
+operand_by ReadXmmMem p k = operand.ReadXmmMem (xmm_mem_of p)
+operand_by (Imm kind) p k = operand.Imm (imm_by kind k.imm)
+
+abbrev pub behind : OperandKind → Kept → Kept
+behind (ReadGpr size) k = next k
+behind (ReadWriteGpr size) k = next k
+behind (WriteGpr size) k = next k
+behind (WriteTwoGprs size) k = next (next k)
+behind (FixedReadGpr expected size) k = next_fixed k
+behind (FixedReadWriteGpr expected size) k = next_fixed k
+behind ReadXmm k = next k
+behind ReadWriteXmm k = next k
+behind WriteXmm k = next k
+behind ReadAmode k = k
+behind (ReadGprMem size) k = k
+behind (ReadWriteGprMem size) k = k
+behind ReadXmmMem k = k
+behind (Imm kind) k = k
+
 -- operands of these kinds
 abbrev pub filled : List OperandKind → DataPlace → Kept → List (Operand Numbers ℕ ℕ ℕ ℕ ℕ ℕ)
 filled [] p k = []
-filled (ReadGpr size ∷ later) p k = operand.ReadGpr (head k.registers) size ∷ filled later p (next k)
-filled (ReadWriteGpr size ∷ later) p k = operand.ReadWriteGpr (head k.registers) size ∷ filled later p (next k)
-filled (WriteGpr size ∷ later) p k = operand.WriteGpr (head k.registers) size ∷ filled later p (next k)
-filled (WriteTwoGprs size ∷ later) p k = operand.WriteTwoGprs (head k.registers) (head (tail k.registers)) size ∷ filled later p (next (next k))
-filled (FixedReadGpr expected size ∷ later) p k = operand.FixedReadGpr (head k.fixed) expected size ∷ filled later p (next_fixed k)
-filled (FixedReadWriteGpr expected size ∷ later) p k = operand.FixedReadWriteGpr (head k.fixed) expected size ∷ filled later p (next_fixed k)
-filled (ReadXmm ∷ later) p k = operand.ReadXmm (head k.registers) ∷ filled later p (next k)
-filled (ReadWriteXmm ∷ later) p k = operand.ReadWriteXmm (head k.registers) ∷ filled later p (next k)
-filled (WriteXmm ∷ later) p k = operand.WriteXmm (head k.registers) ∷ filled later p (next k)
-filled (ReadAmode ∷ later) p k = operand.ReadAmode (amode_of p) ∷ filled later p k
-filled (ReadGprMem size ∷ later) p k = operand.ReadGprMem (gpr_mem_of p) size ∷ filled later p k
-filled (ReadWriteGprMem size ∷ later) p k = operand.ReadWriteGprMem (gpr_mem_of p) size ∷ filled later p k
-filled (ReadXmmMem ∷ later) p k = operand.ReadXmmMem (xmm_mem_of p) ∷ filled later p k
-filled (Imm kind ∷ later) p k = operand.Imm (imm_by kind k.imm) ∷ filled later p k
+filled (kind ∷ later) p k = operand_by kind p k ∷ filled later p (behind kind k)
 
 -- a list of five operands at most
 abbrev pub listed : List (Operand Numbers ℕ ℕ ℕ ℕ ℕ ℕ) → Operands Numbers ℕ ℕ ℕ ℕ ℕ ℕ

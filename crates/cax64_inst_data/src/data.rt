@@ -7,12 +7,14 @@ ghost use Rattle.cax64_signature.specs.Signature.{signature_of};
 ghost use Rattle.cax64_inst_data.specs.Encodable.{four};
 ghost use Rattle.cax64_inst_data.specs.When.{when};
 
+use crate::listing::listed;
 use crate::place::DataPlace;
 use cax64_encoder::content::Content;
 use cax64_encoder::numbered::NumberedForm;
 use cax64_machine_code::row::Row;
-use cax64_operand::{FromOperands, Nop, Numbers};
+use cax64_operand::{FromOperands, Nop, Numbers, Operands};
 use cax64_register::gpr;
+use cax64_signature::signature;
 use cax64_table::numbers;
 
 /// An instruction: a row of the table, and operands by their numbers.
@@ -29,7 +31,7 @@ pub struct InstData {
 }
 
 impl InstData {
-    ghost use Rattle.cax64_inst_data.specs.Data.{data_row};
+    ghost use Rattle.cax64_inst_data.specs.Data.{data_operands, data_row};
     ghost use Rattle.cax64_inst_data.specs.Form.{data_content, data_form};
     ghost use Rattle.cax64_inst_data.specs.Registers.{registers_met};
 
@@ -60,6 +62,14 @@ impl InstData {
         }
     }
 
+    /// The place.
+    #[inline(always)]
+    pub(crate) fn place(&self) -> &DataPlace
+        ensures { result.now ≡ self.now.place }
+    {
+        &self.place
+    }
+
     /// Whether each register is as it has to be.
     #[inline(always)]
     pub(crate) fn is_met(&self) -> bool
@@ -69,6 +79,22 @@ impl InstData {
         let [e, f, g, h] = expected(self.row);
         let fixed = (a == e) & (b == f) & (c == g) & (d == h);
         (self.reg < 16) & (self.vvvv < 16) & fixed & self.place.is_met()
+    }
+
+    /// The operands as a list.
+    pub(crate) fn operands(&self) -> Operands<Numbers>
+        ensures { result ≡ data_operands self.now }
+    {
+        match self.nop {
+            Some(nop) => Operands::Nop(nop),
+            None => listed(
+                signature(self.row),
+                &self.place,
+                &[self.reg, self.vvvv],
+                &self.fixed,
+                self.imm,
+            ),
+        }
     }
 
     /// The row of the table.

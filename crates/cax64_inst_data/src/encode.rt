@@ -4,6 +4,7 @@ ghost use Rattle.std.specs.Prelude.{◌≡◌};
 
 use crate::data::InstData;
 use cax64_encoder::content::Content;
+use cax64_encoder::fault::first_fault;
 use cax64_encoder::{Fault, Instruction};
 use cax64_machine_code::row::Row;
 use cax64_operand::{HasOperands, Numbers, RegisterFamily, RegisterVisitor, Task};
@@ -34,12 +35,18 @@ impl Instruction for InstData {
 
     fn visit<V: RegisterVisitor<Numbers>>(&mut self, visitor: &mut V) {}
 
+    #[inline(always)]
     fn first_fault<S: CodeSink>(&self, sink: &S) -> Option<Fault> {
-        None
+        if self.is_encodable(sink) {
+            return None;
+        }
+        self.listed_fault(sink)
     }
 
+    #[tactic(auto, using(crate::proofs::Conditions::encodable_is))]
+    #[inline(always)]
     fn is_encodable<S: CodeSink>(&self, sink: &S) -> bool {
-        true
+        self.is_met() & self.place().offset_fits(sink)
     }
 
     fn encoded_len<S: CodeSink>(&self, sink: &S) -> u8 {
@@ -53,5 +60,24 @@ impl Instruction for InstData {
     #[inline(always)]
     fn encode<S: CodeSink>(&self, sink: &mut S) -> Result<(), SinkError> {
         <Content as Task<Numbers, S>>::take(self.content(), self.its_row(), sink)
+    }
+}
+
+impl InstData {
+    ghost use Rattle.cax64_encoder.specs.Fault.{first_fault};
+    ghost use Rattle.cax64_encoder.specs.Meant.{place_in};
+    ghost use Rattle.cax64_encoder.specs.Place.{memory_in};
+    ghost use Rattle.cax64_encoder.specs.Role.{roles_of};
+    ghost use Rattle.cax64_encoder.specs.Visits.{visits_of};
+    ghost use Rattle.cax64_operand.specs.OperandList.{list_of};
+    ghost use Rattle.cax64_inst_data.specs.Data.{data_operands};
+
+    /// The fault of data that can't be encoded. Its operands are listed for it, which is seldom done.
+    #[inline(never)]
+    fn listed_fault<S: CodeSink>(&self, sink: &S) -> Option<Fault>
+        ensures { let roles = roles_of ⟦<Numbers as RegisterFamily>⟧.family (list_of (data_operands self.now)) in
+            result ≡ first_fault (S.state sink.now).offsets (visits_of ⟦<Numbers as RegisterFamily>⟧.family.read_gpr roles) (memory_in (place_in roles)) }
+    {
+        first_fault(&self.operands(), sink)
     }
 }

@@ -3,6 +3,7 @@
 
 pub mod data;
 mod encode;
+mod listing;
 pub mod place;
 
 pub use data::InstData;

@@ -128,7 +128,7 @@ impl PlaceKind {
     ghost use Rattle.cax64_inst_data.specs.Operands.{is_register};
 
     #[inline(always)]
-    fn is_register(self) -> bool
+    pub(crate) fn is_register(self) -> bool
         ensures { result ≡ is_register self }
     {
         matches!(self, PlaceKind::Register)
