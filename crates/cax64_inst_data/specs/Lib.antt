@@ -7,3 +7,4 @@ pub mod Form
 pub mod Placed
 pub mod Encodable
 pub mod Registers
+pub mod Alike

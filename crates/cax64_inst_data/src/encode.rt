@@ -29,6 +29,7 @@ impl Instruction for InstData {
 
     ghost follows = { λ d offsets. refl };
 
+    #[tactic(auto, using(crate::proofs::Signature::has_shape))]
     fn row(&self) -> Row {
         self.its_row()
     }

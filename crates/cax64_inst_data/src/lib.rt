@@ -4,6 +4,7 @@
 pub mod data;
 mod encode;
 mod listing;
+mod visit;
 pub mod place;
 
 pub use data::InstData;

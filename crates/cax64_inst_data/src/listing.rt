@@ -67,7 +67,7 @@ pub(crate) fn amode_of(place: &DataPlace) -> Amode<u8>
 }
 
 /// The place as a general register or memory.
-fn gpr_mem_of(place: &DataPlace) -> GprMem<u8, u8>
+pub(crate) fn gpr_mem_of(place: &DataPlace) -> GprMem<u8, u8>
     ensures { result ≡ gpr_mem_of place.now }
 {
     if place.kind.is_register() {
@@ -78,7 +78,7 @@ fn gpr_mem_of(place: &DataPlace) -> GprMem<u8, u8>
 }
 
 /// The place as a vector register or memory.
-fn xmm_mem_of(place: &DataPlace) -> XmmMem<u8, u8>
+pub(crate) fn xmm_mem_of(place: &DataPlace) -> XmmMem<u8, u8>
     ensures { result ≡ xmm_mem_of place.now }
 {
     if place.kind.is_register() {
