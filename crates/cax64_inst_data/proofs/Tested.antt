@@ -21,6 +21,7 @@ use Rattle.cax64_signature.specs.declared.kind.OperandKind.{OperandKind}
 use Rattle.cax64_signature.specs.declared.kind.OperandKind.TheVariants.{ReadGpr, ReadWriteGpr, WriteGpr, WriteTwoGprs, FixedReadGpr, FixedReadWriteGpr, ReadXmm, ReadWriteXmm, WriteXmm, ReadAmode, ReadGprMem, ReadWriteGprMem, ReadXmmMem, Imm}
 use Rattle.cax64_inst_data.specs.Encodable.{real, place_met, gpr_or_memory_met, fixed_met, matches, numbers_met}
 use Rattle.cax64_inst_data.specs.Fits.{all_zero, expected_of, fixed_in, place_fits}
+use Rattle.cax64_inst_data.specs.Own.{no_place, one_place}
 use Rattle.cax64_inst_data.specs.Operands.{Kept, filled, head, tail, next, next_fixed, amode_by, amode_of, is_register}
 use Rattle.cax64_inst_data.specs.Place.{is_plain, is_one, nothing_more}
 use Rattle.cax64_inst_data.specs.declared.place.DataPlace.{DataPlace}
@@ -33,40 +34,6 @@ use Rattle.cax64_inst_data.proofs.Placed.{is_value, none_is, nothing_is}
 -- The place of data, its late offset and its fixed registers are tested as those of its operands.
 
 -- a signature has one place at most
-abbrev no_place : List OperandKind → Bool
-no_place [] = true
-no_place (ReadGpr size ∷ later) = no_place later
-no_place (ReadWriteGpr size ∷ later) = no_place later
-no_place (WriteGpr size ∷ later) = no_place later
-no_place (WriteTwoGprs size ∷ later) = no_place later
-no_place (FixedReadGpr expected size ∷ later) = no_place later
-no_place (FixedReadWriteGpr expected size ∷ later) = no_place later
-no_place (ReadXmm ∷ later) = no_place later
-no_place (ReadWriteXmm ∷ later) = no_place later
-no_place (WriteXmm ∷ later) = no_place later
-no_place (ReadAmode ∷ later) = false
-no_place (ReadGprMem size ∷ later) = false
-no_place (ReadWriteGprMem size ∷ later) = false
-no_place (ReadXmmMem ∷ later) = false
-no_place (Imm imm ∷ later) = no_place later
-
-abbrev one_place : List OperandKind → Bool
-one_place [] = true
-one_place (ReadGpr size ∷ later) = one_place later
-one_place (ReadWriteGpr size ∷ later) = one_place later
-one_place (WriteGpr size ∷ later) = one_place later
-one_place (WriteTwoGprs size ∷ later) = one_place later
-one_place (FixedReadGpr expected size ∷ later) = one_place later
-one_place (FixedReadWriteGpr expected size ∷ later) = one_place later
-one_place (ReadXmm ∷ later) = one_place later
-one_place (ReadWriteXmm ∷ later) = one_place later
-one_place (WriteXmm ∷ later) = one_place later
-one_place (ReadAmode ∷ later) = no_place later
-one_place (ReadGprMem size ∷ later) = no_place later
-one_place (ReadWriteGprMem size ∷ later) = no_place later
-one_place (ReadXmmMem ∷ later) = no_place later
-one_place (Imm imm ∷ later) = one_place later
-
 pub row_has_one : (row : Row) → one_place (signature_of row) ≡ true
 unfolding signature_of
 row_has_one lock_addb_mi = refl

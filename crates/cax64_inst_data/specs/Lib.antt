@@ -8,3 +8,4 @@ pub mod Placed
 pub mod Encodable
 pub mod Registers
 pub mod Alike
+pub mod Own
