@@ -6,3 +6,5 @@ pub mod Encodable
 pub mod Tested
 pub mod Conditions
 pub mod OneMore
+pub mod More
+pub mod Visits

@@ -1,6 +1,6 @@
 //! Visits of data.
 
-ghost use Rattle.std.specs.Prelude.{◌≡◌, ◌≤◌, ℕ, true, false, length};
+ghost use Rattle.std.specs.Prelude.{◌≡◌, ◌≤◌, ℕ, true, false, drop, length};
 ghost use Rattle.cax64_operand.specs.Visit.{OperandRun, Run};
 ghost use Rattle.cax64_inst_data.specs.Own.{is_place, no_place, one_place, own_fixed, own_registers, own_rest};
 ghost use Rattle.cax64_operand.specs.VisitSteps.{AmodeRun, GprMemRun, XmmMemRun};
@@ -159,13 +159,15 @@ fn visit_kinds<V: RegisterVisitor<Numbers>>(
 )
     requires registers { registers_in kinds.now ≤ length registers.old }
     requires fixed { fixed_in kinds.now ≤ length fixed.old }
-    requires place { place_fits (rest_in kinds.now) place.old.kind ≡ true }
+    requires place { no_place kinds.now ≡ false → place_fits (rest_in kinds.now) place.old.kind ≡ true }
     requires one { one_place kinds.now ≡ true }
     ensures run { (imm : ℕ) → Run ⟦<u8 as PartialEq>⟧.eq V.steps visitor.old (filled kinds.now place.old (record { registers = registers.old; fixed = fixed.old; imm = imm })) (filled kinds.now place.new (record { registers = registers.new; fixed = fixed.new; imm = imm })) visitor.new }
     ensures kind { place.new.kind ≡ place.old.kind }
     ensures place { no_place kinds.now ≡ true → place.new ≡ place.old }
     ensures registers { length registers.new ≡ length registers.old }
     ensures fixed { length fixed.new ≡ length fixed.old }
+    ensures rest { drop (registers_in kinds.now) registers.new ≡ drop (registers_in kinds.now) registers.old }
+    ensures fixed_rest { drop (fixed_in kinds.now) fixed.new ≡ drop (fixed_in kinds.now) fixed.old }
 {
     if let Some((kind, later)) = kinds.split_first() {
         visit_one(*kind, place, registers, fixed, visitor);
