@@ -1,16 +1,18 @@
-"""The reader's index: a slot for each opcode, or each digit of one, and in it a place for each class of prefixes."""
+"""The reader's index: a slot for each opcode of a map, or each digit of one, and in it a place for each set of
+prefixes."""
 
 import re
 
 from formatting import filled
+from instruction import LEGACY_PREFIXES
 
 SOURCE = "crates/cax64_table/src/index.rt"
 
-# An entry below this number is a slot, and one from it on the slot of digit 0, so much higher.
-DIGITS_FROM = 128
-# The slots that an entry and a digit can name.
-SLOT_COUNT = DIGITS_FROM + 7
-LOW_COUNT = 256
+# From this number on an entry is so much more than the slot of digit 0.
+DIGITS_FROM = 32768
+# The legacy prefixes, or pp; and the four opcode maps, each with its half behind 0F.
+PREFIX_COUNT = 16
+MAP_COUNT = 8
 NO_ROW = (None, None)
 
 
@@ -23,40 +25,36 @@ class Unplaced(Exception):
 
 
 def by_opcode(rows):
-    """The rows of each opcode, in the order of opcodes."""
+    """The rows of each opcode of a map, in the order of maps and opcodes."""
     found = {}
-    for row in sorted(rows, key=lambda row: (row.code.escape, row.code.opcode)):
-        found.setdefault((row.code.escape, row.code.opcode), []).append(row)
+    for row in sorted(rows, key=lambda row: row.code.opcode_in_map):
+        found.setdefault(row.code.opcode_in_map, []).append(row)
     return found
 
 
 def slots_of(rows):
-    """The entry of each opcode, and for each slot from 1 on its name and its rows."""
+    """The entry of each opcode of a map, and for each slot from 1 on its name and its rows."""
     entries, slots = {}, []
     for opcode, found in by_opcode(rows).items():
         first = len(slots) + 1
-        if first >= DIGITS_FROM:
-            raise Unplaced(found[0], f"the reader's index has {DIGITS_FROM - 1} slots, and none is left for its opcode")
-        if found[0].code.digit is None:
+        code = found[0].code
+        if first + 8 > DIGITS_FROM:
+            raise Unplaced(found[0], f"the reader's index has {DIGITS_FROM} slots, and none is left for its opcode")
+        name = f"{code.map_name} {code.opcode_name}" if code.vex else code.opcode_name
+        if code.digit is None:
             entries[opcode] = first
-            slots.append((found[0].code.opcode_name, found))
+            slots.append((name, found))
             continue
         entries[opcode] = DIGITS_FROM + first
-        name = found[0].code.opcode_name[:-1]
-        slots += [(f"{name}{digit}", [row for row in found if row.code.digit == digit]) for digit in range(8)]
+        slots += [(f"{name[:-1]}{digit}", [row for row in found if row.code.digit == digit]) for digit in range(8)]
     return entries, slots
 
 
-def lows_of(rows):
-    """The prefixes of each class by their number: legacy ones first."""
-    return [low for _, low in sorted({(bool(row.code.vex), row.code.low) for row in rows})]
-
-
-def places_of(rows, lows):
-    """For each class of prefixes the rows without W and with it; the last class is of all other prefixes."""
-    places = [NO_ROW] * (len(lows) + 1)
+def places_of(rows):
+    """For each set of legacy prefixes, or each pp, the rows without W and with it."""
+    places = [NO_ROW] * PREFIX_COUNT
     for row in rows:
-        place = lows.index(row.code.low)
+        place = row.code.prefix_number
         without, with_w = places[place]
         places[place] = (without if row.code.w == 1 else row, with_w if row.code.w == 0 else row)
     return places
@@ -67,8 +65,8 @@ CELLS = (
     (re.compile(r"NO_ROW()()"), "without", "with"),
     (re.compile(r"any!\(\$(\w+)()\)"), "without", "without"),
     (re.compile(r"without_w!\(\$(\w+)()\)"), "without", None),
+    (re.compile(r"with_w!\(\$()(\w+)\)"), None, "with"),
     (re.compile(r"by_w!\(\$(\w+), \$(\w+)\)"), "without", "with"),
-    (re.compile(r"\[NONE, number!\(\$()(\w+)\)\]"), None, "with"),
 )
 
 
@@ -86,7 +84,7 @@ def macros_of(text):
     """The macros of a slot: their names, what they are given, and their places."""
     found = []
     for name, given, body in re.findall(r"^macro_rules! (\w+) \{\n    \((.*)\) => \{ \[(.*)\] \};$", text, re.M):
-        cells = [cell_of(cell) for cell in re.findall(r"NO_ROW|\w+!\([^)]*\)|\[[^\]]*\]", body)]
+        cells = [cell_of(cell) for cell in re.findall(r"\w+(?:!?\([^)]*\))?", body)]
         if None not in cells:
             found.append((name, re.findall(r"\$(\w+):", given), cells))
     return found
@@ -104,36 +102,69 @@ def given_to(names, cells, places):
     return [rows[name].name for name in names]
 
 
-def slot_line(name, rows, lows, macros):
+def prefix_words(place, is_vex):
+    """What a place is called in the name of a macro."""
+    if is_vex:
+        return ("none", "66", "f3", "f2")[place]
+    return "_".join(prefix.lower() for bit, prefix in enumerate(LEGACY_PREFIXES) if place >> bit & 1) or "none"
+
+
+def macro_for(places, is_vex):
+    """A macro for rows at these places: its name, what it is given, its cells, and its lines."""
+    words, names, cells, texts = ["vex" if is_vex else "rows"], [], [], []
+    for place, (without, with_w) in enumerate(places):
+        new = [f"row_{len(names) + step + 1}" for step in range(len({row.name for row in (without, with_w) if row}))]
+        names += new
+        if not new:
+            cells.append((None, None))
+            texts.append("NO_ROW")
+            continue
+        form = "by_w" if len(new) == 2 else "any" if without is with_w else "without_w" if without else "with_w"
+        cells.append((new[0] if without else None, new[-1] if with_w else None))
+        texts.append(f"{form}!({', '.join(f'${name}' for name in new)})")
+        words += [prefix_words(place, is_vex), form]
+    name = "_".join(words)
+    given = ", ".join(f"${row}:ident" for row in names)
+    lines = ["", f"macro_rules! {name} {{", f"    ({given}) => {{ [{', '.join(texts)}] }};", "}"]
+    return (name, names, cells), lines
+
+
+def slot_line(name, rows, macros):
+    """The call of a macro for these rows, or None; one for those of a VEX map is called so."""
+    is_vex = bool(rows and rows[0].code.vex)
     for macro, names, cells in macros:
-        given = given_to(names, cells, places_of(rows, lows))
+        given = given_to(names, cells, places_of(rows)) if macro.startswith("vex_") == is_vex else None
         if given is not None:
             return f"    {macro}!({', '.join(given)}), // {name}"
-    raise Unplaced(rows[0], f"no macro of {SOURCE} puts rows where the prefixes and W of those of opcode {name} ask")
+    return None
 
 
-def index_lines(slots, lows, macros):
-    named = [("no opcode", []), *slots]
-    named += [("no opcode", [])] * (SLOT_COUNT - len(named))
-    count = len(lows) + 1
-    return [f"const INDEX: [[[u8; 2]; {count}]; {SLOT_COUNT}] = [",
-            *(slot_line(name, rows, lows, macros) for name, rows in named), "];"]
+def index_lines(slots, macros):
+    """The index, and the macros that it needs beside those that stand by hand."""
+    named, lines, written = [("no opcode", []), *slots], [], []
+    for name, rows in named:
+        line = slot_line(name, rows, macros)
+        if line is None:
+            macro, more = macro_for(places_of(rows), bool(rows[0].code.vex))
+            macros.append(macro)
+            written += more
+            line = slot_line(name, rows, macros)
+        lines.append(line)
+    return [f"static INDEX: [[[Option<Row>; 2]; {PREFIX_COUNT}]; {len(named)}] = [", *lines, "];"], written
 
 
-def numbers(declared, found):
-    return [f"const {declared} = [", *filled(map(str, found), "    "), "];"]
+def map_lines(entries, number):
+    """The entries of a map's opcodes."""
+    found = [entries.get((number, byte), 0) for byte in range(256)]
+    return ["    [", *filled(map(str, found), "        "), "    ],"] if any(found) else ["    [0; 256],"]
 
 
 def write(table, sources, text):
-    """`text` is what stands in the index's file, whose macros are by hand."""
+    """`text` is what stands in the index's file, of whose macros some are by hand."""
     entries, slots = slots_of(table.rows)
-    lows = lows_of(table.rows)
-    opcodes = [(escape, byte) for escape in (False, True) for byte in range(256)]
-    classes = [lows.index(low) if low in lows else len(lows) for low in range(LOW_COUNT)]
-    sources.part(SOURCE, "slots", numbers("SLOTS: [u8; 512]", [entries.get(opcode, 0) for opcode in opcodes]))
-    sources.part(SOURCE, "classes", numbers(f"CLASSES: [u8; {LOW_COUNT}]", classes))
-    sources.part(SOURCE, "index", index_lines(slots, lows, macros_of(text)))
-    rows = [f"    Row::{row.name}," for row in table.rows]
-    sources.part(SOURCE, "rows", [f"const ROWS: [Row; {len(rows)}] = [", *rows, "];"])
-    numbered = [*map(str, lows), str(LOW_COUNT), "[]"]
-    sources.part("crates/cax64_table/proofs/Slots.antt", "lows", [f"LOWS = {' ∷ '.join(numbered)}"])
+    maps = [line for number in range(MAP_COUNT) for line in map_lines(entries, number)]
+    by_hand = [macro for macro in macros_of(text) if not macro[0].startswith(("rows_", "vex_none_", "vex_66_", "vex_f"))
+               or macro[0] in ("vex_66", "vex_f2")]
+    lines, written = index_lines(slots, by_hand)
+    sources.part(SOURCE, "slots", [f"static SLOTS: [[u16; 256]; {MAP_COUNT}] = [", *maps, "];", *written])
+    sources.part(SOURCE, "index", lines)

@@ -6,6 +6,9 @@ from typing import NamedTuple, Optional
 # The legacy prefixes, in the order in which they are put. (Intel SDM, volume 2, 2.1.1.)
 LEGACY_PREFIXES = ("F0", "66", "F2", "F3")
 
+# The opcode maps of VEX by their numbers. (Intel SDM, volume 2, 2.3.5.)
+MAP_NAMES = {1: "0F", 2: "0F38", 3: "0F3A"}
+
 
 class Vex(NamedTuple):
     """The fields of a VEX prefix that a row fixes, by their numbers. (Intel SDM, volume 2, 2.3.5.)"""
@@ -29,11 +32,21 @@ class Code:
     digit: Optional[int]
 
     @property
-    def low(self):
-        """The prefixes as the number by which the reader finds a row: the set of the legacy ones, or pp and map."""
+    def prefix_number(self):
+        """The set of the legacy prefixes as a number, or pp."""
         if self.vex:
-            return 1 + 2 * self.vex.pp + 8 * self.vex.opcode_map
-        return sum(2 << place for place, prefix in enumerate(LEGACY_PREFIXES) if prefix in self.prefixes)
+            return self.vex.pp
+        return sum(1 << place for place, prefix in enumerate(LEGACY_PREFIXES) if prefix in self.prefixes)
+
+    @property
+    def opcode_in_map(self):
+        """The number of the opcode map, and the opcode byte. A map of VEX has its own number twice, and one without VEX
+        0, or 1 behind 0F."""
+        return (2 * self.vex.opcode_map if self.vex else int(self.escape)), self.opcode
+
+    @property
+    def map_name(self):
+        return f"VEX {MAP_NAMES[self.vex.opcode_map]}"
 
     @property
     def legacy_bytes(self):

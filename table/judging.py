@@ -132,15 +132,15 @@ def judge_twice(lines):
 def keys_of(row):
     """The places of the reader's index that a row takes: its opcode and digit, its prefixes, and each W that it has."""
     code = row.code
-    return [(code.escape, code.opcode, code.digit, bool(code.vex), code.low, w)
+    return [(code.opcode_in_map, code.digit, code.prefix_number, w)
             for w in ((0, 1) if code.w is None else (code.w,))]
 
 
 def judge_keys(lines, rows):
-    """No two rows have one key, and an opcode's rows have digits all or none."""
+    """No two rows have one key, and the rows of an opcode of a map have digits all or none."""
     keys, digits = {}, {}
     for row in rows:
-        opcode = (row.code.escape, row.code.opcode)
+        opcode = row.code.opcode_in_map
         other = next((keys[key] for key in keys_of(row) if key in keys), None)
         if other:
             sentence = f"its prefixes, W, opcode and digit are those of {other.name}, line {other.line}"

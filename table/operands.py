@@ -37,14 +37,16 @@ def type_of(operand):
 class Shown:
     """An operand, or two that are one: its kind, its words in a clause, with @ before its fields, its code, its visit.
 
-    `size` and `extension` are what the words name of these, and `printed` whether a fixed register has a size.
+    `of` is what its kind has in a signature, `size` and `extension` are what the words name of these, and `printed` whether
+    a fixed register has a size.
     """
 
-    def __init__(self, kind, words, code, visit=None, size=None, extension=None, printed=None):
+    def __init__(self, kind, words, code, visit=None, of=None, size=None, extension=None, printed=None):
         self.kind = kind
         self.words = words
         self.code = f"Operand::{kind}({code})"
         self.visit = visit
+        self.of = of or (f"Size::{size}" if size else None)
         self.size = size
         self.extension = extension
         self.printed = printed
@@ -59,16 +61,18 @@ def shown_immediate(operand, instruction):
     behind = f" {extension}" if extension else ""
     code = f"self.{operand.name}.value()" + (f", Extension::{extension}" if extension else "")
     words = f"(immediate.{kind} @{operand.name}{behind})"
-    return Shown("Imm", words, f"Immediate::{kind}({code})", extension=extension)
+    of = f"ImmediateKind::{kind}" + (f"(Extension::{extension})" if extension else "")
+    return Shown("Imm", words, f"Immediate::{kind}({code})", of=of, extension=extension)
 
 
 def shown_fixed(operand):
     name, number = operand.name, operand.number
     size = None if operand.implicit else SIZE_WORDS[operand.size]
     words = f"@{name}.0 {number} " + (f"(Some {size})" if size else "None")
-    code = f"self.{name}.0, {number}, " + (f"Some(Size::{size})" if size else "None")
+    of = f"{number}, " + (f"Some(Size::{size})" if size else "None")
     visit = f"visitor.fixed_{VISIT_WORDS[operand.access]}_gpr(&mut self.{name}.0, {number})"
-    return Shown(f"Fixed{operand.access}Gpr", words, code, visit, size, printed="Some" if size else "None")
+    return Shown(f"Fixed{operand.access}Gpr", words, f"self.{name}.0, {of}", visit, of, size,
+                 printed="Some" if size else "None")
 
 
 def shown_pair(high, low):
@@ -76,7 +80,7 @@ def shown_pair(high, low):
     size = SIZE_WORDS[high.size]
     return Shown("WriteTwoGprs", f"@{high.name} @{low.name} {size}",
                  f"*self.{high.name}.as_ref(), *self.{low.name}.as_ref(), Size::{size}",
-                 f"visit_two_gprs(&mut self.{high.name}, &mut self.{low.name}, visitor)", size)
+                 f"visit_two_gprs(&mut self.{high.name}, &mut self.{low.name}, visitor)", size=size)
 
 
 def shown_register(operand):
@@ -86,7 +90,7 @@ def shown_register(operand):
         return Shown(f"{access}Xmm", f"@{name}", f"*self.{name}.as_ref()", visit)
     size = SIZE_WORDS[operand.size]
     return Shown(f"{access}Gpr", f"@{name} {size}", f"*self.{name}.as_ref(), Size::{size}",
-                 f"visitor.{VISIT_WORDS[access]}_gpr(self.{name}.as_mut())", size)
+                 f"visitor.{VISIT_WORDS[access]}_gpr(self.{name}.as_mut())", size=size)
 
 
 def shown_place(operand):
@@ -97,7 +101,7 @@ def shown_place(operand):
         return Shown("ReadXmmMem", f"@{name}", f"self.{name}", f"visitor.read_xmm_mem(&mut self.{name})")
     size = SIZE_WORDS[operand.size]
     return Shown(f"{access}GprMem", f"@{name} {size}", f"self.{name}, Size::{size}",
-                 f"visitor.{VISIT_WORDS[access]}_gpr_mem(&mut self.{name})", size)
+                 f"visitor.{VISIT_WORDS[access]}_gpr_mem(&mut self.{name})", size=size)
 
 
 def shown(operand, instruction):

@@ -32,7 +32,7 @@ def prefix_bits(row):
     code = row.code
     if code.vex:
         return 1 | code.vex.pp << 1 | code.vex.opcode_map << 3 | code.vex.l << 5 | (len(row.registers) == 2) << 6
-    return code.low | code.may_have_rex << 5 | uses_8bit(row) << 6
+    return code.prefix_number << 1 | code.may_have_rex << 5 | uses_8bit(row) << 6
 
 
 def packed(row):

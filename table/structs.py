@@ -98,7 +98,7 @@ def hand_to(instruction, family):
     """The call that gives the row and the operands to a task."""
     operands = [operand.code for operand in shown_operands(instruction)]
     return [
-        "    #[tactic(auto, unfolding(cax64_machine_code::specs::Rows::line_of))]",
+        "    #[tactic(auto, unfolding(cax64_operand::specs::Signature::signature_of))]",
         "    #[inline(always)]",
         f"    fn hand_to<T: Task<{family}, X>, X>(&self, to: &mut X) -> T::Answer {{",
         "        T::take(",

@@ -13,6 +13,7 @@ import facade
 import index
 import parts
 import rows
+import signatures
 import structs
 import texts
 from judging import table_of
@@ -37,6 +38,7 @@ def sources_of(table):
     index.write(table, sources, parts.current(ROOT / index.SOURCE))
     enumeration.write(table, sources)
     texts.write(table, sources)
+    signatures.write(table, sources)
     facade.write(table, sources)
     return sources
 

@@ -191,6 +191,7 @@ fn add_indexed<R: AsReg, A: Allocator + Copy>(
 
 impl<R: AsReg> Amode<R> {
     /// Whether the registers have texts: the condition of `to_string_in`.
+    #[inline(always)]
     pub fn nameable(&self) -> bool
         ensures { result ≡ amode_nameable R.nameable self.now }
     {
@@ -271,6 +272,7 @@ impl<R: AsReg> Amode<R> {
 
 impl<R: AsReg, M: AsReg> GprMem<R, M> {
     /// Whether the registers have texts: the condition of `to_string`.
+    #[inline(always)]
     pub fn nameable(&self) -> bool
         ensures { result ≡ gpr_mem_nameable R.nameable M.nameable self.now }
     {
@@ -335,6 +337,7 @@ impl<R: AsReg, M: AsReg> GprMem<R, M> {
 
 impl<R: AsReg, M: AsReg> XmmMem<R, M> {
     /// Whether the registers have texts: the condition of `to_string`.
+    #[inline(always)]
     pub fn nameable(&self) -> bool
         ensures { result ≡ xmm_mem_nameable R.nameable M.nameable self.now }
     {

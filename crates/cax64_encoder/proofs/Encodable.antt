@@ -7,11 +7,13 @@ use Rattle.cax64_machine_code.specs.declared.row.Row.{Row}
 use Rattle.cax64_operand.specs.Family.{Family}
 use Rattle.cax64_operand.specs.Fold.{fold}
 use Rattle.cax64_operand.specs.OperandList.{list_of, nop_of}
-use Rattle.cax64_operand.specs.Shape.{HasShape, takes}
+use Rattle.cax64_operand.specs.Shape.{takes}
+use Rattle.cax64_operand.specs.Signature.{HasSignature}
 use Rattle.cax64_operand.specs.declared.nop.Nop.{Nop}
 use Rattle.cax64_operand.specs.declared.operand.Operand.{Operand}
 use Rattle.cax64_operand.specs.declared.operand.Operands.{Operands}
 use Rattle.cax64_operand.specs.declared.operand.Operands.TheVariants as operands
+use Rattle.cax64_operand.proofs.Shapes.{has_shape}
 use Rattle.cax64_sink.specs.Run.{all_bytes}
 use Rattle.cax64_sink.specs.Call.{Action}
 use Rattle.cax64_encoder.specs.Content.{content_of, no_content, nop_content, with_content}
@@ -69,9 +71,10 @@ module _ {R A B C D E F : Type 0} (f : Family A B C D E F) (row : Row) (o : Oper
   meant_is : (offsets : ℕ → Option ℤ) → meant_of f row o offsets ≡ operands_meant f.read_gpr row (roles_of f (list_of o)) offsets
   meant_is offsets = ap (λ (nop : Option Nop). nop_or row nop (operands_meant f.read_gpr row (roles_of f (list_of o)) offsets)) none
 
-  pub fits_row : HasShape row o → fits (line_of row) (form_of f (list_of o)) ≡ true
+  pub fits_row : HasSignature row o → fits (line_of row) (form_of f (list_of o)) ≡ true
   fits_row h =
-      let shape : takes (line_of row) (list_of o) ≡ true = rw none at h in
+      let has = has_shape row o h in
+      let shape : takes (line_of row) (list_of o) ≡ true = rw none at has in
       form_fits f (line_of row) (list_of o) shape
 
   module _ (same : (a b : C) → f.same_write_gpr a b ≡ true → a ≡ b) (offsets : ℕ → Option ℤ) (h : is_encodable offsets (meant_of f row o offsets) ≡ true) where

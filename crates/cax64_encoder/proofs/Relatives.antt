@@ -11,10 +11,12 @@ use Rattle.cax64_operand.specs.Family.{Family}
 use Rattle.cax64_operand.specs.Immediate.{imm_size}
 use Rattle.cax64_operand.specs.OperandList.{list_of, nop_of}
 use Rattle.cax64_operand.specs.Shape as shape
-use Rattle.cax64_operand.specs.Shape.{imm_fits, imm_has_size, takes, tail_takes, vvvv_takes, register_count, rest_of, HasShape}
+use Rattle.cax64_operand.specs.Shape.{imm_fits, imm_has_size, takes, tail_takes, vvvv_takes, register_count, rest_of}
+use Rattle.cax64_operand.specs.Signature.{HasSignature}
 use Rattle.cax64_operand.specs.declared.nop.Nop.{Nop}
 use Rattle.cax64_operand.specs.declared.nop.Nop.TheVariants as nop
 use Rattle.cax64_operand.specs.declared.operand.Operands.{Operands}
+use Rattle.cax64_operand.proofs.Shapes.{has_shape}
 use Rattle.cax64_encoder.specs.Meant.{imm_in, place_in, operands_meant, nop_or, meant_of}
 use Rattle.cax64_encoder.specs.Nop.{nop_place}
 use Rattle.cax64_encoder.specs.Place.{memory_in, displacement_in, place_read}
@@ -61,5 +63,5 @@ shape_or_nop : {R A B C D E F : Type 0} (row : Row) (operands : Operands R A B C
 shape_or_nop row operands None P h = h
 shape_or_nop row operands (Some n) P h = tt
 
-pub meant_relative : {R A B C D E F : Type 0} (f : Family A B C D E F) (row : Row) (operands : Operands R A B C D E F) (offsets : ℕ → Option ℤ) → HasShape row operands → ReadsRelative (meant_of f row operands offsets)
-meant_relative f row operands offsets h = by_nop f row operands offsets (nop_of operands) (shape_or_nop row operands (nop_of operands) _ h)
+pub meant_relative : {R A B C D E F : Type 0} (f : Family A B C D E F) (row : Row) (operands : Operands R A B C D E F) (offsets : ℕ → Option ℤ) → HasSignature row operands → ReadsRelative (meant_of f row operands offsets)
+meant_relative f row operands offsets h = by_nop f row operands offsets (nop_of operands) (shape_or_nop row operands (nop_of operands) _ (has_shape row operands h))

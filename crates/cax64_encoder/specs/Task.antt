@@ -1,7 +1,7 @@
 use Rattle.std.specs.Prelude.{◌≡◌, ◌≤◌, ℕ, ℤ, true, Option, Result, List}
 use Rattle.cax64_machine_code.specs.declared.row.Row.{Row}
 use Rattle.cax64_operand.specs.Family.{Family}
-use Rattle.cax64_operand.specs.Shape.{HasShape}
+use Rattle.cax64_operand.specs.Signature.{HasSignature}
 use Rattle.cax64_operand.specs.declared.operand.Operands.{Operands}
 use Rattle.cax64_sink.specs.Call.{Action}
 use Rattle.cax64_sink.specs.Run.{Ran}
@@ -20,7 +20,7 @@ use Rattle.cax64_encoder.specs.declared.room.RoomNeeded.{RoomNeeded}
 -- this was kept of operands of the row that can be encoded
 pub record Kept {R A B C D E F : Type 0} (f : Family A B C D E F) (offsets : ℕ → Option ℤ) (row : Row) (o : Operands R A B C D E F) (content : Content) : Type 0 where
   pub kept : content ≡ content_of f o
-  pub shape : HasShape row o
+  pub signature : HasSignature row o
   pub can : is_encodable offsets (meant_of f row o offsets) ≡ true
 
 -- this was kept of some such operands

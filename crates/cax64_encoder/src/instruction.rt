@@ -9,7 +9,7 @@ ghost use Rattle.cax64_encoder.specs.Notices.{notice_count};
 ghost use Rattle.cax64_encoder.specs.Relative.{ReadsRelative};
 ghost use Rattle.cax64_machine_code.specs.Sequence.{IsFront};
 ghost use Rattle.cax64_machine_code.specs.declared.row.Row.{Row};
-ghost use Rattle.cax64_operand.specs.Shape.{HasShape};
+ghost use Rattle.cax64_operand.specs.Signature.{HasSignature};
 ghost use Rattle.cax64_operand.specs.Visit.{OperandsRun};
 ghost use Rattle.cax64_operand.specs.declared.operand.Operands.{Operands};
 ghost use Rattle.cax64_sink.specs.Keeps.{Keeps};
@@ -33,7 +33,7 @@ pub trait Instruction: HasOperands {
     /// The row of the table, as a reading of the bytes has it.
     fn row(&self) -> Row
         ensures row { result ≡ Self.row_of self.now }
-        ensures shape { HasShape (Self.row_of self.now) (Self.operands_of self.now) }
+        ensures signature { HasSignature (Self.row_of self.now) (Self.operands_of self.now) }
         ensures meant { (offsets : ℕ → Option ℤ) → result ≡ (meant self.now offsets).parts.row };
 
     /// Goes over the registers in the order of the operands, and puts what the visitor gives in their place. Memory is its

@@ -11,12 +11,12 @@ pub struct RoomNeeded {
     pub notices: u8,
 }
 
-/// What a code is measured for: the offsets that this sink knows.
+/// A task's thing: an instruction is measured, for the offsets that this sink knows, and nothing is put.
 #[derive(Drop)]
-pub(crate) struct Measuring<'a, S: CodeSink> {
+pub struct Measuring<'a, S: CodeSink> {
     pub sink: &'a S,
 }
 
-/// Notices are counted.
+/// A task's thing: an instruction's notices are counted.
 #[derive(Drop)]
-pub(crate) struct Counting;
+pub struct Counting;

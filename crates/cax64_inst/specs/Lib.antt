@@ -2,4 +2,4 @@
 pub mod Inst
 -- Steps of the proofs.
 pub mod Group
-pub mod Shaped
+pub mod OfSignature

@@ -374,7 +374,7 @@ impl<R: Registers> RowAndOperands for Inst<R> {
 
     ghost operands_of = { operands_of };
 
-    #[tactic(auto, unfolding(crate::specs::Shaped::Shaped))]
+    #[tactic(auto, unfolding(crate::specs::OfSignature::OfSignature))]
     #[inline(always)]
     fn hand_to<T: Task<R, X>, X>(&self, to: &mut X) -> T::Answer {
         self.hand_to_within::<T, X>(to)

@@ -3,10 +3,10 @@
 
 ghost use Rattle.std.specs.Prelude.{◌≡◌};
 ghost use Rattle.cax64_inst.specs.Inst.{row_of, operands_of};
-ghost use Rattle.cax64_inst.specs.Shaped.{Shaped};
+ghost use Rattle.cax64_inst.specs.OfSignature.{OfSignature};
 ghost use Rattle.cax64_operand.specs.Fold.{fold};
 ghost use Rattle.cax64_operand.specs.NopRow.{nop_row};
-ghost use Rattle.cax64_operand.specs.Shape.{HasShape};
+ghost use Rattle.cax64_operand.specs.Signature.{HasSignature};
 ghost use Rattle.cax64_operand.specs.declared.immediate.Immediate.TheVariants as immediate;
 ghost use Rattle.cax64_operand.specs.declared.operand.Operand.TheVariants as operand;
 ghost use Rattle.cax64_operand.specs.declared.operand.Operands.TheVariants as operands;
@@ -24,36 +24,36 @@ use jump::{
 use nop::{nop_1b, nop_2b, nop_3b, nop_4b, nop_5b, nop_6b, nop_7b, nop_8b, nop_9b};
 // table/write.py: end
 
-/// Hands on an instruction. That its operands have their row's shape is one word here, in what is asked: the search for a
-/// proof takes the definition's many parts apart in every arm.
-#[tactic(auto, unfolding(crate::specs::Shaped::Shaped))]
+/// Hands on an instruction. That its operands have their row's signature is one word here, in what is asked: the search
+/// for a proof takes the definition's many parts apart in every arm.
+#[tactic(auto, unfolding(crate::specs::OfSignature::OfSignature))]
 #[inline(never)]
 fn give<I: RowAndOperands, T: Task<I::Family, X>, X>(instruction: &I, to: &mut X) -> T::Answer
-    requires asks { Shaped (I.row_of instruction.now) (I.operands_of instruction.now) → T.asks (I.row_of instruction.now) (fold T.made_of_none T.made_with T.made_of_nop (I.operands_of instruction.now)) to.old }
+    requires asks { OfSignature (I.row_of instruction.now) (I.operands_of instruction.now) → T.asks (I.row_of instruction.now) (fold T.made_of_none T.made_with T.made_of_nop (I.operands_of instruction.now)) to.old }
     ensures answers { T.answers (I.row_of instruction.now) (fold T.made_of_none T.made_with T.made_of_nop (I.operands_of instruction.now)) to.old to.new result }
-    ensures shape { HasShape (I.row_of instruction.now) (I.operands_of instruction.now) }
+    ensures signature { HasSignature (I.row_of instruction.now) (I.operands_of instruction.now) }
 {
     instruction.hand_to::<T, X>(to)
 }
 
 /// Hands on a no-operation. `Kind` is the kind that it is, so that each has a function of its own, in which the row is
 /// known.
-#[tactic(auto, unfolding(crate::specs::Shaped::Shaped))]
+#[tactic(auto, unfolding(crate::specs::OfSignature::OfSignature))]
 #[inline(never)]
 fn give_nop<Kind, R: Registers, T: Task<R, X>, X>(nop: Nop, row: Row, to: &mut X) -> T::Answer
     requires row { row ≡ nop_row nop }
-    requires asks { Shaped {R = R} {A = R.ReadGpr} {B = R.ReadWriteGpr} {C = R.WriteGpr} {D = R.ReadXmm} {E = R.ReadWriteXmm} {F = R.WriteXmm} row (operands.Nop nop) → T.asks row (fold T.made_of_none T.made_with T.made_of_nop (operands.Nop nop)) to.old }
+    requires asks { OfSignature {R = R} {A = R.ReadGpr} {B = R.ReadWriteGpr} {C = R.WriteGpr} {D = R.ReadXmm} {E = R.ReadWriteXmm} {F = R.WriteXmm} row (operands.Nop nop) → T.asks row (fold T.made_of_none T.made_with T.made_of_nop (operands.Nop nop)) to.old }
     ensures answers { T.answers row (fold T.made_of_none T.made_with T.made_of_nop (operands.Nop nop)) to.old to.new result }
 {
     T::take(T::nop(nop), row, to)
 }
 
 /// Hands on a jump by a distance of one byte, in a function of its own for each kind too.
-#[tactic(auto, unfolding(crate::specs::Shaped::Shaped))]
+#[tactic(auto, unfolding(crate::specs::OfSignature::OfSignature))]
 #[inline(never)]
 fn give_short<Kind, R: Registers, T: Task<R, X>, X>(distance: i8, row: Row, to: &mut X) -> T::Answer
-    requires shape { HasShape {R = R} {A = R.ReadGpr} {B = R.ReadWriteGpr} {C = R.WriteGpr} {D = R.ReadXmm} {E = R.ReadWriteXmm} {F = R.WriteXmm} row (operands.One (operand.Imm (immediate.Distance8 distance))) }
-    requires asks { Shaped {R = R} {A = R.ReadGpr} {B = R.ReadWriteGpr} {C = R.WriteGpr} {D = R.ReadXmm} {E = R.ReadWriteXmm} {F = R.WriteXmm} row (operands.One (operand.Imm (immediate.Distance8 distance))) → T.asks row (fold T.made_of_none T.made_with T.made_of_nop (operands.One (operand.Imm (immediate.Distance8 distance)))) to.old }
+    requires signature { HasSignature {R = R} {A = R.ReadGpr} {B = R.ReadWriteGpr} {C = R.WriteGpr} {D = R.ReadXmm} {E = R.ReadWriteXmm} {F = R.WriteXmm} row (operands.One (operand.Imm (immediate.Distance8 distance))) }
+    requires asks { OfSignature {R = R} {A = R.ReadGpr} {B = R.ReadWriteGpr} {C = R.WriteGpr} {D = R.ReadXmm} {E = R.ReadWriteXmm} {F = R.WriteXmm} row (operands.One (operand.Imm (immediate.Distance8 distance))) → T.asks row (fold T.made_of_none T.made_with T.made_of_nop (operands.One (operand.Imm (immediate.Distance8 distance)))) to.old }
     ensures answers { T.answers row (fold T.made_of_none T.made_with T.made_of_nop (operands.One (operand.Imm (immediate.Distance8 distance)))) to.old to.new result }
 {
     T::take(
@@ -64,11 +64,11 @@ fn give_short<Kind, R: Registers, T: Task<R, X>, X>(distance: i8, row: Row, to: 
 }
 
 /// Hands on a jump or a call by a distance of four bytes, in a function of its own for each kind too.
-#[tactic(auto, unfolding(crate::specs::Shaped::Shaped))]
+#[tactic(auto, unfolding(crate::specs::OfSignature::OfSignature))]
 #[inline(never)]
 fn give_near<Kind, R: Registers, T: Task<R, X>, X>(distance: i32, row: Row, to: &mut X) -> T::Answer
-    requires shape { HasShape {R = R} {A = R.ReadGpr} {B = R.ReadWriteGpr} {C = R.WriteGpr} {D = R.ReadXmm} {E = R.ReadWriteXmm} {F = R.WriteXmm} row (operands.One (operand.Imm (immediate.Distance32 distance))) }
-    requires asks { Shaped {R = R} {A = R.ReadGpr} {B = R.ReadWriteGpr} {C = R.WriteGpr} {D = R.ReadXmm} {E = R.ReadWriteXmm} {F = R.WriteXmm} row (operands.One (operand.Imm (immediate.Distance32 distance))) → T.asks row (fold T.made_of_none T.made_with T.made_of_nop (operands.One (operand.Imm (immediate.Distance32 distance)))) to.old }
+    requires signature { HasSignature {R = R} {A = R.ReadGpr} {B = R.ReadWriteGpr} {C = R.WriteGpr} {D = R.ReadXmm} {E = R.ReadWriteXmm} {F = R.WriteXmm} row (operands.One (operand.Imm (immediate.Distance32 distance))) }
+    requires asks { OfSignature {R = R} {A = R.ReadGpr} {B = R.ReadWriteGpr} {C = R.WriteGpr} {D = R.ReadXmm} {E = R.ReadWriteXmm} {F = R.WriteXmm} row (operands.One (operand.Imm (immediate.Distance32 distance))) → T.asks row (fold T.made_of_none T.made_with T.made_of_nop (operands.One (operand.Imm (immediate.Distance32 distance)))) to.old }
     ensures answers { T.answers row (fold T.made_of_none T.made_with T.made_of_nop (operands.One (operand.Imm (immediate.Distance32 distance)))) to.old to.new result }
 {
     T::take(
@@ -79,30 +79,30 @@ fn give_near<Kind, R: Registers, T: Task<R, X>, X>(distance: i32, row: Row, to: 
 }
 
 /// Hands on an instruction whose operand is an immediate.
-#[tactic(auto, unfolding(crate::specs::Shaped::Shaped))]
+#[tactic(auto, unfolding(crate::specs::OfSignature::OfSignature))]
 #[inline(never)]
 fn give_immediate<R: Registers, T: Task<R, X>, X>(
     distance: Immediate,
     row: Row,
     to: &mut X,
 ) -> T::Answer
-    requires shape { HasShape {R = R} {A = R.ReadGpr} {B = R.ReadWriteGpr} {C = R.WriteGpr} {D = R.ReadXmm} {E = R.ReadWriteXmm} {F = R.WriteXmm} row (operands.One (operand.Imm distance)) }
-    requires asks { Shaped {R = R} {A = R.ReadGpr} {B = R.ReadWriteGpr} {C = R.WriteGpr} {D = R.ReadXmm} {E = R.ReadWriteXmm} {F = R.WriteXmm} row (operands.One (operand.Imm distance)) → T.asks row (fold T.made_of_none T.made_with T.made_of_nop (operands.One (operand.Imm distance))) to.old }
+    requires signature { HasSignature {R = R} {A = R.ReadGpr} {B = R.ReadWriteGpr} {C = R.WriteGpr} {D = R.ReadXmm} {E = R.ReadWriteXmm} {F = R.WriteXmm} row (operands.One (operand.Imm distance)) }
+    requires asks { OfSignature {R = R} {A = R.ReadGpr} {B = R.ReadWriteGpr} {C = R.WriteGpr} {D = R.ReadXmm} {E = R.ReadWriteXmm} {F = R.WriteXmm} row (operands.One (operand.Imm distance)) → T.asks row (fold T.made_of_none T.made_with T.made_of_nop (operands.One (operand.Imm distance))) to.old }
     ensures answers { T.answers row (fold T.made_of_none T.made_with T.made_of_nop (operands.One (operand.Imm distance))) to.old to.new result }
 {
     T::take(of_one(Operand::Imm(distance)), row, to)
 }
 
 /// Hands on a jump or a call by a distance. The compiler sees here of how many bytes it is.
-#[tactic(auto, unfolding(crate::specs::Shaped::Shaped))]
+#[tactic(auto, unfolding(crate::specs::OfSignature::OfSignature))]
 #[inline(always)]
 fn give_distance<Kind, R: Registers, T: Task<R, X>, X>(
     distance: Immediate,
     row: Row,
     to: &mut X,
 ) -> T::Answer
-    requires shape { HasShape {R = R} {A = R.ReadGpr} {B = R.ReadWriteGpr} {C = R.WriteGpr} {D = R.ReadXmm} {E = R.ReadWriteXmm} {F = R.WriteXmm} row (operands.One (operand.Imm distance)) }
-    requires asks { Shaped {R = R} {A = R.ReadGpr} {B = R.ReadWriteGpr} {C = R.WriteGpr} {D = R.ReadXmm} {E = R.ReadWriteXmm} {F = R.WriteXmm} row (operands.One (operand.Imm distance)) → T.asks row (fold T.made_of_none T.made_with T.made_of_nop (operands.One (operand.Imm distance))) to.old }
+    requires signature { HasSignature {R = R} {A = R.ReadGpr} {B = R.ReadWriteGpr} {C = R.WriteGpr} {D = R.ReadXmm} {E = R.ReadWriteXmm} {F = R.WriteXmm} row (operands.One (operand.Imm distance)) }
+    requires asks { OfSignature {R = R} {A = R.ReadGpr} {B = R.ReadWriteGpr} {C = R.WriteGpr} {D = R.ReadXmm} {E = R.ReadWriteXmm} {F = R.WriteXmm} row (operands.One (operand.Imm distance)) → T.asks row (fold T.made_of_none T.made_with T.made_of_nop (operands.One (operand.Imm distance))) to.old }
     ensures answers { T.answers row (fold T.made_of_none T.made_with T.made_of_nop (operands.One (operand.Imm distance))) to.old to.new result }
 {
     match distance {
@@ -114,12 +114,12 @@ fn give_distance<Kind, R: Registers, T: Task<R, X>, X>(
 
 impl<R: Registers> Inst<R> {
     /// Hands on what is within. A kind without registers isn't borrowed: its distance is read out of it.
-    #[tactic(auto, unfolding(crate::specs::Inst::row_of, crate::specs::Inst::operands_of, cax64_machine_code::specs::Rows::line_of))]
+    #[tactic(auto, unfolding(crate::specs::Inst::row_of, crate::specs::Inst::operands_of, cax64_operand::specs::Signature::signature_of))]
     #[inline(always)]
     pub(crate) fn hand_to_within<T: Task<R, X>, X>(&self, to: &mut X) -> T::Answer
-        requires asks { Shaped (row_of self.now) (operands_of self.now) → T.asks (row_of self.now) (fold T.made_of_none T.made_with T.made_of_nop (operands_of self.now)) to.old }
+        requires asks { OfSignature (row_of self.now) (operands_of self.now) → T.asks (row_of self.now) (fold T.made_of_none T.made_with T.made_of_nop (operands_of self.now)) to.old }
         ensures answers { T.answers (row_of self.now) (fold T.made_of_none T.made_with T.made_of_nop (operands_of self.now)) to.old to.new result }
-        ensures shape { HasShape (row_of self.now) (operands_of self.now) }
+        ensures signature { HasSignature (row_of self.now) (operands_of self.now) }
     {
         match self {
             // table/write.py: arms

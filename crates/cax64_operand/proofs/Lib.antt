@@ -1,1 +1,4 @@
 pub mod Folds
+pub mod Taken
+pub mod Table
+pub mod Shapes

@@ -7,5 +7,8 @@ pub mod Made
 pub mod ItsRow
 pub mod NopRow
 pub mod Shape
+pub mod Kind
+pub mod Signature
+pub mod Worked
 pub mod VisitSteps
 pub mod Visit

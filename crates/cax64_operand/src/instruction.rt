@@ -3,8 +3,8 @@
 ghost use Rattle.std.specs.Prelude.{◌≡◌};
 ghost use Rattle.cax64_machine_code.specs.declared.row.Row.{Row};
 ghost use Rattle.cax64_operand.specs.Fold.{fold};
+ghost use Rattle.cax64_operand.specs.Signature.{HasSignature};
 ghost use Rattle.cax64_operand.specs.Visit.{OperandsRun};
-ghost use Rattle.cax64_operand.specs.Shape.{HasShape};
 ghost use Rattle.cax64_operand.specs.declared.operand.Operands.{Operands};
 
 use crate::fold::FromOperands;
@@ -45,9 +45,9 @@ pub trait RowAndOperands {
     /// Gives a task the row and what is made of the operands where they are listed. What holds instructions of several kinds
     /// hands on the one within, so that each kind has code of its own, in which the row is known.
     fn hand_to<T: Task<Self::Family, X>, X>(&self, to: &mut X) -> T::Answer
-        requires { HasShape (row_of self.now) (operands_of self.now) → T.asks (row_of self.now) (fold T.made_of_none T.made_with T.made_of_nop (operands_of self.now)) to.old }
+        requires { HasSignature (row_of self.now) (operands_of self.now) → T.asks (row_of self.now) (fold T.made_of_none T.made_with T.made_of_nop (operands_of self.now)) to.old }
         ensures answers { T.answers (row_of self.now) (fold T.made_of_none T.made_with T.made_of_nop (operands_of self.now)) to.old to.new result }
-        ensures shape { HasShape (row_of self.now) (operands_of self.now) };
+        ensures signature { HasSignature (row_of self.now) (operands_of self.now) };
 
     /// Goes over the registers, and puts what the visitor gives in their place. All else stays.
     fn visit<V: RegisterVisitor<Self::Family>>(&mut self, visitor: &mut V)
@@ -67,7 +67,7 @@ pub fn row_of<I: RowAndOperands>(instruction: &I) -> Row
 #[inline(always)]
 pub fn fold_operands<I: RowAndOperands, T: FromOperands<I::Family>>(instruction: &I) -> T
     ensures value { result ≡ fold T.made_of_none T.made_with T.made_of_nop (I.operands_of instruction.now) }
-    ensures shape { HasShape (I.row_of instruction.now) (I.operands_of instruction.now) }
+    ensures signature { HasSignature (I.row_of instruction.now) (I.operands_of instruction.now) }
 {
     instruction.hand_to::<Made<T>, ()>(&mut ())
 }
@@ -75,7 +75,7 @@ pub fn fold_operands<I: RowAndOperands, T: FromOperands<I::Family>>(instruction:
 /// The operands of an instruction as a list.
 pub fn operands_of<I: RowAndOperands>(instruction: &I) -> Operands<I::Family>
     ensures value { result ≡ I.operands_of instruction.now }
-    ensures shape { HasShape (I.row_of instruction.now) (I.operands_of instruction.now) }
+    ensures signature { HasSignature (I.row_of instruction.now) (I.operands_of instruction.now) }
 {
     fold_operands(instruction)
 }

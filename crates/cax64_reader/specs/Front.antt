@@ -1,5 +1,5 @@
 use Rattle.cax64_machine_code.specs.Prefix.{Prefix}
-use Rattle.cax64_reader.specs.PrefixWith.{prefix_with}
+use Rattle.cax64_table.specs.PrefixNumbers.{prefix_with}
 use Rattle.cax64_reader.specs.declared.front.Front.{Front}
 
 -- the prefix that is kept in a front

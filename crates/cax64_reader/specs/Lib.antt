@@ -2,5 +2,4 @@
 pub mod Found
 pub mod Front
 pub mod Lengths
-pub mod Legacy
 pub mod PrefixWith

@@ -1,6 +1,7 @@
 //! What stands before the opcode, as it is kept while an instruction is read.
 
-ghost use Rattle.cax64_reader.specs.PrefixWith.{prefix_with, AreOf};
+ghost use Rattle.cax64_table.specs.PrefixNumbers.{prefix_with};
+ghost use Rattle.cax64_reader.specs.PrefixWith.{AreOf};
 
 use cax64_table::prefix::PrefixNumbers;
 

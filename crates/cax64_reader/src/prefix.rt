@@ -1,15 +1,15 @@
 //! What stands before the opcode. (Intel SDM, volume 2, 2.1.1, 2.2.1 and 2.3.5.)
 
-ghost use Rattle.std.specs.Prelude.{◌≡◌, ◌&&◌, [], ◌<◌, ◌/◌, ◌-◌, ◌%◌, ◌^◌, ◌∷◌, ℕ, List, Some, None, option_map, IfSome, true};
+ghost use Rattle.std.specs.Prelude.{◌≡◌, ◌&&◌, [], ◌<◌, ◌/◌, ◌-◌, ◌%◌, ◌^◌, ◌∷◌, ℕ, List, Some, None, option_map, true};
 ghost use Rattle.std.specs.Int.{from_bool};
 ghost use Rattle.cax64_machine_code.specs.Prefix.{no_legacy, is_no_legacy, legacy_at, rex_of, vex_two_byte, vex_three_byte, is_vex_map, begins_vex, vex_at, after_vex, prefix_at, legacy_prefix, vex_prefix};
 ghost use Rattle.cax64_machine_code.specs.declared.line.LegacySet.{LegacySet};
 ghost use Rattle.cax64_reader.specs.Front.{prefix_of};
-ghost use Rattle.cax64_reader.specs.Legacy.{added};
-ghost use Rattle.cax64_reader.specs.PrefixWith.{set_of, IsSet};
+ghost use Rattle.cax64_table.specs.Legacy.{set_in};
 
 use crate::front::Front;
 use cax64_table::cursor::next;
+use cax64_table::legacy::LegacyPrefixes;
 use cax64_table::prefix::PrefixNumbers;
 
 /// The bit at this place.
@@ -21,55 +21,13 @@ fn bit(byte: u8, place: u32) -> bool
     (byte >> place) % 2 == 1
 }
 
-/// The number of the set with this byte added, where it is a prefix that may still come. F0, 66, F2 and F3 are its bits
-/// 1 to 4, so that it is below 8 where neither F2 nor F3 was seen.
-#[inline(always)]
-fn with_prefix(seen: u8, byte: u8) -> Option<u8>
-    requires { IsSet seen }
-    ensures is { option_map set_of result ≡ added (set_of seen) byte }
-    ensures fits { IfSome result IsSet }
-{
-    match byte {
-        0xF0 if !bit(seen, 1) => Some(seen + 2),
-        0x66 if !bit(seen, 2) => Some(seen + 4),
-        0xF2 if seen < 8 => Some(seen + 8),
-        0xF3 if seen < 8 => Some(seen + 16),
-        _ => None,
-    }
-}
-
-/// The number of the legacy prefixes at the front, and what follows them.
-#[inline(always)]
-fn legacy(bytes: &[u8]) -> (u8, &[u8])
-    ensures is { ◌≡◌ {A = LegacySet × List ℕ} (set_of result.0, result.1.now) (legacy_at no_legacy bytes.now) }
-    ensures fits { IsSet result.0 }
-{
-    let mut seen = 0;
-    let mut rest = bytes;
-    while let Some((byte, behind)) = next(rest) {
-        let Some(more) = with_prefix(seen, byte) else {
-            break
-        };
-        seen = more;
-        rest = behind;
-    }
-    (seen, rest)
-}
-
 /// Legacy prefixes and a REX byte.
 #[inline(always)]
-fn with_rex(low: u8, byte: u8) -> Front
-    requires { IsSet low }
-    ensures { prefix_of result ≡ legacy_prefix (set_of low) (Some (rex_of byte)) }
+fn with_rex(seen: LegacyPrefixes, byte: u8) -> Front
+    ensures { prefix_of result ≡ legacy_prefix (set_in seen) (Some (rex_of byte)) }
 {
     Front {
-        numbers: PrefixNumbers {
-            low,
-            high: 1,
-            has_high: true,
-            w: byte / 8 % 2,
-            is_free: true,
-        },
+        numbers: PrefixNumbers::legacy(seen, Some(bit(byte, 3))),
         has_rex: true,
         r: bit(byte, 2),
         x: bit(byte, 1),
@@ -80,18 +38,11 @@ fn with_rex(low: u8, byte: u8) -> Front
 
 /// Legacy prefixes alone.
 #[inline(always)]
-fn without_rex(low: u8) -> Front
-    requires { IsSet low }
-    ensures { prefix_of result ≡ legacy_prefix (set_of low) None }
+fn without_rex(seen: LegacyPrefixes) -> Front
+    ensures { prefix_of result ≡ legacy_prefix (set_in seen) None }
 {
     Front {
-        numbers: PrefixNumbers {
-            low,
-            high: 1,
-            has_high: false,
-            w: 0,
-            is_free: true,
-        },
+        numbers: PrefixNumbers::legacy(seen, None),
         has_rex: false,
         r: false,
         x: false,
@@ -102,19 +53,13 @@ fn without_rex(low: u8) -> Front
 
 /// A VEX prefix of these bits, none of them inverted, with vvvv, L and pp in its last byte.
 #[inline(always)]
-fn with_vex(r: bool, x: bool, b: bool, map: u8, w: u8, last: u8) -> Front
-    requires { map < 4 }
-    ensures { prefix_of result ≡ vex_prefix (record { w = w; r = from_bool r; x = from_bool x; b = from_bool b; vvvv = 15 - last / 8 % 16; l = last / 4 % 2; pp = last % 4; map = map }) }
+fn with_vex(r: bool, x: bool, b: bool, map: u8, w: bool, last: u8) -> Front
+    requires { is_vex_map map ≡ true }
+    ensures { prefix_of result ≡ vex_prefix (record { w = from_bool w; r = from_bool r; x = from_bool x; b = from_bool b; vvvv = 15 - last / 8 % 16; l = last / 4 % 2; pp = last % 4; map = map }) }
 {
     let vvvv = 15 - last / 8 % 16;
     Front {
-        numbers: PrefixNumbers {
-            low: 1 + 2 * (last % 4) + 8 * map,
-            high: last / 4 % 2,
-            has_high: true,
-            w,
-            is_free: vvvv == 0,
-        },
+        numbers: PrefixNumbers::vex(last % 4, map, last / 4 % 2, w, vvvv),
         has_rex: false,
         r,
         x,
@@ -128,7 +73,7 @@ fn with_vex(r: bool, x: bool, b: bool, map: u8, w: u8, last: u8) -> Front
 fn two_byte(second: u8) -> Front
     ensures { prefix_of result ≡ vex_prefix (vex_two_byte second) }
 {
-    with_vex(!bit(second, 7), false, false, 1, 0, second)
+    with_vex(!bit(second, 7), false, false, 1, false, second)
 }
 
 /// A VEX prefix of three bytes.
@@ -142,7 +87,7 @@ fn three_byte(second: u8, third: u8) -> Front
         !bit(second, 6),
         !bit(second, 5),
         second % 32,
-        third / 128,
+        bit(third, 7),
         third,
     )
 }
@@ -173,11 +118,10 @@ fn vex(first: u8, rest: &[u8]) -> Option<(Front, &[u8])>
 
 /// No legacy prefix was seen, and a VEX prefix begins with this byte, C4 or C5.
 #[inline(always)]
-fn begins_with_vex(low: u8, first: u8) -> bool
-    requires { IsSet low }
-    ensures { result ≡ (is_no_legacy (set_of low) && begins_vex (first ∷ [])) }
+fn begins_with_vex(seen: LegacyPrefixes, first: u8) -> bool
+    ensures { result ≡ (is_no_legacy (set_in seen) && begins_vex (first ∷ [])) }
 {
-    low == 0 && first / 2 == 0x62
+    seen.is_empty() && first / 2 == 0x62
 }
 
 /// What stands at the front, and what follows it; VEX only where no legacy prefix stands before it.
@@ -185,15 +129,15 @@ fn begins_with_vex(low: u8, first: u8) -> bool
 pub(crate) fn read_front(bytes: &[u8]) -> Option<(Front, &[u8])>
     ensures { option_map (λ r. (prefix_of r.0, r.1.now)) result ≡ prefix_at bytes.now }
 {
-    let (low, rest) = legacy(bytes);
+    let (seen, rest) = LegacyPrefixes::read(bytes);
     let Some((first, behind)) = next(rest) else {
-        return Some((without_rex(low), rest));
+        return Some((without_rex(seen), rest));
     };
     if first / 16 == 4 {
-        return Some((with_rex(low, first), behind));
+        return Some((with_rex(seen, first), behind));
     }
-    if begins_with_vex(low, first) {
+    if begins_with_vex(seen, first) {
         return vex(first, behind);
     }
-    Some((without_rex(low), rest))
+    Some((without_rex(seen), rest))
 }

@@ -12,7 +12,7 @@ mod non_rsp;
 pub use non_rsp::NonRspGpr;
 
 /// How many bits of a general register an instruction uses.
-#[derive(Clone, Copy, Debug)]
+#[derive(Clone, Copy, Debug, PartialEq)]
 pub enum Size {
     /// 8 bits.
     Byte,

@@ -3,6 +3,7 @@
 ghost use Rattle.std.specs.Prelude.{◌≡◌, ◌↔◌, ℕ, true};
 ghost use Rattle.cax64_register.specs.declared.fixed.Fixed.{Fixed};
 ghost use Rattle.cax64_register.specs.declared.gpr.Gpr.{Gpr};
+ghost use Rattle.cax64_register.specs.declared.gpr.Size.{Size};
 ghost use Rattle.cax64_register.specs.declared.gpr.non_rsp.NonRspGpr.{NonRspGpr};
 
 use crate::gpr::enc::{
@@ -12,7 +13,7 @@ use crate::xmm::enc::{
     XMM0, XMM1, XMM2, XMM3, XMM4, XMM5, XMM6, XMM7, XMM8, XMM9, XMM10, XMM11, XMM12, XMM13, XMM14,
     XMM15,
 };
-use crate::{AsReg, Fixed, Gpr, NonRspGpr};
+use crate::{AsReg, Fixed, Gpr, NonRspGpr, Size};
 
 /// Operands compare equal where their registers do, as the family says, and nowhere else; and then they are the same.
 pub fn laws_of_equality<R: AsReg, const E: u8>()
@@ -29,6 +30,11 @@ pub fn laws_of_equal_numbers<const E: u8>()
     ensures general { (a b : Gpr ℕ) → (⟦<Gpr<u8> as PartialEq>⟧.eq a b ≡ true) ↔ (a ≡ b) }
     ensures index { (a b : NonRspGpr ℕ) → (⟦<NonRspGpr<u8> as PartialEq>⟧.eq a b ≡ true) ↔ (a ≡ b) }
     ensures fixed { (a b : Fixed ℕ E) → (⟦<Fixed<u8, E> as PartialEq>⟧.eq a b ≡ true) ↔ (a ≡ b) }
+{}
+
+/// Sizes compare equal where they are equal, and nowhere else.
+pub fn laws_of_equal_sizes()
+    ensures { (a b : Size) → (⟦<Size as PartialEq>⟧.eq a b ≡ true) ↔ (a ≡ b) }
 {}
 
 /// Each constant of a general register is its number. (Intel SDM, volume 2, table 3-1.)

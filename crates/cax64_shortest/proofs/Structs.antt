@@ -11,10 +11,11 @@ use Rattle.cax64_machine_code.specs.declared.row.Row.{Row}
 use Rattle.cax64_operand.specs.Family.{Family}
 use Rattle.cax64_operand.specs.NopRow.{nop_row}
 use Rattle.cax64_operand.specs.OperandList.{list_of, nop_of}
-use Rattle.cax64_operand.specs.Shape.{HasShape}
+use Rattle.cax64_operand.specs.Signature.{HasSignature}
 use Rattle.cax64_operand.specs.declared.nop.Nop.{Nop}
 use Rattle.cax64_operand.specs.declared.nop.Nop.TheVariants.{One, Two, Three, Four, Five, Six, Seven, Eight, Nine}
 use Rattle.cax64_operand.specs.declared.operand.Operands.{Operands}
+use Rattle.cax64_operand.proofs.Shapes.{has_shape}
 use Rattle.cax64_sink.specs.Sink.{State}
 use Rattle.cax64_sink.specs.declared.SinkError.{SinkError}
 use Rattle.cax64_encoder.specs.Instruction.{AddsInstruction}
@@ -43,16 +44,16 @@ len_is row None m S e shape h = rw e refl
 len_is row (Some nop) m S e shape h = nop_len nop h ∙ ap (λ (r : Row). len_of (nop_parts r nop)) (sym shape)
 
 -- no string of bytes that is read as the instruction is shorter
-pub shortest : {R A B C D E F : Type 0} (f : Family A B C D E F) (row : Row) (operands : Operands R A B C D E F) (offsets : ℕ → Option ℤ) (bytes : List ℕ) (reading : Reading) → HasShape row operands → IfSome (meant_of f row operands offsets).exact (λ very. length very ≤ 3) → IsBytes bytes → read bytes ≡ Some reading → Same reading (meant_of f row operands offsets).parts → len (meant_of f row operands offsets) ≤ length bytes
-shortest f row operands offsets bytes reading shape short hb h same =
-    let is = len_is row (nop_of operands) (operands_meant f.read_gpr row (roles_of f (list_of operands)) offsets) _ refl shape short in
+pub shortest : {R A B C D E F : Type 0} (f : Family A B C D E F) (row : Row) (operands : Operands R A B C D E F) (offsets : ℕ → Option ℤ) (bytes : List ℕ) (reading : Reading) → HasSignature row operands → IfSome (meant_of f row operands offsets).exact (λ very. length very ≤ 3) → IsBytes bytes → read bytes ≡ Some reading → Same reading (meant_of f row operands offsets).parts → len (meant_of f row operands offsets) ≤ length bytes
+shortest f row operands offsets bytes reading signature short hb h same =
+    let is = len_is row (nop_of operands) (operands_meant f.read_gpr row (roles_of f (list_of operands)) offsets) _ refl (has_shape row operands signature) short in
     let least = string_least (meant_of f row operands offsets).parts bytes reading hb h same in
     rw is least
 
 -- the same of what is meant by row and operands
-pub meant_shortest : {R A B C D E F : Type 0} (f : Family A B C D E F) (row : Row) (operands : Operands R A B C D E F) (offsets : ℕ → Option ℤ) (meant : Meant A) (bytes : List ℕ) (reading : Reading) → meant ≡ meant_of f row operands offsets → HasShape row operands → IfSome meant.exact (λ very. length very ≤ 3) → IsBytes bytes → read bytes ≡ Some reading → Same reading meant.parts → len meant ≤ length bytes
+pub meant_shortest : {R A B C D E F : Type 0} (f : Family A B C D E F) (row : Row) (operands : Operands R A B C D E F) (offsets : ℕ → Option ℤ) (meant : Meant A) (bytes : List ℕ) (reading : Reading) → meant ≡ meant_of f row operands offsets → HasSignature row operands → IfSome meant.exact (λ very. length very ≤ 3) → IsBytes bytes → read bytes ≡ Some reading → Same reading meant.parts → len meant ≤ length bytes
 meant_shortest {A = A} f row operands offsets meant bytes reading e =
-    let P : Meant A → Type 0 = λ m. HasShape row operands → IfSome m.exact (λ very. length very ≤ 3) → IsBytes bytes → read bytes ≡ Some reading → Same reading m.parts → len m ≤ length bytes in
+    let P : Meant A → Type 0 = λ m. HasSignature row operands → IfSome m.exact (λ very. length very ≤ 3) → IsBytes bytes → read bytes ≡ Some reading → Same reading m.parts → len m ≤ length bytes in
     subst P (sym e) (shortest f row operands offsets bytes reading)
 
 -- what was added has as many bytes as the instruction has

@@ -24,7 +24,8 @@ pub fn len_is_least()
 
 /// No string of bytes that is read as an instruction is shorter than what [`Instruction::encode`] adds for it, whatever
 /// its registers are and whatever offsets a sink knows. The no-operations of four to nine bytes, whose length is what
-/// they are asked for, are left out. It asks for the row, since the shape of the operands comes with it, and does nothing else.
+/// they are asked for, are left out. It asks for the row, since with it comes that the operands have the row's signature,
+/// and does nothing else.
 pub fn whole_instruction_is_shortest<I: Instruction>(inst: &I)
     ensures { (offsets : ℕ → Option ℤ) (bytes : List ℕ) (reading : Reading)
         → IfSome (I.meant inst.now offsets).exact (λ very. length very ≤ 3)

@@ -1,5 +1,4 @@
 pub mod Equality
-pub mod Offsets
 pub mod Patches
 pub mod Refusals
 pub mod Results

@@ -5,9 +5,12 @@ ghost use Rattle.std.specs.Int.{to_le_bytes, w32};
 ghost use Rattle.cax64_sink.specs.Room.{HasRoom, FallsBy, count};
 
 use crate::known::Known;
-use crate::vec::{grow_ahead, make_room};
+use crate::vec::{grow_ahead, make_first_room, make_room};
 use crate::{CodeSink, DeferredTarget, KnownOffset, Notice, SinkError, TrapCode};
 use std::alloc::Allocator;
+
+/// For how many notices a first block is, as `Vec::push` would ask for it.
+const FIRST_NOTICES: usize = 4;
 
 /// Keeps bytes and notices, and knows the offsets that were set.
 #[derive(Drop)]
@@ -21,6 +24,7 @@ impl<A: Allocator + Copy> Recorder<A> {
     ghost use Rattle.cax64_sink.specs.Recorder.{recorder_state};
 
     /// An empty recorder that knows no offset. Takes no memory.
+    #[inline(always)]
     pub fn new(alloc: A) -> Self
         ensures bytes { (recorder_state result).bytes ≡ [] }
         ensures notices { (recorder_state result).notices ≡ [] }
@@ -103,6 +107,20 @@ impl<A: Allocator> Recorder<A> {
             grow_ahead(&mut self.code, bytes)?;
         }
         make_room(&mut self.told, notices)
+    }
+
+    /// Makes room for a notice, and only then for so many more bytes: so what these take is never what the notice lacks.
+    /// Where one of both is refused, there is as much room as before.
+    pub fn reserve_first(&mut self, bytes: usize)
+        ensures bytes { (recorder_state self.new).bytes ≡ (recorder_state self.old).bytes }
+        ensures notices { (recorder_state self.new).notices ≡ (recorder_state self.old).notices }
+        ensures offsets { (recorder_state self.new).offsets ≡ (recorder_state self.old).offsets }
+        ensures byte_room_stays { FallsBy (recorder_state self.old).byte_room (recorder_state self.new).byte_room 0 }
+        ensures notice_room_stays { FallsBy (recorder_state self.old).notice_room (recorder_state self.new).notice_room 0 }
+    {
+        if make_first_room(&mut self.told, FIRST_NOTICES, 1).is_ok() {
+            let _ = make_first_room(&mut self.code, bytes, bytes);
+        }
     }
 
     /// Forgets bytes and notices, and keeps the offsets that were set and all memory.

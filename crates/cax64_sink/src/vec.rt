@@ -25,6 +25,30 @@ pub(crate) fn make_room<T, A: Allocator>(vec: &mut Vec<T, A>, count: usize) -> R
     vec.reserve_exact(count).map_err(|_| SinkError::NoMemory)
 }
 
+/// Makes room for so many more items. Where the list has no block yet it asks for one of exactly `first`, and where that is
+/// refused for one of `count`: which is what growing would ask for, without working it out.
+#[inline(always)]
+pub(crate) fn make_first_room<T, A: Allocator>(
+    vec: &mut Vec<T, A>,
+    first: usize,
+    count: usize,
+) -> Result<(), SinkError>
+    requires { count ≤ first }
+    ensures items { vec.new.items ≡ vec.old.items }
+    ensures room { OnOk result (count ≤ vec_capacity vec.new - vec_len vec.new) }
+    ensures capacity { vec_capacity vec.old ≤ vec_capacity vec.new }
+    ensures succeeds { count ≤ vec_capacity vec.old - vec_len vec.old → IsOk result }
+    ensures no_memory { IfErr result (λ e. e ≡ SinkError.NoMemory) }
+{
+    if vec.capacity() > 0 {
+        return make_room(vec, count);
+    }
+    if vec.reserve_exact(first).is_ok() {
+        return Ok(());
+    }
+    vec.reserve_exact(count).map_err(|_| SinkError::NoMemory)
+}
+
 /// Makes room for so many more items where as many are asked for again and again. A first block is for twice as many, which
 /// is what the second call would make of it: so no other call finds less memory.
 #[inline(never)]

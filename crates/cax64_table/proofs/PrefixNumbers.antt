@@ -12,21 +12,29 @@ use Rattle.cax64_machine_code.specs.declared.line.PrefixField.TheVariants.{Legac
 use Rattle.cax64_machine_code.specs.declared.line.VvvvField.TheVariants.{VvvvRegister, Stored1111}
 use Rattle.cax64_machine_code.specs.declared.row.Row.{Row}
 use Rattle.cax64_machine_code.specs.declared.row.Row.TheVariants.{lock_addb_mi}
-use Rattle.cax64_table.specs.Matching.{numbers_fit}
+use Rattle.cax64_table.specs.LegacyNumber.{set_number}
+use Rattle.cax64_table.specs.Matching.{low_in, numbers_fit}
 use Rattle.cax64_table.specs.Packed.{bits_at, flag_at, number_of, entry_of, prefix_field, w_field}
-use Rattle.cax64_table.specs.PrefixNumbers.{set_number, map_number, numbers_of}
+use Rattle.cax64_table.specs.PrefixNumbers.{map_number, numbers_of, AreNumbers}
+use Rattle.cax64_table.specs.declared.prefix.PrefixNumbers.{PrefixNumbers}
 use Rattle.cax64_table.proofs.Table.{entry_is}
 
--- The five bits of a row that are compared with those of a prefix are its set of legacy prefixes, or pp and map.
+-- The bits of a row that are compared with those of a prefix are its set of legacy prefixes, or pp and map.
 
 low_of : PrefixField → ℕ
 low_of (LegacyField set rex) = set_number set
-low_of (VexField pp map l vvvv) = 1 + 2 * pp + 8 * map
+low_of (VexField pp map l vvvv) = pp + 16 * map
 
-low_is : (row : Row) → bits_at (entry_of row) 6 5 ≡ low_of (prefix_field (entry_of row))
+low_is : (row : Row) → low_in (entry_of row) ≡ low_of (prefix_field (entry_of row))
 unfolding low_of number_of
 low_is lock_addb_mi = refl
 low_is _ = refl
+
+-- a row's map of VEX has a number above 0
+has_map : (row : Row) → (not (flag_at (entry_of row) 6) || nat_lt 0 (bits_at (entry_of row) 9 2)) ≡ true
+unfolding number_of
+has_map lock_addb_mi = refl
+has_map _ = refl
 
 pub equal : (a b : ℕ) → (a == b) ≡ true → a ≡ b
 equal a b h = grind (arith, nat_tests)
@@ -77,7 +85,7 @@ same_set a b c d e f g h =
     let lg = bit_below g in
     let lh = bit_below h in
     same_if _ _
-    (λ t. let n : 2 * from_bool a + 4 * from_bool b + 8 * from_bool c + 16 * from_bool d ≡ 2 * from_bool e + 4 * from_bool f + 8 * from_bool g + 16 * from_bool h = equal _ _ t in
+    (λ t. let n : from_bool a + 2 * from_bool b + 4 * from_bool c + 8 * from_bool d ≡ from_bool e + 2 * from_bool f + 4 * from_bool g + 8 * from_bool h = equal _ _ t in
     let p : a ≡ e = bit_same a e (omega arith) in
     let q : b ≡ f = bit_same b f (omega arith) in
     let r : c ≡ g = bit_same c g (omega arith) in
@@ -88,55 +96,71 @@ same_set a b c d e f g h =
     let w = and_parts (same_bool c g) (same_bool d h) v.1 in
     rw (same_are a e u.0, same_are b f v.0, same_are c g w.0, same_are d h w.1) (itself _))
 
-set_half : (a b c d : Bool) → (k : ℕ) × (k < 16) × (set_number (record { lock = a; operand_size = b; repne = c; rep = d }) ≡ 2 * k)
-set_half a b c d =
+set_below : (a b c d : Bool) → set_number (record { lock = a; operand_size = b; repne = c; rep = d }) < 16
+set_below a b c d =
     let la = bit_below a in
     let lb = bit_below b in
     let lc = bit_below c in
     let ld = bit_below d in
-    (from_bool a + 2 * from_bool b + 4 * from_bool c + 8 * from_bool d, omega arith, omega arith)
+    omega arith
 
 -- pp and map are the same where their number is
 
-map_cases : (pp map : ℕ) (t : Bool) → (nat_lt pp 4 && nat_lt map 4) ≡ t → (p m : ℕ) → p < 4 → m < 4 → (1 + 2 * p + 8 * m == (if t then (1 + 2 * pp + 8 * map) else 32)) ≡ ((pp == p) && (map == m))
-map_cases pp map true e p m a b =
-    let s = and_parts (nat_lt pp 4) (nat_lt map 4) e in
+lt : (a b : ℕ) → a < b → nat_lt a b ≡ true
+lt a b h = grind (arith, nat_tests)
+
+map_cases : (pp map : ℕ) (t : Bool) → (nat_lt pp 4 && (nat_lt 0 map && nat_lt map 4)) ≡ t → (p m : ℕ) → p < 4 → 0 < m → m < 4 → (p + 16 * m == (if t then (pp + 16 * map) else 63) % 64) ≡ ((pp == p) && (map == m))
+map_cases pp map true e p m a z b =
+    let s = and_parts (nat_lt pp 4) (nat_lt 0 map && nat_lt map 4) e in
+    let t = and_parts (nat_lt 0 map) (nat_lt map 4) s.1 in
     let below_pp : pp < 4 = ltb-true pp 4 s.0 in
-    let below_map : map < 4 = ltb-true map 4 s.1 in
+    let below_map : map < 4 = ltb-true map 4 t.1 in
     same_if _ _
-    (λ h. let q : 1 + 2 * p + 8 * m ≡ 1 + 2 * pp + 8 * map = equal _ _ h in
+    (λ h. let q : p + 16 * m ≡ (pp + 16 * map) % 64 = equal _ _ h in
     let first : pp ≡ p = omega arith in
     let second : map ≡ m = omega arith in
     rw (first, second, itself p, itself m) refl)
     (λ h. let s = and_parts (pp == p) (map == m) h in
     let first : pp ≡ p = equal pp p s.0 in
     let second : map ≡ m = equal map m s.1 in
-    rw (first, second) (itself (1 + 2 * p + 8 * m)))
-map_cases pp map false e p m a b =
-    let far : (1 + 2 * p + 8 * m == 32) ≡ false = not_equal _ _ (λ h. omega arith) in
+    let small : (p + 16 * m) % 64 ≡ p + 16 * m = omega arith in
+    rw (first, second, small) (itself (p + 16 * m)))
+map_cases pp map false e p m a z b =
+    let far : (p + 16 * m == 63 % 64) ≡ false = not_equal _ _ (λ h. omega arith) in
     same_if _ _
     (λ h. let no : false ≡ true = sym far ∙ h in cc)
     (λ h. let s = and_parts (pp == p) (map == m) h in
     let first : pp ≡ p = equal pp p s.0 in
     let second : map ≡ m = equal map m s.1 in
-    let both : (nat_lt pp 4 && nat_lt map 4) ≡ true = rw (first, second, below p a, below m b) refl in
-    let no : false ≡ true = sym e ∙ both in
+    let all : (nat_lt pp 4 && (nat_lt 0 map && nat_lt map 4)) ≡ true = rw (first, second, lt p 4 a, lt 0 m z, lt m 4 b) refl in
+    let no : false ≡ true = sym e ∙ all in
     cc)
-  where
-    below : (n : ℕ) → n < 4 → nat_lt n 4 ≡ true
-    below n h = grind (arith, nat_tests)
 
-map_same : (pp map p m : ℕ) → p < 4 → m < 4 → (1 + 2 * p + 8 * m == map_number pp map) ≡ ((pp == p) && (map == m))
-map_same pp map p m a b = map_cases pp map (nat_lt pp 4 && nat_lt map 4) refl p m a b
+map_same : (pp map p m : ℕ) → p < 4 → 0 < m → m < 4 → (p + 16 * m == map_number pp map % 64) ≡ ((pp == p) && (map == m))
+map_same pp map p m a z b = map_cases pp map (nat_lt pp 4 && (nat_lt 0 map && nat_lt map 4)) refl p m a z b
 
 -- a set of legacy prefixes is no map
 
-set_no_map : (a b c d : Bool) (pp map : ℕ) (t : Bool) → (set_number (record { lock = a; operand_size = b; repne = c; rep = d }) == (if t then (1 + 2 * pp + 8 * map) else 32)) ≡ false
-set_no_map a b c d pp map true = let k = set_half a b c d in rw k.2 (not_equal _ _ (λ h. omega arith))
-set_no_map a b c d pp map false = let k = set_half a b c d in rw k.2 (not_equal _ _ (λ h. let below = k.1 in omega arith))
+set_no_map : (a b c d : Bool) (pp map : ℕ) (t : Bool) → (nat_lt pp 4 && (nat_lt 0 map && nat_lt map 4)) ≡ t → (set_number (record { lock = a; operand_size = b; repne = c; rep = d }) == (if t then (pp + 16 * map) else 63) % 64) ≡ false
+set_no_map a b c d pp map true e =
+    let s = and_parts (nat_lt pp 4) (nat_lt 0 map && nat_lt map 4) e in
+    let t = and_parts (nat_lt 0 map) (nat_lt map 4) s.1 in
+    let below_pp : pp < 4 = ltb-true pp 4 s.0 in
+    let above : 0 < map = ltb-true 0 map t.0 in
+    let below_map : map < 4 = ltb-true map 4 t.1 in
+    let below = set_below a b c d in
+    not_equal _ _ (λ h. absurd (omega arith))
+set_no_map a b c d pp map false e = let below = set_below a b c d in not_equal _ _ (λ h. absurd (omega arith))
 
-map_no_set : (a b c d : Bool) (p m : ℕ) → (1 + 2 * p + 8 * m == set_number (record { lock = a; operand_size = b; repne = c; rep = d })) ≡ false
-map_no_set a b c d p m = let k = set_half a b c d in rw k.2 (not_equal _ _ (λ h. omega arith))
+map_no_set : (a b c d : Bool) (p m : ℕ) → 0 < m → (p + 16 * m == set_number (record { lock = a; operand_size = b; repne = c; rep = d }) % 64) ≡ false
+map_no_set a b c d p m z = let below = set_below a b c d in not_equal _ _ (λ h. absurd (omega arith))
+
+-- sets are the same where their numbers are, in the lower bits too
+same_set_in : (a b c d e f g h : Bool) → (set_number (record { lock = a; operand_size = b; repne = c; rep = d }) == set_number (record { lock = e; operand_size = f; repne = g; rep = h }) % 64) ≡ same_legacy (record { lock = a; operand_size = b; repne = c; rep = d }) (record { lock = e; operand_size = f; repne = g; rep = h })
+same_set_in a b c d e f g h =
+    let below = set_below e f g h in
+    let small : set_number (record { lock = e; operand_size = f; repne = g; rep = h }) % 64 ≡ set_number (record { lock = e; operand_size = f; repne = g; rep = h }) = omega arith in
+    rw small (same_set a b c d e f g h)
 
 -- each part of a row's numbers
 
@@ -180,21 +204,27 @@ regrouped_vex false b c d e = refl
 below_four : (n : ℕ) → n % 2 ^ 2 < 4
 below_four n = omega arith
 
-fit_by : (packed : ℕ) (p : Prefix) (t : Bool) → flag_at packed 6 ≡ t → bits_at packed 6 5 ≡ low_of (prefix_field packed) → numbers_fit (numbers_of p) packed ≡ (field_matches (prefix_field packed) p && w_matches (w_field packed) (w_of p))
+above_none : (t : Bool) (m : ℕ) → (not t || nat_lt 0 m) ≡ true → t ≡ true → 0 < m
+above_none true m h e = ltb-true 0 m h
+above_none false m h e = cc
+
+fit_by : (packed : ℕ) (p : Prefix) (t : Bool) → flag_at packed 6 ≡ t → low_in packed ≡ low_of (prefix_field packed) → (t ≡ true → 0 < bits_at packed 9 2) → from_bool (numbers_of p).w ≡ w_of p → numbers_fit (numbers_of p) packed ≡ (field_matches (prefix_field packed) p && w_matches (w_field packed) (w_of p))
 unfolding low_of
-fit_by packed (legacy_prefix found rex) true t l =
-    rw (l, t, map_no_set found.lock found.operand_size found.repne found.rep (bits_at packed 7 2) (bits_at packed 9 2)) refl
-fit_by packed (legacy_prefix found rex) false t l =
-    rw (l, t, same_set (flag_at packed 7) (flag_at packed 8) (flag_at packed 9) (flag_at packed 10) found.lock found.operand_size found.repne found.rep, exchanged (not (has_rex (legacy_prefix found rex))) (flag_at packed 11), ← w_same (bits_at packed 4 2) (w_of (legacy_prefix found rex)))
+fit_by packed (legacy_prefix found rex) true t l m w =
+    rw (l, t, map_no_set found.lock found.operand_size found.repne found.rep (bits_at packed 7 2) (bits_at packed 9 2) (m refl)) refl
+fit_by packed (legacy_prefix found rex) false t l m w =
+    rw (l, t, w, same_set_in (flag_at packed 7) (flag_at packed 8) (flag_at packed 9) (flag_at packed 10) found.lock found.operand_size found.repne found.rep, exchanged (not (has_rex (legacy_prefix found rex))) (flag_at packed 11), ← w_same (bits_at packed 4 2) (w_of (legacy_prefix found rex)))
     (regrouped (same_legacy (record { lock = flag_at packed 7; operand_size = flag_at packed 8; repne = flag_at packed 9; rep = flag_at packed 10 }) found) _ true _)
-fit_by packed (vex_prefix found) true t l =
-    rw (l, t, map_same found.pp found.map (bits_at packed 7 2) (bits_at packed 9 2) (below_four _) (below_four _), vvvv_same (flag_at packed 12) found.vvvv, equal_exchanged (bits_at packed 11 1) found.l, ← w_same (bits_at packed 4 2) found.w)
+fit_by packed (vex_prefix found) true t l m w =
+    rw (l, t, w, map_same found.pp found.map (bits_at packed 7 2) (bits_at packed 9 2) (below_four _) (m refl) (below_four _), vvvv_same (flag_at packed 12) found.vvvv, equal_exchanged (bits_at packed 11 1) found.l, ← w_same (bits_at packed 4 2) found.w)
     (regrouped_vex (found.pp == bits_at packed 7 2) (found.map == bits_at packed 9 2) (found.l == bits_at packed 11 1) (vvvv_matches (if flag_at packed 12 then VvvvRegister else Stored1111) found.vvvv) ((bits_at packed 4 2 == 2) || (bits_at packed 4 2 == found.w)))
-fit_by packed (vex_prefix found) false t l =
-    rw (l, t, set_no_map (flag_at packed 7) (flag_at packed 8) (flag_at packed 9) (flag_at packed 10) found.pp found.map _) refl
+fit_by packed (vex_prefix found) false t l m w =
+    rw (l, t, set_no_map (flag_at packed 7) (flag_at packed 8) (flag_at packed 9) (flag_at packed 10) found.pp found.map _ refl) refl
 
 -- the numbers of a prefix are those of a row exactly where the row asks for it
-pub numbers_fit_row : (row : Row) (p : Prefix) → numbers_fit (numbers_of p) (entry_of row) ≡ prefix_matches (line_of row) p
-numbers_fit_row row p =
-    fit_by (entry_of row) p (flag_at (entry_of row) 6) refl (low_is row)
+pub numbers_fit_row : (row : Row) (p : Prefix) (numbers : PrefixNumbers) → AreNumbers numbers p → numbers_fit numbers (entry_of row) ≡ prefix_matches (line_of row) p
+numbers_fit_row row p numbers h =
+    let w : from_bool (numbers_of p).w ≡ w_of p = sym (ap (λ (n : PrefixNumbers). from_bool n.w) h.are) ∙ h.w_is in
+    ap (λ (n : PrefixNumbers). numbers_fit n (entry_of row)) h.are
+    ∙ fit_by (entry_of row) p (flag_at (entry_of row) 6) refl (low_is row) (above_none (flag_at (entry_of row) 6) (bits_at (entry_of row) 9 2) (has_map row)) w
     ∙ ap (λ (line : Line). prefix_matches line p) (entry_is row)

@@ -1,7 +1,6 @@
-use Rattle.std.proofs.Common.{◌≡◌, ℕ, ◌<◌, List, [], ◌∷◌, refl, ap, sym, ◌∙◌, Bool, true, false, Option, Some, None, arith, min}
-use Rattle.std.proofs.lemmas.Bool.{and_parts, ltb-true}
-use Rattle.std.proofs.lemmas.Bool.Decides.{nat_tests}
-use Rattle.std.specs.Prelude.{◌&&◌, ◌||◌, ◌==◌, not, nat_lt, IfSome}
+use Rattle.std.proofs.Common.{◌≡◌, ℕ, ◌%◌, List, [], ◌∷◌, refl, ap, sym, ◌∙◌, Bool, true, false, Option, Some, None}
+use Rattle.std.proofs.lemmas.Bool.{and_parts}
+use Rattle.std.specs.Prelude.{◌&&◌, ◌||◌, ◌==◌, not, IfSome}
 use Rattle.cax64_machine_code.specs.Line.{digit_matches, prefix_matches}
 use Rattle.cax64_machine_code.specs.Prefix.{Prefix}
 use Rattle.cax64_machine_code.specs.Rows.{line_of}
@@ -10,10 +9,9 @@ use Rattle.cax64_machine_code.specs.declared.line.Opcode.{Opcode}
 use Rattle.cax64_machine_code.specs.declared.line.TailField.{TailField}
 use Rattle.cax64_machine_code.specs.declared.line.TailField.TheVariants.{NoTail, Modrm}
 use Rattle.cax64_machine_code.specs.declared.row.Row.{Row}
-use Rattle.cax64_machine_code.specs.declared.row.Row.TheVariants.{lock_addb_mi}
-use Rattle.cax64_table.specs.Matching.{is_wanted, key_fits, numbers_fit, others_fit, stands}
-use Rattle.cax64_table.specs.Packed.{bits_at, flag_at, entry_of, number_of, tail_field}
-use Rattle.cax64_table.specs.PrefixNumbers.{numbers_of}
+use Rattle.cax64_table.specs.Matching.{is_wanted, key_fits, low_in, takes_w, numbers_fit, others_fit, stands}
+use Rattle.cax64_table.specs.Packed.{bits_at, flag_at, entry_of, tail_field}
+use Rattle.cax64_table.specs.PrefixNumbers.{AreNumbers}
 use Rattle.cax64_table.specs.Slot.{InSlot}
 use Rattle.cax64_table.specs.declared.prefix.PrefixNumbers.{PrefixNumbers}
 use Rattle.cax64_table.proofs.PrefixNumbers.{numbers_fit_row}
@@ -25,13 +23,13 @@ fits prefix rest row = prefix_matches (line_of row) prefix && digit_matches (lin
 
 -- What is wanted of a packed row of a slot is that the row fits.
 
-wanted_is : (p : Prefix) (rest : List ℕ) (row : Row) → digit_matches (line_of row).tail rest ≡ stands (line_of row).tail rest → is_wanted (numbers_of p) rest row ≡ fits p rest row
-wanted_is p rest row d =
-    ap (λ (line : Line). numbers_fit (numbers_of p) (entry_of row) && stands line.tail rest) (entry_is row)
-    ∙ rw (numbers_fit_row row p, d) refl
+wanted_is : (p : Prefix) (numbers : PrefixNumbers) (rest : List ℕ) (row : Row) → AreNumbers numbers p → digit_matches (line_of row).tail rest ≡ stands (line_of row).tail rest → is_wanted numbers rest row ≡ fits p rest row
+wanted_is p numbers rest row n d =
+    ap (λ (line : Line). numbers_fit numbers (entry_of row) && stands line.tail rest) (entry_is row)
+    ∙ rw (numbers_fit_row row p numbers n, d) refl
 
-pub found_fits : (p : Prefix) (o : Opcode) (rest : List ℕ) (row : Row) → InSlot o rest row → is_wanted (numbers_of p) rest row ≡ true → fits p rest row ≡ true
-found_fits p o rest row s h = sym (wanted_is p rest row s.digit_is) ∙ h
+pub found_fits : (p : Prefix) (numbers : PrefixNumbers) (o : Opcode) (rest : List ℕ) (row : Row) → AreNumbers numbers p → InSlot o rest row → is_wanted numbers rest row ≡ true → fits p rest row ≡ true
+found_fits p numbers o rest row n s h = sym (wanted_is p numbers rest row n s.digit_is) ∙ h
 
 matched_stands : (tail : TailField) (rest : List ℕ) → digit_matches tail rest ≡ true → stands tail rest ≡ true
 matched_stands NoTail rest h = refl
@@ -42,36 +40,25 @@ last_false : (t : Bool) → (t && false) ≡ false
 last_false true = refl
 last_false false = refl
 
-unfit : (p : Prefix) (rest : List ℕ) (row : Row) (t : Bool) → digit_matches (line_of row).tail rest ≡ t → (digit_matches (line_of row).tail rest ≡ true → is_wanted (numbers_of p) rest row ≡ false) → fits p rest row ≡ false
-unfit p rest row false d h = rw d (last_false (prefix_matches (line_of row) p))
-unfit p rest row true d h = sym (wanted_is p rest row (d ∙ sym (matched_stands (line_of row).tail rest d))) ∙ h d
+unfit : (p : Prefix) (numbers : PrefixNumbers) (rest : List ℕ) (row : Row) (t : Bool) → AreNumbers numbers p → digit_matches (line_of row).tail rest ≡ t → (digit_matches (line_of row).tail rest ≡ true → is_wanted numbers rest row ≡ false) → fits p rest row ≡ false
+unfit p numbers rest row false n d h = rw d (last_false (prefix_matches (line_of row) p))
+unfit p numbers rest row true n d h = sym (wanted_is p numbers rest row n (d ∙ sym (matched_stands (line_of row).tail rest d))) ∙ h d
 
-pub none_fits : (p : Prefix) (o : Opcode) (rest : List ℕ) → ((row : Row) → (line_of row).opcode ≡ o → digit_matches (line_of row).tail rest ≡ true → is_wanted (numbers_of p) rest row ≡ false) → (row : Row) → (line_of row).opcode ≡ o → fits p rest row ≡ false
-none_fits p o rest h row e = unfit p rest row (digit_matches (line_of row).tail rest) refl (h row e)
+pub none_fits : (p : Prefix) (numbers : PrefixNumbers) (o : Opcode) (rest : List ℕ) → AreNumbers numbers p → ((row : Row) → (line_of row).opcode ≡ o → digit_matches (line_of row).tail rest ≡ true → is_wanted numbers rest row ≡ false) → (row : Row) → (line_of row).opcode ≡ o → fits p rest row ≡ false
+none_fits p numbers o rest n h row e = unfit p numbers rest row (digit_matches (line_of row).tail rest) n refl (h row e)
 
 -- A row that is wanted is that of its key, and what the key leaves open fits.
 
-takes_w : (row : Row) → nat_lt (bits_at (entry_of row) 4 2) 3 ≡ true
-unfolding number_of
-takes_w lock_addb_mi = refl
-takes_w _ = refl
-
-w_split : (b w : ℕ) → b < 3 → ((b == 2) || (b == w)) ≡ true → (((b == 2) || (b == min w 1)) && (nat_lt w 2 || (b == 2))) ≡ true
-w_split b w l h = grind (arith, nat_tests)
-
-regrouped : (a b c d e f : Bool) → (a && (b && (c && d))) ≡ true → (d ≡ true → (e && f) ≡ true) → ((a && e) && (b && (c && f))) ≡ true
-regrouped true true true true true true h g = refl
-regrouped true true true true true false h g = g refl
-regrouped true true true true false f h g = g refl
-regrouped true true true false e f h g = cc
-regrouped true true false d e f h g = cc
-regrouped true false c d e f h g = cc
-regrouped false b c d e f h g = cc
+regrouped : (a b c d : Bool) → (a && (b && (c && d))) ≡ true → ((a && d) && (b && c)) ≡ true
+regrouped true true true d h = rw h refl
+regrouped true true false d h = cc
+regrouped true false c d h = cc
+regrouped false b c d h = cc
 
 fit_parts : (numbers : PrefixNumbers) (row : Row) → numbers_fit numbers (entry_of row) ≡ true → (key_fits numbers (entry_of row) ≡ true) × (others_fit numbers (entry_of row) ≡ true)
 fit_parts numbers row h =
     and_parts (key_fits numbers (entry_of row)) (others_fit numbers (entry_of row))
-    (regrouped (bits_at (entry_of row) 6 5 == numbers.low) (not numbers.has_high || (bits_at (entry_of row) 11 1 == numbers.high)) (numbers.is_free || flag_at (entry_of row) 12) ((bits_at (entry_of row) 4 2 == 2) || (bits_at (entry_of row) 4 2 == numbers.w)) ((bits_at (entry_of row) 4 2 == 2) || (bits_at (entry_of row) 4 2 == min numbers.w 1)) (nat_lt numbers.w 2 || (bits_at (entry_of row) 4 2 == 2)) h (w_split (bits_at (entry_of row) 4 2) numbers.w (ltb-true _ _ (takes_w row))))
+    (regrouped (low_in (entry_of row) == numbers.low % 64) (not numbers.has_high || (bits_at (entry_of row) 11 1 == numbers.high)) (numbers.is_free || flag_at (entry_of row) 12) (takes_w (entry_of row) numbers.w) h)
 
 pub some_same : {A : Type 0} (a b : A) → ◌≡◌ {A = Option A} (Some a) (Some b) → a ≡ b
 some_same a b e = cc

@@ -1,5 +1,7 @@
 -- What the clauses of public functions say.
 pub mod Cursor
+pub mod Legacy
+pub mod LegacyNumber
 pub mod PrefixNumbers
 pub mod Digit
 pub mod Numbers

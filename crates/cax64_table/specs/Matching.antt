@@ -1,4 +1,5 @@
-use Rattle.std.specs.Prelude.{ℕ, min, nat_lt, ◌==◌, ◌&&◌, ◌||◌, not, Bool, true, false, if◌then◌else◌, List, [], ◌∷◌, Option, Some, option_map, option_and_then}
+use Rattle.std.specs.Prelude.{ℕ, ◌+◌, ◌*◌, ◌%◌, ◌==◌, ◌&&◌, ◌||◌, not, Bool, true, false, if◌then◌else◌, List, [], ◌∷◌, Option, Some, option_map, option_and_then}
+use Rattle.std.specs.Int.{from_bool}
 use Rattle.cax64_machine_code.specs.declared.line.Opcode.{Opcode}
 use Rattle.cax64_machine_code.specs.declared.line.TailField.{TailField}
 use Rattle.cax64_machine_code.specs.declared.line.TailField.TheVariants.{NoTail, Modrm}
@@ -23,26 +24,30 @@ front_opcode bytes =
     else Some (plain_opcode first.0, first.1))
     (next_byte bytes)
 
+-- the prefixes of a packed row, or its pp and map, as the numbers of a prefix have them
+abbrev pub low_in : ℕ → ℕ
+low_in packed = if flag_at packed 6 then (bits_at packed 7 2 + 16 * bits_at packed 9 2) else bits_at packed 7 4
+
+abbrev pub takes_w : ℕ → Bool → Bool
+takes_w packed w = (bits_at packed 4 2 == 2) || (bits_at packed 4 2 == from_bool w)
+
 -- the numbers are those of a packed row
 abbrev pub numbers_fit : PrefixNumbers → ℕ → Bool
 numbers_fit numbers packed =
-    (bits_at packed 6 5 == numbers.low)
+    (low_in packed == numbers.low % 64)
     && ((not numbers.has_high || (bits_at packed 11 1 == numbers.high))
     && ((numbers.is_free || flag_at packed 12)
-    && ((bits_at packed 4 2 == 2) || (bits_at packed 4 2 == numbers.w))))
+    && takes_w packed numbers.w))
 
--- a row of a slot is looked up by low and W, and by 1 for a W above 1
+-- a row of a slot is looked up by low and W
 abbrev pub key_fits : PrefixNumbers → ℕ → Bool
-key_fits numbers packed =
-    (bits_at packed 6 5 == numbers.low)
-    && ((bits_at packed 4 2 == 2) || (bits_at packed 4 2 == min numbers.w 1))
+key_fits numbers packed = (low_in packed == numbers.low % 64) && takes_w packed numbers.w
 
 -- what this leaves open
 abbrev pub others_fit : PrefixNumbers → ℕ → Bool
 others_fit numbers packed =
     (not numbers.has_high || (bits_at packed 11 1 == numbers.high))
-    && ((numbers.is_free || flag_at packed 12)
-    && (nat_lt numbers.w 2 || (bits_at packed 4 2 == 2)))
+    && (numbers.is_free || flag_at packed 12)
 
 -- what follows the opcode is there, if the row has a tail
 abbrev pub stands : TailField → List ℕ → Bool

@@ -4,6 +4,7 @@
 pub mod cursor;
 mod index;
 pub mod laws;
+pub mod legacy;
 pub mod lookup;
 pub mod numbers;
 mod packed;

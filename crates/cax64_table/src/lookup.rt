@@ -9,7 +9,7 @@ ghost use Rattle.cax64_machine_code.specs.declared.row.Row.{Row};
 ghost use Rattle.cax64_table.specs.Cursor.{behind};
 ghost use Rattle.cax64_table.specs.Matching.{front_opcode, is_wanted, others_fit, stands};
 ghost use Rattle.cax64_table.specs.Packed.{entry_of, tail_field};
-ghost use Rattle.cax64_table.specs.PrefixNumbers.{numbers_of};
+ghost use Rattle.cax64_table.specs.PrefixNumbers.{AreNumbers};
 ghost use Rattle.cax64_table.specs.Slot.{InSlot};
 
 use crate::cursor::next;
@@ -80,7 +80,7 @@ fn row_with(numbers: PrefixNumbers, opcode: Opcode, rest: &[u8]) -> Option<Row>
 /// prefix has nothing is said.
 #[inline(always)]
 pub fn row_for<'a>(numbers: PrefixNumbers, bytes: &'a [u8]) -> Option<(Row, &'a [u8])>
-    ensures { (p : definitions.Prefix) → numbers ≡ numbers_of p → behind result ≡ row_at all_rows p bytes.now }
+    ensures { (p : definitions.Prefix) → AreNumbers numbers p → behind result ≡ row_at all_rows p bytes.now }
 {
     let (opcode, rest) = opcode_at(bytes)?;
     let row = row_with(numbers, opcode, rest)?;

@@ -1,31 +1,64 @@
 //! What stands before an opcode. (Intel SDM, volume 2, 2.1.1, 2.2.1.2 and 2.3.5.)
 
-ghost use Rattle.std.specs.Prelude.{◌≡◌};
+ghost use Rattle.std.specs.Prelude.{◌≡◌, ◌<◌, true, option_map, Option};
+ghost use Rattle.std.specs.Int.{from_bool};
+ghost use Rattle.cax64_machine_code.specs.Prefix.{is_vex_map, Rex, Vex, legacy_prefix, vex_prefix};
+ghost use Rattle.cax64_table.specs.Legacy.{set_in};
 ghost use Rattle.cax64_table.specs.Matching.{others_fit};
+ghost use Rattle.cax64_table.specs.PrefixNumbers.{AreNumbers};
 
+use crate::legacy::LegacyPrefixes;
 use crate::packed::{bits, flag};
 
 /// A prefix as the numbers that are compared with a row's.
 #[derive(Clone, Copy)]
 pub struct PrefixNumbers {
-    /// The legacy prefixes F0, 66, F2 and F3 from bit 1 up, or 1 and above it pp and map; 32 where no row has this.
-    pub low: u8,
+    /// The legacy prefixes F0, 66, F2 and F3 from bit 0 up, or pp, and from bit 4 up the map.
+    pub(crate) low: u8,
     /// L, or 1 where a REX byte stands, and whether it counts.
-    pub high: u8,
-    pub has_high: bool,
-    pub w: u8,
+    high: u8,
+    has_high: bool,
+    pub(crate) w: bool,
     /// Whether vvvv may be stored as 1111.
-    pub is_free: bool,
+    is_free: bool,
 }
 
 impl PrefixNumbers {
+    /// Those of legacy prefixes, and of a REX byte with this W, if one stands.
+    #[inline(always)]
+    pub fn legacy(seen: LegacyPrefixes, rex_w: Option<bool>) -> PrefixNumbers
+        ensures { (rex : Option Rex) → option_map (λ r. r.w) rex ≡ option_map from_bool rex_w → AreNumbers result (legacy_prefix (set_in seen) rex) }
+    {
+        PrefixNumbers {
+            low: seen.number,
+            high: 1,
+            has_high: rex_w.is_some(),
+            w: rex_w == Some(true),
+            is_free: true,
+        }
+    }
+
+    /// Those of a VEX prefix with these fields, of which vvvv isn't inverted.
+    #[inline(always)]
+    pub fn vex(pp: u8, map: u8, l: u8, w: bool, vvvv: u8) -> PrefixNumbers
+        requires pp { pp < 4 }
+        requires map { is_vex_map map ≡ true }
+        ensures { (vex : Vex) → vex.pp ≡ pp → vex.map ≡ map → vex.l ≡ l → vex.w ≡ from_bool w → vex.vvvv ≡ vvvv → AreNumbers result (vex_prefix vex) }
+    {
+        PrefixNumbers {
+            low: pp + 16 * map,
+            high: l,
+            has_high: true,
+            w,
+            is_free: vvvv == 0,
+        }
+    }
+
     /// What a key leaves open of these numbers is as a packed row has it.
     #[inline(always)]
     pub(crate) fn fit_beside_key(self, packed: u64) -> bool
         ensures { result ≡ others_fit self packed }
     {
-        (!self.has_high || bits(packed, 11, 1) == self.high)
-            && (self.is_free || flag(packed, 12))
-            && (self.w < 2 || bits(packed, 4, 2) == 2)
+        (!self.has_high || bits(packed, 11, 1) == self.high) && (self.is_free || flag(packed, 12))
     }
 }

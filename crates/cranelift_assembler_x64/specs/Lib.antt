@@ -50,7 +50,8 @@ pub use Rattle.cax64_operand.specs.OperandList
 pub use Rattle.cax64_operand.specs.Fold
 pub use Rattle.cax64_operand.specs.Made
 pub use Rattle.cax64_operand.specs.NopRow
-pub use Rattle.cax64_operand.specs.Shape
+pub use Rattle.cax64_operand.specs.Kind
+pub use Rattle.cax64_operand.specs.Signature
 pub use Rattle.cax64_operand.specs.VisitSteps
 pub use Rattle.cax64_operand.specs.Visit
 pub use Rattle.cax64_encoder.specs.Number

@@ -9,7 +9,7 @@ ghost use Rattle.cax64_operand.specs.NopRow.{nop_row};
 ghost use Rattle.cax64_operand.specs.Visit.{OperandsRun};
 ghost use Rattle.cax64_operand.specs.declared.operand.Operands.TheVariants as operands;
 ghost use Rattle.inst_twin.specs.Group.{group_of};
-ghost use Rattle.inst_twin.specs.Shaped.{Shaped};
+ghost use Rattle.inst_twin.specs.OfSignature.{OfSignature};
 ghost use Rattle.inst_twin.specs.Twin.{row_of, operands_of};
 
 mod mulx;
@@ -28,10 +28,10 @@ pub enum Twin<R: Registers> {
 }
 
 /// Hands on a no-operation.
-#[tactic(auto, unfolding(crate::specs::Shaped::Shaped))]
+#[tactic(auto, unfolding(crate::specs::OfSignature::OfSignature))]
 fn give_nop<R: Registers, T: Task<R, X>, X>(nop: Nop, row: Row, to: &mut X) -> T::Answer
     requires row { row ≡ nop_row nop }
-    requires asks { Shaped {R = R} {A = R.ReadGpr} {B = R.ReadWriteGpr} {C = R.WriteGpr} {D = R.ReadXmm} {E = R.ReadWriteXmm} {F = R.WriteXmm} row (operands.Nop nop) → T.asks row (fold T.made_of_none T.made_with T.made_of_nop (operands.Nop nop)) to.old }
+    requires asks { OfSignature {R = R} {A = R.ReadGpr} {B = R.ReadWriteGpr} {C = R.WriteGpr} {D = R.ReadXmm} {E = R.ReadWriteXmm} {F = R.WriteXmm} row (operands.Nop nop) → T.asks row (fold T.made_of_none T.made_with T.made_of_nop (operands.Nop nop)) to.old }
     ensures answers { T.answers row (fold T.made_of_none T.made_with T.made_of_nop (operands.Nop nop)) to.old to.new result }
 {
     T::take(T::nop(nop), row, to)
@@ -44,7 +44,7 @@ impl<R: Registers> RowAndOperands for Twin<R> {
 
     ghost operands_of = { operands_of };
 
-    #[tactic(auto, unfolding(crate::specs::Shaped::Shaped, crate::specs::Twin::row_of, crate::specs::Twin::operands_of))]
+    #[tactic(auto, unfolding(crate::specs::OfSignature::OfSignature, crate::specs::Twin::row_of, crate::specs::Twin::operands_of))]
     fn hand_to<T: Task<R, X>, X>(&self, to: &mut X) -> T::Answer {
         match self {
             Twin::nop_1b(_) => give_nop::<R, T, X>(Nop::One, Row::nop_1b, to),

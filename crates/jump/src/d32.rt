@@ -49,7 +49,7 @@ impl RowAndOperands for callq_d {
 
     ghost operands_of = { operands_callq_d };
 
-    #[tactic(auto, unfolding(cax64_machine_code::specs::Rows::line_of))]
+    #[tactic(auto, unfolding(cax64_operand::specs::Signature::signature_of))]
     #[inline(always)]
     fn hand_to<T: Task<Numbers, X>, X>(&self, to: &mut X) -> T::Answer {
         T::take(
@@ -97,7 +97,7 @@ impl RowAndOperands for jmp_d32 {
 
     ghost operands_of = { operands_jmp_d32 };
 
-    #[tactic(auto, unfolding(cax64_machine_code::specs::Rows::line_of))]
+    #[tactic(auto, unfolding(cax64_operand::specs::Signature::signature_of))]
     #[inline(always)]
     fn hand_to<T: Task<Numbers, X>, X>(&self, to: &mut X) -> T::Answer {
         T::take(
@@ -138,7 +138,7 @@ impl RowAndOperands for jo_d32 {
 
     ghost operands_of = { operands_jo_d32 };
 
-    #[tactic(auto, unfolding(cax64_machine_code::specs::Rows::line_of))]
+    #[tactic(auto, unfolding(cax64_operand::specs::Signature::signature_of))]
     #[inline(always)]
     fn hand_to<T: Task<Numbers, X>, X>(&self, to: &mut X) -> T::Answer {
         T::take(
@@ -179,7 +179,7 @@ impl RowAndOperands for jno_d32 {
 
     ghost operands_of = { operands_jno_d32 };
 
-    #[tactic(auto, unfolding(cax64_machine_code::specs::Rows::line_of))]
+    #[tactic(auto, unfolding(cax64_operand::specs::Signature::signature_of))]
     #[inline(always)]
     fn hand_to<T: Task<Numbers, X>, X>(&self, to: &mut X) -> T::Answer {
         T::take(
@@ -220,7 +220,7 @@ impl RowAndOperands for jb_d32 {
 
     ghost operands_of = { operands_jb_d32 };
 
-    #[tactic(auto, unfolding(cax64_machine_code::specs::Rows::line_of))]
+    #[tactic(auto, unfolding(cax64_operand::specs::Signature::signature_of))]
     #[inline(always)]
     fn hand_to<T: Task<Numbers, X>, X>(&self, to: &mut X) -> T::Answer {
         T::take(
@@ -261,7 +261,7 @@ impl RowAndOperands for jae_d32 {
 
     ghost operands_of = { operands_jae_d32 };
 
-    #[tactic(auto, unfolding(cax64_machine_code::specs::Rows::line_of))]
+    #[tactic(auto, unfolding(cax64_operand::specs::Signature::signature_of))]
     #[inline(always)]
     fn hand_to<T: Task<Numbers, X>, X>(&self, to: &mut X) -> T::Answer {
         T::take(
@@ -302,7 +302,7 @@ impl RowAndOperands for je_d32 {
 
     ghost operands_of = { operands_je_d32 };
 
-    #[tactic(auto, unfolding(cax64_machine_code::specs::Rows::line_of))]
+    #[tactic(auto, unfolding(cax64_operand::specs::Signature::signature_of))]
     #[inline(always)]
     fn hand_to<T: Task<Numbers, X>, X>(&self, to: &mut X) -> T::Answer {
         T::take(
@@ -343,7 +343,7 @@ impl RowAndOperands for jne_d32 {
 
     ghost operands_of = { operands_jne_d32 };
 
-    #[tactic(auto, unfolding(cax64_machine_code::specs::Rows::line_of))]
+    #[tactic(auto, unfolding(cax64_operand::specs::Signature::signature_of))]
     #[inline(always)]
     fn hand_to<T: Task<Numbers, X>, X>(&self, to: &mut X) -> T::Answer {
         T::take(
@@ -384,7 +384,7 @@ impl RowAndOperands for jbe_d32 {
 
     ghost operands_of = { operands_jbe_d32 };
 
-    #[tactic(auto, unfolding(cax64_machine_code::specs::Rows::line_of))]
+    #[tactic(auto, unfolding(cax64_operand::specs::Signature::signature_of))]
     #[inline(always)]
     fn hand_to<T: Task<Numbers, X>, X>(&self, to: &mut X) -> T::Answer {
         T::take(
@@ -425,7 +425,7 @@ impl RowAndOperands for ja_d32 {
 
     ghost operands_of = { operands_ja_d32 };
 
-    #[tactic(auto, unfolding(cax64_machine_code::specs::Rows::line_of))]
+    #[tactic(auto, unfolding(cax64_operand::specs::Signature::signature_of))]
     #[inline(always)]
     fn hand_to<T: Task<Numbers, X>, X>(&self, to: &mut X) -> T::Answer {
         T::take(
@@ -466,7 +466,7 @@ impl RowAndOperands for js_d32 {
 
     ghost operands_of = { operands_js_d32 };
 
-    #[tactic(auto, unfolding(cax64_machine_code::specs::Rows::line_of))]
+    #[tactic(auto, unfolding(cax64_operand::specs::Signature::signature_of))]
     #[inline(always)]
     fn hand_to<T: Task<Numbers, X>, X>(&self, to: &mut X) -> T::Answer {
         T::take(
@@ -507,7 +507,7 @@ impl RowAndOperands for jns_d32 {
 
     ghost operands_of = { operands_jns_d32 };
 
-    #[tactic(auto, unfolding(cax64_machine_code::specs::Rows::line_of))]
+    #[tactic(auto, unfolding(cax64_operand::specs::Signature::signature_of))]
     #[inline(always)]
     fn hand_to<T: Task<Numbers, X>, X>(&self, to: &mut X) -> T::Answer {
         T::take(
@@ -548,7 +548,7 @@ impl RowAndOperands for jp_d32 {
 
     ghost operands_of = { operands_jp_d32 };
 
-    #[tactic(auto, unfolding(cax64_machine_code::specs::Rows::line_of))]
+    #[tactic(auto, unfolding(cax64_operand::specs::Signature::signature_of))]
     #[inline(always)]
     fn hand_to<T: Task<Numbers, X>, X>(&self, to: &mut X) -> T::Answer {
         T::take(
@@ -589,7 +589,7 @@ impl RowAndOperands for jnp_d32 {
 
     ghost operands_of = { operands_jnp_d32 };
 
-    #[tactic(auto, unfolding(cax64_machine_code::specs::Rows::line_of))]
+    #[tactic(auto, unfolding(cax64_operand::specs::Signature::signature_of))]
     #[inline(always)]
     fn hand_to<T: Task<Numbers, X>, X>(&self, to: &mut X) -> T::Answer {
         T::take(
@@ -630,7 +630,7 @@ impl RowAndOperands for jl_d32 {
 
     ghost operands_of = { operands_jl_d32 };
 
-    #[tactic(auto, unfolding(cax64_machine_code::specs::Rows::line_of))]
+    #[tactic(auto, unfolding(cax64_operand::specs::Signature::signature_of))]
     #[inline(always)]
     fn hand_to<T: Task<Numbers, X>, X>(&self, to: &mut X) -> T::Answer {
         T::take(
@@ -671,7 +671,7 @@ impl RowAndOperands for jge_d32 {
 
     ghost operands_of = { operands_jge_d32 };
 
-    #[tactic(auto, unfolding(cax64_machine_code::specs::Rows::line_of))]
+    #[tactic(auto, unfolding(cax64_operand::specs::Signature::signature_of))]
     #[inline(always)]
     fn hand_to<T: Task<Numbers, X>, X>(&self, to: &mut X) -> T::Answer {
         T::take(
@@ -712,7 +712,7 @@ impl RowAndOperands for jle_d32 {
 
     ghost operands_of = { operands_jle_d32 };
 
-    #[tactic(auto, unfolding(cax64_machine_code::specs::Rows::line_of))]
+    #[tactic(auto, unfolding(cax64_operand::specs::Signature::signature_of))]
     #[inline(always)]
     fn hand_to<T: Task<Numbers, X>, X>(&self, to: &mut X) -> T::Answer {
         T::take(
@@ -753,7 +753,7 @@ impl RowAndOperands for jg_d32 {
 
     ghost operands_of = { operands_jg_d32 };
 
-    #[tactic(auto, unfolding(cax64_machine_code::specs::Rows::line_of))]
+    #[tactic(auto, unfolding(cax64_operand::specs::Signature::signature_of))]
     #[inline(always)]
     fn hand_to<T: Task<Numbers, X>, X>(&self, to: &mut X) -> T::Answer {
         T::take(

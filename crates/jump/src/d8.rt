@@ -49,7 +49,7 @@ impl RowAndOperands for jmp_d8 {
 
     ghost operands_of = { operands_jmp_d8 };
 
-    #[tactic(auto, unfolding(cax64_machine_code::specs::Rows::line_of))]
+    #[tactic(auto, unfolding(cax64_operand::specs::Signature::signature_of))]
     #[inline(always)]
     fn hand_to<T: Task<Numbers, X>, X>(&self, to: &mut X) -> T::Answer {
         T::take(
@@ -90,7 +90,7 @@ impl RowAndOperands for jo_d8 {
 
     ghost operands_of = { operands_jo_d8 };
 
-    #[tactic(auto, unfolding(cax64_machine_code::specs::Rows::line_of))]
+    #[tactic(auto, unfolding(cax64_operand::specs::Signature::signature_of))]
     #[inline(always)]
     fn hand_to<T: Task<Numbers, X>, X>(&self, to: &mut X) -> T::Answer {
         T::take(
@@ -131,7 +131,7 @@ impl RowAndOperands for jno_d8 {
 
     ghost operands_of = { operands_jno_d8 };
 
-    #[tactic(auto, unfolding(cax64_machine_code::specs::Rows::line_of))]
+    #[tactic(auto, unfolding(cax64_operand::specs::Signature::signature_of))]
     #[inline(always)]
     fn hand_to<T: Task<Numbers, X>, X>(&self, to: &mut X) -> T::Answer {
         T::take(
@@ -172,7 +172,7 @@ impl RowAndOperands for jb_d8 {
 
     ghost operands_of = { operands_jb_d8 };
 
-    #[tactic(auto, unfolding(cax64_machine_code::specs::Rows::line_of))]
+    #[tactic(auto, unfolding(cax64_operand::specs::Signature::signature_of))]
     #[inline(always)]
     fn hand_to<T: Task<Numbers, X>, X>(&self, to: &mut X) -> T::Answer {
         T::take(
@@ -213,7 +213,7 @@ impl RowAndOperands for jae_d8 {
 
     ghost operands_of = { operands_jae_d8 };
 
-    #[tactic(auto, unfolding(cax64_machine_code::specs::Rows::line_of))]
+    #[tactic(auto, unfolding(cax64_operand::specs::Signature::signature_of))]
     #[inline(always)]
     fn hand_to<T: Task<Numbers, X>, X>(&self, to: &mut X) -> T::Answer {
         T::take(
@@ -254,7 +254,7 @@ impl RowAndOperands for je_d8 {
 
     ghost operands_of = { operands_je_d8 };
 
-    #[tactic(auto, unfolding(cax64_machine_code::specs::Rows::line_of))]
+    #[tactic(auto, unfolding(cax64_operand::specs::Signature::signature_of))]
     #[inline(always)]
     fn hand_to<T: Task<Numbers, X>, X>(&self, to: &mut X) -> T::Answer {
         T::take(
@@ -295,7 +295,7 @@ impl RowAndOperands for jne_d8 {
 
     ghost operands_of = { operands_jne_d8 };
 
-    #[tactic(auto, unfolding(cax64_machine_code::specs::Rows::line_of))]
+    #[tactic(auto, unfolding(cax64_operand::specs::Signature::signature_of))]
     #[inline(always)]
     fn hand_to<T: Task<Numbers, X>, X>(&self, to: &mut X) -> T::Answer {
         T::take(
@@ -336,7 +336,7 @@ impl RowAndOperands for jbe_d8 {
 
     ghost operands_of = { operands_jbe_d8 };
 
-    #[tactic(auto, unfolding(cax64_machine_code::specs::Rows::line_of))]
+    #[tactic(auto, unfolding(cax64_operand::specs::Signature::signature_of))]
     #[inline(always)]
     fn hand_to<T: Task<Numbers, X>, X>(&self, to: &mut X) -> T::Answer {
         T::take(
@@ -377,7 +377,7 @@ impl RowAndOperands for ja_d8 {
 
     ghost operands_of = { operands_ja_d8 };
 
-    #[tactic(auto, unfolding(cax64_machine_code::specs::Rows::line_of))]
+    #[tactic(auto, unfolding(cax64_operand::specs::Signature::signature_of))]
     #[inline(always)]
     fn hand_to<T: Task<Numbers, X>, X>(&self, to: &mut X) -> T::Answer {
         T::take(
@@ -418,7 +418,7 @@ impl RowAndOperands for js_d8 {
 
     ghost operands_of = { operands_js_d8 };
 
-    #[tactic(auto, unfolding(cax64_machine_code::specs::Rows::line_of))]
+    #[tactic(auto, unfolding(cax64_operand::specs::Signature::signature_of))]
     #[inline(always)]
     fn hand_to<T: Task<Numbers, X>, X>(&self, to: &mut X) -> T::Answer {
         T::take(
@@ -459,7 +459,7 @@ impl RowAndOperands for jns_d8 {
 
     ghost operands_of = { operands_jns_d8 };
 
-    #[tactic(auto, unfolding(cax64_machine_code::specs::Rows::line_of))]
+    #[tactic(auto, unfolding(cax64_operand::specs::Signature::signature_of))]
     #[inline(always)]
     fn hand_to<T: Task<Numbers, X>, X>(&self, to: &mut X) -> T::Answer {
         T::take(
@@ -500,7 +500,7 @@ impl RowAndOperands for jp_d8 {
 
     ghost operands_of = { operands_jp_d8 };
 
-    #[tactic(auto, unfolding(cax64_machine_code::specs::Rows::line_of))]
+    #[tactic(auto, unfolding(cax64_operand::specs::Signature::signature_of))]
     #[inline(always)]
     fn hand_to<T: Task<Numbers, X>, X>(&self, to: &mut X) -> T::Answer {
         T::take(
@@ -541,7 +541,7 @@ impl RowAndOperands for jnp_d8 {
 
     ghost operands_of = { operands_jnp_d8 };
 
-    #[tactic(auto, unfolding(cax64_machine_code::specs::Rows::line_of))]
+    #[tactic(auto, unfolding(cax64_operand::specs::Signature::signature_of))]
     #[inline(always)]
     fn hand_to<T: Task<Numbers, X>, X>(&self, to: &mut X) -> T::Answer {
         T::take(
@@ -582,7 +582,7 @@ impl RowAndOperands for jl_d8 {
 
     ghost operands_of = { operands_jl_d8 };
 
-    #[tactic(auto, unfolding(cax64_machine_code::specs::Rows::line_of))]
+    #[tactic(auto, unfolding(cax64_operand::specs::Signature::signature_of))]
     #[inline(always)]
     fn hand_to<T: Task<Numbers, X>, X>(&self, to: &mut X) -> T::Answer {
         T::take(
@@ -623,7 +623,7 @@ impl RowAndOperands for jge_d8 {
 
     ghost operands_of = { operands_jge_d8 };
 
-    #[tactic(auto, unfolding(cax64_machine_code::specs::Rows::line_of))]
+    #[tactic(auto, unfolding(cax64_operand::specs::Signature::signature_of))]
     #[inline(always)]
     fn hand_to<T: Task<Numbers, X>, X>(&self, to: &mut X) -> T::Answer {
         T::take(
@@ -664,7 +664,7 @@ impl RowAndOperands for jle_d8 {
 
     ghost operands_of = { operands_jle_d8 };
 
-    #[tactic(auto, unfolding(cax64_machine_code::specs::Rows::line_of))]
+    #[tactic(auto, unfolding(cax64_operand::specs::Signature::signature_of))]
     #[inline(always)]
     fn hand_to<T: Task<Numbers, X>, X>(&self, to: &mut X) -> T::Answer {
         T::take(
@@ -705,7 +705,7 @@ impl RowAndOperands for jg_d8 {
 
     ghost operands_of = { operands_jg_d8 };
 
-    #[tactic(auto, unfolding(cax64_machine_code::specs::Rows::line_of))]
+    #[tactic(auto, unfolding(cax64_operand::specs::Signature::signature_of))]
     #[inline(always)]
     fn hand_to<T: Task<Numbers, X>, X>(&self, to: &mut X) -> T::Answer {
         T::take(

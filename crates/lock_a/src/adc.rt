@@ -45,7 +45,7 @@ impl<R: Registers> RowAndOperands for lock_adcb_mi<R> {
 
     ghost operands_of = { λ i. i };
 
-    #[tactic(auto, unfolding(cax64_machine_code::specs::Rows::line_of))]
+    #[tactic(auto, unfolding(cax64_operand::specs::Signature::signature_of))]
     #[inline(always)]
     fn hand_to<T: Task<R, X>, X>(&self, to: &mut X) -> T::Answer {
         T::take(
@@ -91,7 +91,7 @@ impl<R: Registers> RowAndOperands for lock_adcw_mi<R> {
 
     ghost operands_of = { λ i. i };
 
-    #[tactic(auto, unfolding(cax64_machine_code::specs::Rows::line_of))]
+    #[tactic(auto, unfolding(cax64_operand::specs::Signature::signature_of))]
     #[inline(always)]
     fn hand_to<T: Task<R, X>, X>(&self, to: &mut X) -> T::Answer {
         T::take(
@@ -137,7 +137,7 @@ impl<R: Registers> RowAndOperands for lock_adcl_mi<R> {
 
     ghost operands_of = { λ i. i };
 
-    #[tactic(auto, unfolding(cax64_machine_code::specs::Rows::line_of))]
+    #[tactic(auto, unfolding(cax64_operand::specs::Signature::signature_of))]
     #[inline(always)]
     fn hand_to<T: Task<R, X>, X>(&self, to: &mut X) -> T::Answer {
         T::take(
@@ -183,7 +183,7 @@ impl<R: Registers> RowAndOperands for lock_adcq_mi_sxl<R> {
 
     ghost operands_of = { λ i. i };
 
-    #[tactic(auto, unfolding(cax64_machine_code::specs::Rows::line_of))]
+    #[tactic(auto, unfolding(cax64_operand::specs::Signature::signature_of))]
     #[inline(always)]
     fn hand_to<T: Task<R, X>, X>(&self, to: &mut X) -> T::Answer {
         T::take(
@@ -229,7 +229,7 @@ impl<R: Registers> RowAndOperands for lock_adcl_mi_sxb<R> {
 
     ghost operands_of = { λ i. i };
 
-    #[tactic(auto, unfolding(cax64_machine_code::specs::Rows::line_of))]
+    #[tactic(auto, unfolding(cax64_operand::specs::Signature::signature_of))]
     #[inline(always)]
     fn hand_to<T: Task<R, X>, X>(&self, to: &mut X) -> T::Answer {
         T::take(
@@ -275,7 +275,7 @@ impl<R: Registers> RowAndOperands for lock_adcq_mi_sxb<R> {
 
     ghost operands_of = { λ i. i };
 
-    #[tactic(auto, unfolding(cax64_machine_code::specs::Rows::line_of))]
+    #[tactic(auto, unfolding(cax64_operand::specs::Signature::signature_of))]
     #[inline(always)]
     fn hand_to<T: Task<R, X>, X>(&self, to: &mut X) -> T::Answer {
         T::take(
@@ -321,7 +321,7 @@ impl<R: Registers> RowAndOperands for lock_adcb_mr<R> {
 
     ghost operands_of = { λ i. i };
 
-    #[tactic(auto, unfolding(cax64_machine_code::specs::Rows::line_of))]
+    #[tactic(auto, unfolding(cax64_operand::specs::Signature::signature_of))]
     #[inline(always)]
     fn hand_to<T: Task<R, X>, X>(&self, to: &mut X) -> T::Answer {
         T::take(
@@ -368,7 +368,7 @@ impl<R: Registers> RowAndOperands for lock_adcw_mr<R> {
 
     ghost operands_of = { λ i. i };
 
-    #[tactic(auto, unfolding(cax64_machine_code::specs::Rows::line_of))]
+    #[tactic(auto, unfolding(cax64_operand::specs::Signature::signature_of))]
     #[inline(always)]
     fn hand_to<T: Task<R, X>, X>(&self, to: &mut X) -> T::Answer {
         T::take(
@@ -415,7 +415,7 @@ impl<R: Registers> RowAndOperands for lock_adcl_mr<R> {
 
     ghost operands_of = { λ i. i };
 
-    #[tactic(auto, unfolding(cax64_machine_code::specs::Rows::line_of))]
+    #[tactic(auto, unfolding(cax64_operand::specs::Signature::signature_of))]
     #[inline(always)]
     fn hand_to<T: Task<R, X>, X>(&self, to: &mut X) -> T::Answer {
         T::take(
@@ -462,7 +462,7 @@ impl<R: Registers> RowAndOperands for lock_adcq_mr<R> {
 
     ghost operands_of = { λ i. i };
 
-    #[tactic(auto, unfolding(cax64_machine_code::specs::Rows::line_of))]
+    #[tactic(auto, unfolding(cax64_operand::specs::Signature::signature_of))]
     #[inline(always)]
     fn hand_to<T: Task<R, X>, X>(&self, to: &mut X) -> T::Answer {
         T::take(

@@ -44,7 +44,7 @@ impl<R: Registers> RowAndOperands for lock_cmpxchgb_mr<R> {
 
     ghost operands_of = { λ i. i };
 
-    #[tactic(auto, unfolding(cax64_machine_code::specs::Rows::line_of))]
+    #[tactic(auto, unfolding(cax64_operand::specs::Signature::signature_of))]
     #[inline(always)]
     fn hand_to<T: Task<R, X>, X>(&self, to: &mut X) -> T::Answer {
         T::take(
@@ -95,7 +95,7 @@ impl<R: Registers> RowAndOperands for lock_cmpxchgw_mr<R> {
 
     ghost operands_of = { λ i. i };
 
-    #[tactic(auto, unfolding(cax64_machine_code::specs::Rows::line_of))]
+    #[tactic(auto, unfolding(cax64_operand::specs::Signature::signature_of))]
     #[inline(always)]
     fn hand_to<T: Task<R, X>, X>(&self, to: &mut X) -> T::Answer {
         T::take(
@@ -146,7 +146,7 @@ impl<R: Registers> RowAndOperands for lock_cmpxchgl_mr<R> {
 
     ghost operands_of = { λ i. i };
 
-    #[tactic(auto, unfolding(cax64_machine_code::specs::Rows::line_of))]
+    #[tactic(auto, unfolding(cax64_operand::specs::Signature::signature_of))]
     #[inline(always)]
     fn hand_to<T: Task<R, X>, X>(&self, to: &mut X) -> T::Answer {
         T::take(
@@ -197,7 +197,7 @@ impl<R: Registers> RowAndOperands for lock_cmpxchgq_mr<R> {
 
     ghost operands_of = { λ i. i };
 
-    #[tactic(auto, unfolding(cax64_machine_code::specs::Rows::line_of))]
+    #[tactic(auto, unfolding(cax64_operand::specs::Signature::signature_of))]
     #[inline(always)]
     fn hand_to<T: Task<R, X>, X>(&self, to: &mut X) -> T::Answer {
         T::take(
@@ -262,7 +262,7 @@ impl<R: Registers> RowAndOperands for lock_cmpxchg16b_m<R> {
 
     ghost operands_of = { λ i. i };
 
-    #[tactic(auto, unfolding(cax64_machine_code::specs::Rows::line_of))]
+    #[tactic(auto, unfolding(cax64_operand::specs::Signature::signature_of))]
     #[inline(always)]
     fn hand_to<T: Task<R, X>, X>(&self, to: &mut X) -> T::Answer {
         T::take(

@@ -42,7 +42,7 @@ impl<R: Registers> RowAndOperands for lock_xaddb_mr<R> {
 
     ghost operands_of = { λ i. i };
 
-    #[tactic(auto, unfolding(cax64_machine_code::specs::Rows::line_of))]
+    #[tactic(auto, unfolding(cax64_operand::specs::Signature::signature_of))]
     #[inline(always)]
     fn hand_to<T: Task<R, X>, X>(&self, to: &mut X) -> T::Answer {
         T::take(
@@ -89,7 +89,7 @@ impl<R: Registers> RowAndOperands for lock_xaddw_mr<R> {
 
     ghost operands_of = { λ i. i };
 
-    #[tactic(auto, unfolding(cax64_machine_code::specs::Rows::line_of))]
+    #[tactic(auto, unfolding(cax64_operand::specs::Signature::signature_of))]
     #[inline(always)]
     fn hand_to<T: Task<R, X>, X>(&self, to: &mut X) -> T::Answer {
         T::take(
@@ -136,7 +136,7 @@ impl<R: Registers> RowAndOperands for lock_xaddl_mr<R> {
 
     ghost operands_of = { λ i. i };
 
-    #[tactic(auto, unfolding(cax64_machine_code::specs::Rows::line_of))]
+    #[tactic(auto, unfolding(cax64_operand::specs::Signature::signature_of))]
     #[inline(always)]
     fn hand_to<T: Task<R, X>, X>(&self, to: &mut X) -> T::Answer {
         T::take(
@@ -183,7 +183,7 @@ impl<R: Registers> RowAndOperands for lock_xaddq_mr<R> {
 
     ghost operands_of = { λ i. i };
 
-    #[tactic(auto, unfolding(cax64_machine_code::specs::Rows::line_of))]
+    #[tactic(auto, unfolding(cax64_operand::specs::Signature::signature_of))]
     #[inline(always)]
     fn hand_to<T: Task<R, X>, X>(&self, to: &mut X) -> T::Answer {
         T::take(

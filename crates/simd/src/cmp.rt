@@ -65,7 +65,7 @@ impl<R: Registers> RowAndOperands for cmpps_a<R> {
 
     ghost operands_of = { λ i. i };
 
-    #[tactic(auto, unfolding(cax64_machine_code::specs::Rows::line_of))]
+    #[tactic(auto, unfolding(cax64_operand::specs::Signature::signature_of))]
     #[inline(always)]
     fn hand_to<T: Task<R, X>, X>(&self, to: &mut X) -> T::Answer {
         T::take(
@@ -131,7 +131,7 @@ impl<R: Registers> RowAndOperands for cmppd_a<R> {
 
     ghost operands_of = { λ i. i };
 
-    #[tactic(auto, unfolding(cax64_machine_code::specs::Rows::line_of))]
+    #[tactic(auto, unfolding(cax64_operand::specs::Signature::signature_of))]
     #[inline(always)]
     fn hand_to<T: Task<R, X>, X>(&self, to: &mut X) -> T::Answer {
         T::take(
@@ -197,7 +197,7 @@ impl<R: Registers> RowAndOperands for cmpss_a<R> {
 
     ghost operands_of = { λ i. i };
 
-    #[tactic(auto, unfolding(cax64_machine_code::specs::Rows::line_of))]
+    #[tactic(auto, unfolding(cax64_operand::specs::Signature::signature_of))]
     #[inline(always)]
     fn hand_to<T: Task<R, X>, X>(&self, to: &mut X) -> T::Answer {
         T::take(
@@ -263,7 +263,7 @@ impl<R: Registers> RowAndOperands for cmpsd_a<R> {
 
     ghost operands_of = { λ i. i };
 
-    #[tactic(auto, unfolding(cax64_machine_code::specs::Rows::line_of))]
+    #[tactic(auto, unfolding(cax64_operand::specs::Signature::signature_of))]
     #[inline(always)]
     fn hand_to<T: Task<R, X>, X>(&self, to: &mut X) -> T::Answer {
         T::take(

@@ -42,7 +42,7 @@ impl<R: Registers> RowAndOperands for vcvtpd2ps_a<R> {
 
     ghost operands_of = { λ i. i };
 
-    #[tactic(auto, unfolding(cax64_machine_code::specs::Rows::line_of))]
+    #[tactic(auto, unfolding(cax64_operand::specs::Signature::signature_of))]
     #[inline(always)]
     fn hand_to<T: Task<R, X>, X>(&self, to: &mut X) -> T::Answer {
         T::take(
@@ -90,7 +90,7 @@ impl<R: Registers> RowAndOperands for vcvttpd2dq_a<R> {
 
     ghost operands_of = { λ i. i };
 
-    #[tactic(auto, unfolding(cax64_machine_code::specs::Rows::line_of))]
+    #[tactic(auto, unfolding(cax64_operand::specs::Signature::signature_of))]
     #[inline(always)]
     fn hand_to<T: Task<R, X>, X>(&self, to: &mut X) -> T::Answer {
         T::take(

@@ -17,6 +17,8 @@ mod registers;
 #[cfg(test)]
 mod reused_sinks;
 #[cfg(test)]
+mod signatures;
+#[cfg(test)]
 mod sinks;
 #[cfg(test)]
 mod table;

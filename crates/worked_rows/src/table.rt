@@ -5,6 +5,7 @@ use cax64_machine_code::line::{
 };
 use cax64_machine_code::row::Row;
 use cax64_table::cursor::next;
+use cax64_table::legacy::LegacyPrefixes;
 use cax64_table::line;
 use cax64_table::lookup::row_for;
 use cax64_table::prefix::PrefixNumbers;
@@ -14,24 +15,6 @@ const LOCK: LegacySet = LegacySet {
     operand_size: false,
     repne: false,
     rep: false,
-};
-
-/// F0 49: lock, and a REX byte whose W is 1.
-const LOCK_REX: PrefixNumbers = PrefixNumbers {
-    low: 2,
-    high: 1,
-    has_high: true,
-    w: 1,
-    is_free: true,
-};
-
-/// VEX in the map 0F with no pp, L and W 0, and a register in vvvv.
-const VEX: PrefixNumbers = PrefixNumbers {
-    low: 9,
-    high: 0,
-    has_high: true,
-    w: 0,
-    is_free: false,
 };
 
 /// Rows with and without a digit, a REX byte, VEX and 0F.
@@ -69,39 +52,58 @@ fn row_of(numbers: PrefixNumbers, bytes: &[u8]) -> Option<(Row, usize)> {
     row_for(numbers, bytes).map(|found| (found.0, found.1.len()))
 }
 
-#[test]
-fn rows_are_found(rt: HostRuntime) {
-    let exchange = row_of(LOCK_REX, &[0x0F, 0xC1, 0x08]);
-    assert!(rt; exchange == Some((Row::lock_xaddq_mr, 1)));
-    let add = row_of(LOCK_REX, &[0x81, 0x00, 1, 2, 3, 4]);
-    assert!(rt; add == Some((Row::lock_addq_mi_sxl, 5)));
-    assert!(rt; row_of(VEX, &[0xC2, 0xC1]) == Some((Row::vcmpps_b, 1)));
-    assert!(rt; row_of(VEX, &[0x81, 0x00]) == None);
+/// The prefixes of a set, of which F2 and F3 stand alone here.
+fn prefixes_of(set: LegacySet) -> LegacyPrefixes {
+    let bytes: &[u8] = match (set.lock, set.operand_size, set.repne, set.rep) {
+        (_, _, true, _) => &[0xF2],
+        (_, _, _, true) => &[0xF3],
+        (true, true, ..) => &[0xF0, 0x66],
+        (true, false, ..) => &[0xF0],
+        (false, true, ..) => &[0x66],
+        (false, false, ..) => &[],
+    };
+    LegacyPrefixes::read(bytes).0
 }
 
-/// The numbers of a prefix that a line asks for, with W as it asks for it, or 0.
+#[test]
+fn rows_are_found(rt: HostRuntime) {
+    // F0 49: lock, and a REX byte whose W is 1.
+    let lock_rex = PrefixNumbers::legacy(prefixes_of(LOCK), Some(true));
+    let exchange = row_of(lock_rex, &[0x0F, 0xC1, 0x08]);
+    assert!(rt; exchange == Some((Row::lock_xaddq_mr, 1)));
+    let add = row_of(lock_rex, &[0x81, 0x00, 1, 2, 3, 4]);
+    assert!(rt; add == Some((Row::lock_addq_mi_sxl, 5)));
+    // VEX in the map 0F with no pp, L and W 0, and a register in vvvv.
+    let vex = PrefixNumbers::vex(0, 1, 0, false, 3);
+    assert!(rt; row_of(vex, &[0xC2, 0xC1]) == Some((Row::vcmpps_b, 1)));
+    assert!(rt; row_of(vex, &[0x81, 0x00]) == None);
+    assert!(rt; row_of(vex, &[0x0F, 0x54, 0x00]) == None);
+}
+
+/// Each prefix may come once, and F2 not beside F3.
+#[test]
+fn prefixes_are_read(rt: HostRuntime) {
+    for (bytes, left) in [
+        ([0x66, 0xF0, 0x66, 0x90], 2),
+        ([0xF2, 0xF0, 0xF3, 0x90], 2),
+        ([0xF3, 0x66, 0xF0, 0x90], 1),
+        ([0x40, 0x66, 0xF0, 0x90], 4),
+    ] {
+        let (seen, rest) = LegacyPrefixes::read(&bytes);
+        assert!(rt; rest.len() == left);
+        assert!(rt; seen.is_empty() == (left == 4));
+    }
+}
+
+/// The numbers of a prefix that a line asks for, with W as it asks for it, or 0. No line has another map of VEX.
 fn numbers_for(line: &Line) -> PrefixNumbers {
-    let w = line.w.unwrap_or(0);
+    let w = line.w == Some(1);
     match &line.prefix {
-        PrefixField::LegacyField(set, _) => PrefixNumbers {
-            low: 2 * u8::from(set.lock)
-                + 4 * u8::from(set.operand_size)
-                + 8 * u8::from(set.repne)
-                + 16 * u8::from(set.rep),
-            high: 1,
-            has_high: w == 1,
-            w,
-            is_free: true,
-        },
-        PrefixField::VexField(pp, map, l, _) => PrefixNumbers {
-            low: 1u8
-                .saturating_add(pp.saturating_mul(2))
-                .saturating_add(map.saturating_mul(8)),
-            high: *l,
-            has_high: true,
-            w,
-            is_free: true,
-        },
+        PrefixField::LegacyField(set, _) => {
+            PrefixNumbers::legacy(prefixes_of(*set), if w { Some(true) } else { None })
+        }
+        PrefixField::VexField(pp, 1, l, _) => PrefixNumbers::vex(*pp % 4, 1, *l, w, 0),
+        PrefixField::VexField(pp, _, l, _) => PrefixNumbers::vex(*pp % 4, 2, *l, w, 0),
     }
 }
 

@@ -15,6 +15,9 @@ use std::hash::{BuildHasherDefault, FoldHasher};
 /// How near behind the end of the list a key has to be to be listed. A constant adds no more places to it than these.
 const NEAR: usize = 16;
 
+/// For how many labels a first block is, as `Vec::push` would ask for it.
+const FIRST_LABELS: usize = 4;
+
 /// The places of the labels that were given, by number, and of the constants that are bound.
 ///
 /// Constants are mostly numbered from 0 on, and bound in about this order. One with a key of the list, or near behind it, is
@@ -33,6 +36,7 @@ impl<A: Allocator + Copy> Bindings<A> {
     ghost use Rattle.cax64_sink.specs.declared.DeferredTarget.{DeferredTarget};
 
     /// No label and no constant. Takes no memory.
+    #[inline(always)]
     pub fn new(alloc: A) -> Self
         ensures places { (target : DeferredTarget) → place_bound result target ≡ None }
         ensures labels { length result.labels.items ≡ 0 }
@@ -104,6 +108,11 @@ impl<A: Allocator> Bindings<A> {
     {
         if self.labels.len() == u32::MAX as usize {
             return Err(SinkError::Full);
+        }
+        if self.labels.capacity() == 0 {
+            self.labels
+                .reserve_exact(FIRST_LABELS)
+                .map_err(|_| SinkError::NoMemory)?;
         }
         let label = Label(self.labels.len() as u32);
         self.labels.push(None).map_err(|_| SinkError::NoMemory)?;

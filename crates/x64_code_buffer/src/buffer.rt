@@ -39,6 +39,7 @@ impl<A: Allocator + Copy> CodeBuffer<A> {
     ghost use Rattle.x64_code_buffer.specs.Filled.{Filled};
 
     /// An empty buffer that knows no offset, gave no label and bound nothing. Takes no memory.
+    #[inline(always)]
     pub fn new(alloc: A) -> Self
         ensures bytes { (buffer_state result).bytes ≡ [] }
         ensures notices { (buffer_state result).notices ≡ [] }

@@ -9,15 +9,13 @@ use std::alloc::Allocator;
 /// For how many bytes the first instruction makes room: a stub or a small function has about as many.
 const FIRST_ROOM: usize = 64;
 
-/// Makes room for a notice, and only then for the first bytes: so what the latter take beyond an instruction is never what
-/// the notice lacks. Where they are refused, there may still be memory for a single instruction.
+/// Makes room for a notice, and for the first bytes. Where they are refused, there may still be memory for a single
+/// instruction.
 #[inline(never)]
 fn take_first_blocks<A: Allocator>(recorder: &mut Recorder<A>)
     ensures { AsBefore (recorder_state recorder.old) (recorder_state recorder.new) }
 {
-    if recorder.reserve(0, 1).is_ok() {
-        let _ = recorder.reserve(FIRST_ROOM, 0);
-    }
+    recorder.reserve_first(FIRST_ROOM);
 }
 
 /// Where no room was asked for yet, makes room for more than one instruction, if there is memory for it.

@@ -20,7 +20,7 @@ use Rattle.cax64_encoder.proofs.encoder.code_for.Goals as goal
 pub returns-in-Some-clause-encodes : goal.returns-in-Some-clause-encodes
 returns-in-Some-clause-encodes g c o given =
     let is = nop_is o c.in-Some.nop (sym (ap (λ (content : Content). content.nop) given.kept) ∙ c.in-Some.is) in
-    let own : c.args.row ≡ nop_row c.in-Some.nop = rw is at given.shape in
+    let own : c.args.row ≡ nop_row c.in-Some.nop = rw is at given.signature in
     rw (is, c.nop_code.ensures.actions) (nop_encodes g.row.R-ReadGpr.Denot c.args.row c.in-Some.nop own)
 
 pub value-displacement-requires : goal.value-displacement-requires
@@ -43,7 +43,7 @@ code_of-requires-clause-fits g c =
     let form = form_of f (list_of o) in
     let is : c.args.content.now.form ≡ numbered_form f.read_gpr form = ap (λ (content : Content). content.form) given.kept in
     let offsets = (g.S.CodeSink.state c.args.sink.now).offsets in
-    fits_of f.read_gpr _ form is (line_of c.args.row) (fits_row f c.args.row o none given.shape)
+    fits_of f.read_gpr _ form is (line_of c.args.row) (fits_row f c.args.row o none given.signature)
 
 pub code_of-requires-clause-imm : goal.code_of-requires-clause-imm
 code_of-requires-clause-imm g c =
@@ -54,7 +54,7 @@ code_of-requires-clause-imm g c =
     let form = form_of f (list_of o) in
     let is : c.args.content.now.form ≡ numbered_form f.read_gpr form = ap (λ (content : Content). content.form) given.kept in
     let offsets = (g.S.CodeSink.state c.args.sink.now).offsets in
-    imm_of f.read_gpr _ form is (line_of c.args.row) (fits_row f c.args.row o none given.shape)
+    imm_of f.read_gpr _ form is (line_of c.args.row) (fits_row f c.args.row o none given.signature)
 
 pub code_of-requires-clause-numbered : goal.code_of-requires-clause-numbered
 code_of-requires-clause-numbered g c =
@@ -87,7 +87,7 @@ returns-in-None-clause-encodes g c o given =
     let is : c.args.content.now.form ≡ numbered_form f.read_gpr form = ap (λ (content : Content). content.form) given.kept in
     let offsets = (g.S.CodeSink.state c.args.sink.now).offsets in
     let real = is_real f row o none g.met.R.WriteGpr.AsReg.same offsets given.can in
-    let shape = fits_row f row o none given.shape in
+    let shape = fits_row f row o none given.signature in
     let small : FitsSigned w32 c.value-displacement.result = search rules in
     let displaced = to_z-of_z w32 c.value-displacement.result small ∙ c.value-displacement.ensures ∙ displacement_of f.read_gpr _ form is offsets in
     let written : EncodesParts (form_parts plain.enc row (displacement_in offsets form.place) (form_named (line_of row) c.args.content.now.form)) (memory_in (place_named c.args.content.now.form.place)) (code_actions c.code_of.result) = rw displaced at c.code_of.ensures.encodes in

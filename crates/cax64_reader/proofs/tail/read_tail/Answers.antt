@@ -7,7 +7,7 @@ use Rattle.cax64_reader.specs.Lengths.{Within}
 use Rattle.cax64_reader.specs.Found.{tail_of}
 use Rattle.cax64_reader.specs.declared.tail.Tail.{Tail}
 use Rattle.cax64_reader.proofs.Numbers.{nothing_left}
-use Rattle.cax64_reader.proofs.Prefixes.{front_is}
+use Rattle.cax64_table.proofs.Seen.{front_is}
 use Rattle.cax64_reader.proofs.Lengths.{tail_length, tail_reg}
 use Rattle.cax64_reader.proofs.tail.read_tail.Goals as goal
 

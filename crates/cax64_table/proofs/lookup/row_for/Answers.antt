@@ -8,10 +8,10 @@ returns-in_err-opcode c p h = rw (c.from_residual.ensures, no_opcode p c.args.by
 
 pub returns-in_err-row : goal.returns-in_err-row
 returns-in_err-row c p h =
-    let unfit = none_fits p c.in_ok-opcode.opcode c.in_ok-opcode.rest.now (rw h at c.in_err-row.ensures.absent) in
+    let unfit = none_fits p c.args.numbers c.in_ok-opcode.opcode c.in_ok-opcode.rest.now h c.in_err-row.ensures.absent in
     rw (c.from_residual-in_err-row.ensures, no_row p c.in_ok-opcode.opcode c.args.bytes.now c.in_ok-opcode.rest.now (sym c.in_ok-opcode.ensures) unfit) refl
 
 pub returns : goal.returns
 returns c p h =
-    let f = found_fits p c.in_ok-opcode.opcode c.in_ok-opcode.rest.now c.in_ok-row.row c.in_ok-row.ensures.found.0 (rw h at c.in_ok-row.ensures.found.1) in
+    let f = found_fits p c.args.numbers c.in_ok-opcode.opcode c.in_ok-opcode.rest.now c.in_ok-row.row h c.in_ok-row.ensures.found.0 c.in_ok-row.ensures.found.1 in
     sym (found_is c.in_ok-row.row p c.in_ok-opcode.opcode c.args.bytes.now c.in_ok-opcode.rest.now (sym c.in_ok-opcode.ensures) c.in_ok-row.ensures.found.0.opcode_is f)

@@ -6,16 +6,16 @@ use Rattle.cax64_encoder.proofs.Relatives.{meant_relative}
 use Rattle.cax64_encoder.proofs.instruction.AnyInstruction.encode.Goals as goal
 
 pub hand_to-requires : goal.hand_to-requires
-hand_to-requires g c shape =
+hand_to-requires g c signature =
     let f = family_of (numbering g.I.Family.ReadGpr.AsReg.settled g.I.Family.ReadGpr.AsReg.enc) (numbering g.I.Family.ReadWriteGpr.AsReg.settled g.I.Family.ReadWriteGpr.AsReg.enc) (numbering g.I.Family.WriteGpr.AsReg.settled g.I.Family.WriteGpr.AsReg.enc) (numbering g.I.Family.ReadXmm.AsReg.settled g.I.Family.ReadXmm.AsReg.enc) (numbering g.I.Family.ReadWriteXmm.AsReg.settled g.I.Family.ReadWriteXmm.AsReg.enc) (numbering g.I.Family.WriteXmm.AsReg.settled g.I.Family.WriteXmm.AsReg.enc) g.I.Family.WriteGpr.PartialEq.eq in
     let o = g.I.RowAndOperands.operands_of c.args.self.now in
-    (o, record { kept = content_is f o; shape = shape; can = c.requires })
+    (o, record { kept = content_is f o; signature = signature; can = c.requires })
 
 pub returns : goal.returns
 returns g c =
     let f = family_of (numbering g.I.Family.ReadGpr.AsReg.settled g.I.Family.ReadGpr.AsReg.enc) (numbering g.I.Family.ReadWriteGpr.AsReg.settled g.I.Family.ReadWriteGpr.AsReg.enc) (numbering g.I.Family.WriteGpr.AsReg.settled g.I.Family.WriteGpr.AsReg.enc) (numbering g.I.Family.ReadXmm.AsReg.settled g.I.Family.ReadXmm.AsReg.enc) (numbering g.I.Family.ReadWriteXmm.AsReg.settled g.I.Family.ReadWriteXmm.AsReg.enc) (numbering g.I.Family.WriteXmm.AsReg.settled g.I.Family.WriteXmm.AsReg.enc) g.I.Family.WriteGpr.PartialEq.eq in
     let o = g.I.RowAndOperands.operands_of c.args.self.now in
-    let w = c.hand_to.ensures.answers.0 o (record { kept = content_is f o; shape = c.hand_to.ensures.shape; can = c.requires }) in
+    let w = c.hand_to.ensures.answers.0 o (record { kept = content_is f o; signature = c.hand_to.ensures.signature; can = c.requires }) in
     record {
       adds = run_adds c.hand_to.result w.encodes w.ran;
       leaves = run_leaves c.hand_to.result w.encodes w.ran;
@@ -28,5 +28,5 @@ returns g c =
       byte_room = run_bytes_fall w.encodes w.ran;
       notice_room = run_notices_fall w.encodes w.ran;
       most = len_most w.encodes;
-      relative = meant_relative _ _ _ _ c.hand_to.ensures.shape;
+      relative = meant_relative _ _ _ _ c.hand_to.ensures.signature;
     }

@@ -1,7 +1,0 @@
-use Rattle.cax64_machine_code.specs.declared.row.Row.{Row}
-use Rattle.cax64_operand.specs.Shape.{HasShape}
-use Rattle.cax64_operand.specs.declared.operand.Operands.{Operands}
-
--- Operands have their row's shape: one word, which the search of a proof leaves as it is. A word of the proofs' own steps.
-unfoldable pub Shaped : {R A B C D E F : Type 0} → Row → Operands R A B C D E F → Type 0
-Shaped row operands = HasShape row operands
