@@ -1,13 +1,12 @@
-use Rattle.std.proofs.Common.{◌≡◌, ℕ, refl, ◌∙◌, ap, sym, arith, Bool, true, false, Option, Some, None, List, [], ◌∷◌, ℤ, length}
+use Rattle.std.proofs.Common.{◌≡◌, ℕ, refl, ◌∙◌, ap, sym, arith, Bool, true, Option, Some, None, List, [], ◌∷◌, ℤ, length}
 use Rattle.std.specs.Prelude.{◌&&◌, ◌==◌, drop, nat_le}
 use Rattle.std.proofs.lemmas.Bool.{and_parts}
 use Rattle.std.proofs.lemmas.Bool.Decides.{nat_tests}
 use Rattle.cax64_address.specs.Offset.{sum_fits}
-use Rattle.cax64_encoder.specs.Checked.{checked_of, checked_roles, holds}
+use Rattle.cax64_encoder.specs.Checked.{checked_of, holds}
 use Rattle.cax64_encoder.specs.Fault.{is_encodable}
 use Rattle.cax64_encoder.specs.Meant.{meant_of}
 use Rattle.cax64_encoder.specs.Numbered.{plain}
-use Rattle.cax64_encoder.specs.Role.{roles_of}
 use Rattle.cax64_encoder.proofs.Checks.{holds_is}
 use Rattle.cax64_machine_code.specs.declared.row.Row.{Row}
 use Rattle.cax64_machine_code.specs.declared.row.Row.TheVariants.{lock_addb_mi}
@@ -15,9 +14,9 @@ use Rattle.cax64_operand.specs.OperandList.{list_of}
 use Rattle.cax64_operand.specs.declared.instruction.Numbers.{Numbers}
 use Rattle.cax64_operand.specs.declared.nop.Nop.{Nop}
 use Rattle.cax64_operand.specs.declared.operand.Operand.{Operand}
-use Rattle.cax64_signature.proofs.Taken.{registers_in, rest_in, imm_field_in}
-use Rattle.cax64_signature.specs.Signature.{signature_of}
-use Rattle.cax64_signature.specs.declared.kind.OperandKind.{OperandKind}
+use Rattle.cax64_operand.proofs.Taken.{registers_in, rest_in, imm_field_in}
+use Rattle.cax64_operand.specs.Signature.{signature_of}
+use Rattle.cax64_operand.specs.declared.kind.OperandKind.{OperandKind}
 use Rattle.cax64_inst_data.specs.Data.{kept_of, operands_by, data_operands, row_by, data_row}
 use Rattle.cax64_inst_data.specs.Encodable.{all_real, matches, numbers_met}
 use Rattle.cax64_inst_data.specs.Fits.{all_zero, expected_of, is_absent, is_empty, fixed_in, place_fits, imm_fits, kinds_fit, fits}
@@ -36,13 +35,13 @@ use Rattle.cax64_inst_data.proofs.Tested.{place_tested, all_fixed, offset_tested
 
 -- The condition of data is that of its operands.
 
-record Fitted (kinds : List OperandKind) (reg vvvv : ℕ) (fixed : List ℕ) (kind : PlaceKind) : Type 0 where
-  registers : all_zero (drop (registers_in kinds) (reg ∷ vvvv ∷ [])) ≡ true
-  fixed_rest : all_zero (drop (fixed_in kinds) fixed) ≡ true
-  place : place_fits (rest_in kinds) kind ≡ true
-  four : (length fixed == 4) ≡ true
+pub record Fitted (kinds : List OperandKind) (reg vvvv : ℕ) (fixed : List ℕ) (kind : PlaceKind) : Type 0 where
+  pub registers : all_zero (drop (registers_in kinds) (reg ∷ vvvv ∷ [])) ≡ true
+  pub fixed_rest : all_zero (drop (fixed_in kinds) fixed) ≡ true
+  pub place : place_fits (rest_in kinds) kind ≡ true
+  pub four : (length fixed == 4) ≡ true
 
-fitted_parts : (kinds : List OperandKind) (reg vvvv : ℕ) (fixed : List ℕ) (kind : PlaceKind) (imm : ℕ) → kinds_fit kinds reg vvvv fixed kind imm ≡ true → Fitted kinds reg vvvv fixed kind
+pub fitted_parts : (kinds : List OperandKind) (reg vvvv : ℕ) (fixed : List ℕ) (kind : PlaceKind) (imm : ℕ) → kinds_fit kinds reg vvvv fixed kind imm ≡ true → Fitted kinds reg vvvv fixed kind
 fitted_parts kinds reg vvvv fixed kind imm h =
     let p = and_parts (all_zero (drop (registers_in kinds) (reg ∷ vvvv ∷ []))) _ h in
     let q = and_parts (all_zero (drop (fixed_in kinds) fixed)) _ p.1 in
@@ -50,12 +49,12 @@ fitted_parts kinds reg vvvv fixed kind imm h =
     let w = and_parts (imm_fits (imm_field_in kinds) imm) (length fixed == 4) r.1 in
     record { registers = p.0; fixed_rest = q.0; place = r.0; four = w.1 }
 
-row_has_four : (row : Row) → nat_le (fixed_in (signature_of row)) 4 ≡ true
+pub row_has_four : (row : Row) → nat_le (fixed_in (signature_of row)) 4 ≡ true
 unfolding signature_of
 row_has_four lock_addb_mi = refl
 row_has_four _ = refl
 
-long_enough : (n l : ℕ) → (l == 4) ≡ true → nat_le n 4 ≡ true → nat_le n l ≡ true
+pub long_enough : (n l : ℕ) → (l == 4) ≡ true → nat_le n 4 ≡ true → nat_le n l ≡ true
 long_enough n l e h = grind (arith, nat_tests, e, h)
 
 three : (a b c d e f : Bool) → a ≡ d → b ≡ e → c ≡ f → (a && (b && c)) ≡ (d && (e && f))
@@ -94,13 +93,13 @@ encodable_when d offsets None e =
     let fitted : kinds_fit (signature_of d.row) d.reg d.vvvv d.fixed d.place.kind d.imm ≡ true = rw e at h in
     let parts = fitted_parts (signature_of d.row) d.reg d.vvvv d.fixed d.place.kind d.imm fitted in
     let met : registers_met d ≡ met_of (signature_of d.row) d.place (kept_of d) =
-        three _ _ _ _ _ _ (sym (all_registers (signature_of d.row) (d.reg ∷ d.vvvv ∷ []) parts.registers)) (sym (all_fixed (signature_of d.row) d.fixed (long_enough (fixed_in (signature_of d.row)) (length d.fixed) parts.four (row_has_four d.row)) parts.fixed_rest)) (sym (place_tested d.row d.place parts.place))
-        ∙ sym (met_is (signature_of d.row) d.place (kept_of d)) in
+    three _ _ _ _ _ _ (sym (all_registers (signature_of d.row) (d.reg ∷ d.vvvv ∷ []) parts.registers)) (sym (all_fixed (signature_of d.row) d.fixed (long_enough (fixed_in (signature_of d.row)) (length d.fixed) parts.four (row_has_four d.row)) parts.fixed_rest)) (sym (place_tested d.row d.place parts.place))
+    ∙ sym (met_is (signature_of d.row) d.place (kept_of d)) in
     let late = sym (offset_tested offsets d.row d.place (kept_of d) parts.place) in
     let whole : (registers_met d && sum_fits offsets d.place.offset d.place.displacement) ≡ holds offsets (checked_of (numbers ◌==◌) l) =
-        ap (λ (x : Bool). x && sum_fits offsets d.place.offset d.place.displacement) met ∙ ap (λ (x : Bool). met_of (signature_of d.row) d.place (kept_of d) && x) late in
+    ap (λ (x : Bool). x && sum_fits offsets d.place.offset d.place.displacement) met ∙ ap (λ (x : Bool). met_of (signature_of d.row) d.place (kept_of d) && x) late in
     let back : holds offsets (checked_of (numbers ◌==◌) l) ≡ holds offsets (checked_of (numbers ◌==◌) (list_of (listed l))) =
-        ap (λ (x : List (Operand Numbers ℕ ℕ ℕ ℕ ℕ ℕ)). holds offsets (checked_of (numbers ◌==◌) x)) (sym (filled_back d.row d.place (kept_of d))) in
+    ap (λ (x : List (Operand Numbers ℕ ℕ ℕ ℕ ℕ ℕ)). holds offsets (checked_of (numbers ◌==◌) x)) (sym (filled_back d.row d.place (kept_of d))) in
     whole ∙ back ∙ holds_is (numbers ◌==◌) d.row (listed l) offsets
 encodable_when d offsets (Some nop) e =
     let h : fits d.nop d.row d.reg d.vvvv d.fixed d.place.kind d.imm ≡ true = d.is_kept in

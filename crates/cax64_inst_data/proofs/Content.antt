@@ -1,5 +1,5 @@
-use Rattle.std.proofs.Common.{◌≡◌, ℕ, ◌+◌, refl, ◌∙◌, ap, sym, arith, suc, Bool, true, false, Option, Some, None, List, [], ◌∷◌, length}
-use Rattle.std.specs.Prelude.{◌&&◌, ◌==◌, if◌then◌else◌, nat_le, drop}
+use Rattle.std.proofs.Common.{◌≡◌, ℕ, refl, ◌∙◌, ap, sym, arith, suc, Bool, true, Option, Some, None, List, [], ◌∷◌, length}
+use Rattle.std.specs.Prelude.{nat_le}
 use Rattle.std.proofs.lemmas.Bool.{and_parts}
 use Rattle.std.proofs.lemmas.Bool.Decides.{nat_tests}
 use Rattle.cax64_machine_code.specs.Rows.{line_of}
@@ -8,10 +8,10 @@ use Rattle.cax64_machine_code.specs.declared.row.Row.TheVariants.{lock_addb_mi}
 use Rattle.cax64_operand.specs.OperandList.{list_of, nop_of}
 use Rattle.cax64_operand.specs.declared.instruction.Numbers.{Numbers}
 use Rattle.cax64_operand.specs.declared.operand.Operand.{Operand}
-use Rattle.cax64_signature.proofs.Taken.{registers_in, rest_in, imm_field_in, is_few}
-use Rattle.cax64_signature.specs.Kind.{kinds_of}
-use Rattle.cax64_signature.specs.Signature.{signature_of}
-use Rattle.cax64_signature.specs.declared.kind.OperandKind.{OperandKind}
+use Rattle.cax64_operand.proofs.Taken.{registers_in, rest_in, imm_field_in, is_few}
+use Rattle.cax64_operand.specs.Kind.{kinds_of}
+use Rattle.cax64_operand.specs.Signature.{signature_of}
+use Rattle.cax64_operand.specs.declared.kind.OperandKind.{OperandKind}
 use Rattle.cax64_table.specs.Numbers.{has_register, has_vvvv}
 use Rattle.cax64_encoder.specs.Content.{content_of}
 use Rattle.cax64_encoder.specs.Form.{form_of}
@@ -25,7 +25,7 @@ use Rattle.cax64_encoder.proofs.Numbers.{with_all_numbers}
 use Rattle.cax64_machine_code.specs.declared.line.ImmField.{ImmField}
 use Rattle.cax64_machine_code.specs.declared.line.ImmField.TheVariants as field
 use Rattle.cax64_operand.specs.Shape.{Rest, nothing, memory, register_or_memory}
-use Rattle.cax64_inst_data.specs.Data.{kept_of, operands_by, data_operands, data_row}
+use Rattle.cax64_inst_data.specs.Data.{kept_of, operands_by, data_operands}
 use Rattle.cax64_inst_data.specs.Fits.{place_fits, imm_fits, kinds_fit, fits}
 use Rattle.cax64_inst_data.specs.When.{when}
 use Rattle.cax64_inst_data.specs.Form.{operand_by, data_form, content_by, data_content}
@@ -134,10 +134,10 @@ module _ (same : ℕ → ℕ → Bool) (d : InstData) (none : d.nop ≡ None) wh
       let w = and_parts _ _ r.1 in
       let whole = sym (with_all_numbers plain (roles_of (numbers same) l)) in
       whole ∙ same_parts
-        (reg_is same kinds d.place (kept_of d) ∙ ap (λ (b : Bool). when b d.reg) (sym (register_in_row d.row)))
-        (vvvv_is same kinds d.place (kept_of d) ∙ ap (λ (b : Bool). when b d.vvvv) (sym (vvvv_in_row d.row)))
-        (place_is same kinds d.place (kept_of d) ∙ fitted_place (rest_in kinds) d.place.kind d.place r.0)
-        (imm_is same kinds d.place (kept_of d) w.0 ∙ fitted_word (imm_field_in kinds) d.imm w.0)
+      (reg_is same kinds d.place (kept_of d) ∙ ap (λ (b : Bool). when b d.reg) (sym (register_in_row d.row)))
+      (vvvv_is same kinds d.place (kept_of d) ∙ ap (λ (b : Bool). when b d.vvvv) (sym (vvvv_in_row d.row)))
+      (place_is same kinds d.place (kept_of d) ∙ fitted_place (rest_in kinds) d.place.kind d.place r.0)
+      (imm_is same kinds d.place (kept_of d) w.0 ∙ fitted_word (imm_field_in kinds) d.imm w.0)
 
 abbrev with_form : NumberedForm → Content
 with_form form = record { nop = None; form = form }

@@ -1,10 +1,10 @@
-use Rattle.std.proofs.Common.{◌≡◌, ℕ, zero, suc, ◌+◌, refl, ◌∙◌, ap, sym, arith, Bool, true, false, Option, Some, None, List, [], ◌∷◌, ℤ}
-use Rattle.std.specs.Prelude.{◌&&◌, ◌||◌, ◌==◌, nat_lt, drop, if◌then◌else◌}
+use Rattle.std.proofs.Common.{◌≡◌, ℕ, zero, suc, ◌+◌, refl, ◌∙◌, ap, sym, arith, Bool, true, false, List, [], ◌∷◌}
+use Rattle.std.specs.Prelude.{◌&&◌, ◌||◌, ◌==◌, drop, if◌then◌else◌}
 use Rattle.std.proofs.lemmas.Bool.{and_parts}
 use Rattle.std.proofs.lemmas.Bool.Decides.{nat_tests}
-use Rattle.cax64_signature.specs.declared.kind.OperandKind.{OperandKind}
-use Rattle.cax64_signature.specs.declared.kind.OperandKind.TheVariants.{ReadGpr, ReadWriteGpr, WriteGpr, WriteTwoGprs, FixedReadGpr, FixedReadWriteGpr, ReadXmm, ReadWriteXmm, WriteXmm, ReadAmode, ReadGprMem, ReadWriteGprMem, ReadXmmMem, Imm}
-use Rattle.cax64_signature.proofs.Taken.{registers_in, rest_in}
+use Rattle.cax64_operand.specs.declared.kind.OperandKind.{OperandKind}
+use Rattle.cax64_operand.specs.declared.kind.OperandKind.TheVariants.{ReadGpr, ReadWriteGpr, WriteGpr, WriteTwoGprs, FixedReadGpr, FixedReadWriteGpr, ReadXmm, ReadWriteXmm, WriteXmm, ReadAmode, ReadGprMem, ReadWriteGprMem, ReadXmmMem, Imm}
+use Rattle.cax64_operand.proofs.Taken.{registers_in}
 use Rattle.cax64_address.specs.declared.amode.Amode.{Amode}
 use Rattle.cax64_address.specs.declared.amode.Amode.TheVariants.{ImmReg, ImmRegRegShift, RipRelative}
 use Rattle.cax64_address.specs.declared.operand.GprMem.TheVariants as gpr_mem
@@ -14,7 +14,7 @@ use Rattle.cax64_encoder.specs.Place.{gpr_mem_place, xmm_mem_place}
 use Rattle.cax64_encoder.specs.declared.checked.Checked.{Checked}
 use Rattle.cax64_encoder.specs.Numbered.{plain}
 use Rattle.cax64_encoder.specs.Role.{roles_of}
-use Rattle.cax64_inst_data.specs.Fits.{all_zero, fixed_in}
+use Rattle.cax64_inst_data.specs.Fits.{all_zero}
 use Rattle.cax64_inst_data.specs.Encodable.{real, all_real, fixed_met, place_met, gpr_or_memory_met}
 use Rattle.cax64_inst_data.specs.Operands.{Kept, filled, head, tail, next, next_fixed, amode_of, is_register}
 use Rattle.cax64_inst_data.specs.declared.place.DataPlace.{DataPlace}

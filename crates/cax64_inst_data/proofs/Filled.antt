@@ -1,7 +1,7 @@
-use Rattle.std.proofs.Common.{◌≡◌, ℕ, ◌+◌, ◌<◌, ◌^◌, refl, ◌∙◌, ap, sym, arith, Bool, true, false, Option, Some, None, List, [], ◌∷◌, w8, w32}
-use Rattle.std.specs.Prelude.{◌&&◌, ◌==◌, if◌then◌else◌, nat_lt, nat_le, option_map}
+use Rattle.std.proofs.Common.{◌≡◌, ℕ, ◌+◌, ◌^◌, refl, ◌∙◌, ap, sym, arith, Bool, true, false, Option, Some, None, List, [], ◌∷◌, w8, w32}
+use Rattle.std.specs.Prelude.{if◌then◌else◌, nat_lt, nat_le}
 use Rattle.std.specs.Int.{cast_signed, cast_unsigned}
-use Rattle.std.proofs.lemmas.Bool.{and_parts, ltb-true}
+use Rattle.std.proofs.lemmas.Bool.{ltb-true}
 use Rattle.std.proofs.lemmas.Bool.Decides.{nat_tests}
 use Rattle.std.proofs.lemmas.Int.{of_z-to_z}
 use Rattle.cax64_address.specs.declared.amode.Amode.{Amode}
@@ -12,22 +12,18 @@ use Rattle.cax64_machine_code.specs.declared.line.ImmField.TheVariants as field
 use Rattle.cax64_operand.specs.Family.{Family, family_of}
 use Rattle.cax64_operand.specs.Immediate.{imm_of}
 use Rattle.cax64_operand.specs.Shape.{Rest, nothing, memory, register_or_memory}
-use Rattle.cax64_operand.specs.declared.instruction.Numbers.{Numbers}
-use Rattle.cax64_operand.specs.declared.operand.Operand.{Operand}
-use Rattle.cax64_operand.specs.declared.operand.Operand.TheVariants as operand
 use Rattle.cax64_encoder.specs.Numbered.{plain, no_place, register_place, numbered_place, numbered_amode}
 use Rattle.cax64_encoder.specs.ImmActions.{imm_word}
 use Rattle.cax64_encoder.specs.Place.{gpr_mem_place, xmm_mem_place}
 use Rattle.cax64_encoder.specs.Role.{roles_of}
-use Rattle.cax64_encoder.specs.declared.numbered.NumberedForm.{NumberedForm}
 use Rattle.cax64_encoder.specs.declared.numbered.NumberedPlace.{NumberedPlace}
 use Rattle.cax64_encoder.proofs.Numbers.{with_numbers}
-use Rattle.cax64_signature.specs.Kind.{kinds_of, kind_of_imm}
-use Rattle.cax64_signature.specs.declared.kind.ImmediateKind.{ImmediateKind}
-use Rattle.cax64_signature.specs.declared.kind.ImmediateKind.TheVariants.{Imm8, Imm16, Imm32, Simm8, Simm32, Distance8, Distance32, Predicate, VexPredicate}
-use Rattle.cax64_signature.specs.declared.kind.OperandKind.{OperandKind}
-use Rattle.cax64_signature.specs.declared.kind.OperandKind.TheVariants.{ReadGpr, ReadWriteGpr, WriteGpr, WriteTwoGprs, FixedReadGpr, FixedReadWriteGpr, ReadXmm, ReadWriteXmm, WriteXmm, ReadAmode, ReadGprMem, ReadWriteGprMem, ReadXmmMem, Imm}
-use Rattle.cax64_signature.proofs.Taken.{registers_in, rest_in, field_of, imm_field_in}
+use Rattle.cax64_operand.specs.Kind.{kinds_of, kind_of_imm}
+use Rattle.cax64_operand.specs.declared.kind.ImmediateKind.{ImmediateKind}
+use Rattle.cax64_operand.specs.declared.kind.ImmediateKind.TheVariants.{Imm8, Imm16, Imm32, Simm8, Simm32, Distance8, Distance32, Predicate, VexPredicate}
+use Rattle.cax64_operand.specs.declared.kind.OperandKind.{OperandKind}
+use Rattle.cax64_operand.specs.declared.kind.OperandKind.TheVariants.{ReadGpr, ReadWriteGpr, WriteGpr, WriteTwoGprs, FixedReadGpr, FixedReadWriteGpr, ReadXmm, ReadWriteXmm, WriteXmm, ReadAmode, ReadGprMem, ReadWriteGprMem, ReadXmmMem, Imm}
+use Rattle.cax64_operand.proofs.Taken.{registers_in, rest_in, field_of, imm_field_in}
 use Rattle.cax64_inst_data.specs.Operands.{Kept, filled, head, tail, next, next_fixed, imm_by, amode_by, amode_of, is_register}
 use Rattle.cax64_inst_data.specs.Fits.{imm_fits}
 use Rattle.cax64_inst_data.specs.declared.place.DataPlace.{DataPlace}

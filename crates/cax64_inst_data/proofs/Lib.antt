@@ -8,3 +8,4 @@ pub mod Conditions
 pub mod OneMore
 pub mod More
 pub mod Visits
+pub mod Visited

@@ -1,14 +1,14 @@
-use Rattle.std.proofs.Common.{◌≡◌, ℕ, zero, suc, ◌+◌, ◌-◌, ◌≤◌, refl, ◌∙◌, ap, sym, arith, Bool, true, false, List, [], ◌∷◌, ◌++◌, length, take, drop}
-use Rattle.std.proofs.lemmas.List.{drop-drop, take_all, drop_all, length-take-le, length-drop, drop_at}
-use Rattle.cax64_signature.proofs.Taken.{registers_in, rest_in}
-use Rattle.cax64_signature.specs.declared.kind.OperandKind.{OperandKind}
-use Rattle.cax64_signature.specs.declared.kind.OperandKind.TheVariants.{ReadGpr, ReadWriteGpr, WriteGpr, WriteTwoGprs, FixedReadGpr, FixedReadWriteGpr, ReadXmm, ReadWriteXmm, WriteXmm, ReadAmode, ReadGprMem, ReadWriteGprMem, ReadXmmMem, Imm}
+use Rattle.std.proofs.Common.{◌≡◌, ℕ, ◌+◌, ◌-◌, ◌≤◌, refl, ap, arith, true, false, List, [], ◌∷◌, ◌++◌, length, take, drop}
+use Rattle.std.proofs.lemmas.List.{take_all, length-take-le, length-drop, drop_at}
+use Rattle.cax64_operand.proofs.Taken.{registers_in, rest_in}
+use Rattle.cax64_operand.specs.declared.kind.OperandKind.{OperandKind}
+use Rattle.cax64_operand.specs.declared.kind.OperandKind.TheVariants.{ReadGpr, ReadWriteGpr, WriteGpr, WriteTwoGprs, FixedReadGpr, FixedReadWriteGpr, ReadXmm, ReadWriteXmm, WriteXmm, ReadAmode, ReadGprMem, ReadWriteGprMem, ReadXmmMem, Imm}
 use Rattle.cax64_operand.specs.declared.instruction.Numbers.{Numbers}
 use Rattle.cax64_operand.specs.declared.operand.Operand.{Operand}
 use Rattle.cax64_operand.specs.declared.operand.Operand.TheVariants as operand
 use Rattle.cax64_inst_data.specs.Fits.{fixed_in}
 use Rattle.cax64_inst_data.specs.Own.{is_place, no_place, one_place, own_fixed, own_registers, own_rest}
-use Rattle.cax64_inst_data.specs.Operands.{Kept, behind, filled, head, next, next_fixed, operand_by, tail}
+use Rattle.cax64_inst_data.specs.Operands.{Kept, behind, filled, head, operand_by, tail}
 use Rattle.cax64_inst_data.specs.declared.place.DataPlace.{DataPlace}
 
 -- What operands of several kinds take, told from the first kind and the later ones.
@@ -245,4 +245,3 @@ part_is n m = take_all (length m - n) (drop n m) (omega (arith, length-drop n m)
 
 pub rest_is : (n : ℕ) (m s : List ℕ) → n ≤ length m → drop n (take n m ++ s) ≡ s
 rest_is n m s h = drop_at (take n m) s n (length-take-le n m h)
-

@@ -2,7 +2,7 @@ use Rattle.std.proofs.Common.{◌≡◌, ◌≤◌, ℕ, suc, ap, refl, arith, L
 use Rattle.cax64_operand.specs.Fold.{before}
 use Rattle.cax64_operand.specs.declared.instruction.Numbers.{Numbers}
 use Rattle.cax64_operand.specs.declared.operand.Operand.{Operand}
-use Rattle.cax64_signature.specs.declared.kind.OperandKind.{OperandKind}
+use Rattle.cax64_operand.specs.declared.kind.OperandKind.{OperandKind}
 use Rattle.cax64_inst_data.specs.Operands.{Kept, behind, filled, listed}
 use Rattle.cax64_inst_data.specs.declared.place.DataPlace.{DataPlace}
 

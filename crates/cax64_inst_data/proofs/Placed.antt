@@ -1,13 +1,10 @@
-use Rattle.std.proofs.Common.{◌≡◌, ℕ, refl, arith, Bool, true, false, Option, Some, None, ℤ, pos, negsuc}
-use Rattle.std.specs.Prelude.{◌&&◌, ◌==◌, is_none, if◌then◌else◌}
+use Rattle.std.proofs.Common.{◌≡◌, ℕ, refl, arith, true, Option, Some, None, ℤ, pos, negsuc}
+use Rattle.std.specs.Prelude.{◌==◌, is_none}
 use Rattle.std.proofs.lemmas.Bool.{and_parts}
 use Rattle.std.proofs.lemmas.Bool.Decides.{nat_tests}
 use Rattle.cax64_address.specs.declared.amode.Scale.{Scale}
 use Rattle.cax64_address.specs.declared.amode.Scale.TheVariants.{One, Two, Four, Eight}
 use Rattle.cax64_encoder.specs.Numbered.{plain, numbered_place}
-use Rattle.cax64_encoder.specs.declared.numbered.NumberedPlace.{NumberedPlace}
-use Rattle.cax64_sink.specs.declared.DeferredTarget.{DeferredTarget}
-use Rattle.cax64_sink.specs.declared.DeferredTarget.TheVariants as target
 use Rattle.cax64_sink.specs.declared.TrapCode.{TrapCode}
 use Rattle.cax64_inst_data.specs.Form.{operand_by, place_operand}
 use Rattle.cax64_inst_data.specs.Place.{is_one, is_zero, nothing_more, is_plain}

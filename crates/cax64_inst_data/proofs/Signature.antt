@@ -1,4 +1,4 @@
-use Rattle.std.proofs.Common.{◌≡◌, ℕ, ◌<◌, ◌^◌, refl, ◌∙◌, ap, sym, arith, Bool, true, false, Option, Some, None, List, [], ◌∷◌, ℤ, pos, negsuc, w8, w32, FitsSigned}
+use Rattle.std.proofs.Common.{◌≡◌, ℕ, ◌<◌, ◌^◌, refl, arith, Bool, true, false, Option, Some, None, List, [], ◌∷◌, ℤ, pos, negsuc, w8, w32, FitsSigned}
 use Rattle.std.specs.Prelude.{◌&&◌, nat_lt, drop}
 use Rattle.std.specs.Int.{cast_signed}
 use Rattle.std.proofs.lemmas.Bool.{and_parts, ltb-true}
@@ -7,22 +7,19 @@ use Rattle.std.proofs.lemmas.Int.{ints}
 use Rattle.cax64_machine_code.specs.declared.row.Row.{Row}
 use Rattle.cax64_machine_code.specs.declared.row.Row.TheVariants.{lock_addb_mi}
 use Rattle.cax64_operand.specs.Immediate.{imm_of, imm_in_range, signed_below}
-use Rattle.cax64_operand.specs.OperandList.{list_of}
 use Rattle.cax64_operand.specs.declared.instruction.Numbers.{Numbers}
 use Rattle.cax64_operand.specs.declared.nop.Nop.{Nop}
 use Rattle.cax64_operand.specs.declared.operand.Operand.{Operand}
-use Rattle.cax64_operand.specs.Shape.{HasShape}
-use Rattle.cax64_signature.proofs.Shapes.{shape}
-use Rattle.cax64_signature.proofs.Taken.{field_of, imm_field_in, registers_in, rest_in}
-use Rattle.cax64_signature.specs.Kind.{kinds_of, imms_in_range}
-use Rattle.cax64_signature.specs.Signature.{signature_of, HasSignature}
-use Rattle.cax64_signature.specs.declared.kind.ImmediateKind.{ImmediateKind}
-use Rattle.cax64_signature.specs.declared.kind.ImmediateKind.TheVariants.{Imm8, Imm16, Imm32, Simm8, Simm32, Distance8, Distance32, Predicate, VexPredicate}
-use Rattle.cax64_signature.specs.declared.kind.OperandKind.{OperandKind}
-use Rattle.cax64_signature.specs.declared.kind.OperandKind.TheVariants.{ReadGpr, ReadWriteGpr, WriteGpr, WriteTwoGprs, FixedReadGpr, FixedReadWriteGpr, ReadXmm, ReadWriteXmm, WriteXmm, ReadAmode, ReadGprMem, ReadWriteGprMem, ReadXmmMem, Imm}
+use Rattle.cax64_operand.proofs.Taken.{field_of, imm_field_in, registers_in, rest_in}
+use Rattle.cax64_operand.specs.Kind.{imms_in_range}
+use Rattle.cax64_operand.specs.Signature.{signature_of, HasSignature}
+use Rattle.cax64_operand.specs.declared.kind.ImmediateKind.{ImmediateKind}
+use Rattle.cax64_operand.specs.declared.kind.ImmediateKind.TheVariants.{Imm8, Imm16, Imm32, Simm8, Simm32, Distance8, Distance32, Predicate, VexPredicate}
+use Rattle.cax64_operand.specs.declared.kind.OperandKind.{OperandKind}
+use Rattle.cax64_operand.specs.declared.kind.OperandKind.TheVariants.{ReadGpr, ReadWriteGpr, WriteGpr, WriteTwoGprs, FixedReadGpr, FixedReadWriteGpr, ReadXmm, ReadWriteXmm, WriteXmm, ReadAmode, ReadGprMem, ReadWriteGprMem, ReadXmmMem, Imm}
 use Rattle.cax64_inst_data.specs.Data.{kept_of, operands_by, data_operands, row_by, data_row}
 use Rattle.cax64_inst_data.specs.Fits.{all_zero, each_fits, fixed_in, place_fits, imm_fits, kinds_fit, fits}
-use Rattle.cax64_inst_data.specs.Operands.{Kept, filled, listed, next, next_fixed, imm_by}
+use Rattle.cax64_inst_data.specs.Operands.{Kept, filled, next, next_fixed, imm_by}
 use Rattle.cax64_inst_data.specs.declared.data.InstData.{InstData}
 use Rattle.cax64_inst_data.specs.declared.place.DataPlace.{DataPlace}
 use Rattle.cax64_inst_data.specs.declared.place.PlaceKind.{PlaceKind}
@@ -159,9 +156,6 @@ signature_when d None e =
 -- the operands of data have its row's signature
 pub has_signature : (d : InstData) → HasSignature (data_row d) (data_operands d)
 has_signature d = signature_when d d.nop refl
-
-pub has_shape : (d : InstData) → HasShape (data_row d) (data_operands d)
-has_shape d = shape (data_row d) (data_operands d) (has_signature d)
 
 none_fits : (kinds : List OperandKind) (word : ℕ) → no_imm kinds ≡ true → each_fits kinds word ≡ true
 none_fits [] word h = refl

@@ -1,5 +1,5 @@
-use Rattle.std.proofs.Common.{◌≡◌, ℕ, zero, suc, ◌+◌, refl, ◌∙◌, ap, sym, arith, Bool, true, false, Option, Some, None, List, [], ◌∷◌, ℤ, pos, length}
-use Rattle.std.specs.Prelude.{◌&&◌, ◌==◌, not, nat_lt, nat_le, drop, if◌then◌else◌, is_none}
+use Rattle.std.proofs.Common.{◌≡◌, ℕ, refl, ◌∙◌, ap, sym, arith, Bool, true, false, Option, None, List, [], ◌∷◌, ℤ, length}
+use Rattle.std.specs.Prelude.{◌&&◌, ◌==◌, nat_le, drop, if◌then◌else◌}
 use Rattle.std.proofs.lemmas.Bool.{and_parts}
 use Rattle.std.proofs.lemmas.Bool.Decides.{nat_tests}
 use Rattle.cax64_address.specs.Offset.{sum_fits}
@@ -15,15 +15,15 @@ use Rattle.cax64_encoder.specs.declared.checked.Checked.{Checked}
 use Rattle.cax64_machine_code.specs.declared.row.Row.{Row}
 use Rattle.cax64_machine_code.specs.declared.row.Row.TheVariants.{lock_addb_mi}
 use Rattle.cax64_operand.specs.Shape.{Rest, nothing, memory, register_or_memory}
-use Rattle.cax64_signature.proofs.Taken.{registers_in, rest_in}
-use Rattle.cax64_signature.specs.Signature.{signature_of}
-use Rattle.cax64_signature.specs.declared.kind.OperandKind.{OperandKind}
-use Rattle.cax64_signature.specs.declared.kind.OperandKind.TheVariants.{ReadGpr, ReadWriteGpr, WriteGpr, WriteTwoGprs, FixedReadGpr, FixedReadWriteGpr, ReadXmm, ReadWriteXmm, WriteXmm, ReadAmode, ReadGprMem, ReadWriteGprMem, ReadXmmMem, Imm}
+use Rattle.cax64_operand.proofs.Taken.{rest_in}
+use Rattle.cax64_operand.specs.Signature.{signature_of}
+use Rattle.cax64_operand.specs.declared.kind.OperandKind.{OperandKind}
+use Rattle.cax64_operand.specs.declared.kind.OperandKind.TheVariants.{ReadGpr, ReadWriteGpr, WriteGpr, WriteTwoGprs, FixedReadGpr, FixedReadWriteGpr, ReadXmm, ReadWriteXmm, WriteXmm, ReadAmode, ReadGprMem, ReadWriteGprMem, ReadXmmMem, Imm}
 use Rattle.cax64_inst_data.specs.Encodable.{real, place_met, gpr_or_memory_met, fixed_met, matches, numbers_met}
 use Rattle.cax64_inst_data.specs.Fits.{all_zero, expected_of, fixed_in, place_fits}
 use Rattle.cax64_inst_data.specs.Own.{no_place, one_place}
-use Rattle.cax64_inst_data.specs.Operands.{Kept, filled, head, tail, next, next_fixed, amode_by, amode_of, is_register}
-use Rattle.cax64_inst_data.specs.Place.{is_plain, is_one, nothing_more}
+use Rattle.cax64_inst_data.specs.Operands.{Kept, filled, next, next_fixed, amode_by, amode_of, is_register}
+use Rattle.cax64_inst_data.specs.Place.{is_plain}
 use Rattle.cax64_inst_data.specs.declared.place.DataPlace.{DataPlace}
 use Rattle.cax64_inst_data.specs.declared.place.PlaceKind.{PlaceKind}
 use Rattle.cax64_inst_data.specs.declared.place.PlaceKind.TheVariants.{Absent, Register, Base, BaseAndIndex, Label, Constant, NoTarget}

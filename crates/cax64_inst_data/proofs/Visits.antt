@@ -1,12 +1,11 @@
 use Rattle.std.proofs.Common.{◌≡◌, ℕ, ◌+◌, ◌-◌, ◌≤◌, refl, ◌∙◌, ap, sym, arith, Bool, true, false, List, [], ◌∷◌, ◌++◌, length, take, drop}
 use Rattle.std.proofs.lemmas.List.{drop-drop, drop_all, length-drop}
 use borrow.Rule.Slice.PartMut.{post_of}
-use Rattle.cax64_signature.proofs.Taken.{registers_in, rest_in}
-use Rattle.cax64_signature.specs.declared.kind.OperandKind.{OperandKind}
+use Rattle.cax64_operand.proofs.Taken.{registers_in, rest_in}
+use Rattle.cax64_operand.specs.declared.kind.OperandKind.{OperandKind}
 use Rattle.cax64_operand.specs.Visit.{OperandRun, Run}
 use Rattle.cax64_operand.specs.VisitSteps.{Steps}
 use Rattle.cax64_operand.specs.declared.instruction.Numbers.{Numbers}
-use Rattle.cax64_operand.specs.declared.operand.Operand.{Operand}
 use Rattle.cax64_inst_data.specs.Fits.{fixed_in, place_fits}
 use Rattle.cax64_inst_data.specs.Own.{is_place, no_place, one_place, own_fixed, own_registers, own_rest}
 use Rattle.cax64_inst_data.specs.Operands.{Kept, behind, filled, operand_by}
@@ -75,25 +74,24 @@ pub rest_stays : (kinds later : List OperandKind) (kind : OperandKind) (m0 m s :
 rest_stays kinds later kind m0 m s r is e few same h =
     let n : registers_in kinds ≡ r + registers_in later = ap (λ (x : List OperandKind). registers_in x) is ∙ registers_more kind later ∙ ap (λ (x : ℕ). x + registers_in later) (sym e) in
     let now : drop (registers_in later) (drop r (written r m s)) ≡ drop (registers_in later) (drop r m0) =
-        ap (λ (x : List ℕ). drop (registers_in later) x) (ap (λ (x : List ℕ). drop r x) (written_is r m s) ∙ rest_is r m s few)
-        ∙ h ∙ ap (λ (x : List ℕ). drop (registers_in later) x) (part_is r m ∙ same) in
+    ap (λ (x : List ℕ). drop (registers_in later) x) (ap (λ (x : List ℕ). drop r x) (written_is r m s) ∙ rest_is r m s few)
+    ∙ h ∙ ap (λ (x : List ℕ). drop (registers_in later) x) (part_is r m ∙ same) in
     ap (λ (x : ℕ). drop x (written r m s)) n ∙ sym (drop-drop (registers_in later) r (written r m s)) ∙ now ∙ drop-drop (registers_in later) r m0 ∙ ap (λ (x : ℕ). drop x m0) (sym n)
 
 pub fixed_stay : (kinds later : List OperandKind) (kind : OperandKind) (m0 m s : List ℕ) (r : ℕ) → kinds ≡ kind ∷ later → r ≡ own_fixed kind → r ≤ length m → drop r m ≡ drop r m0 → drop (fixed_in later) s ≡ drop (fixed_in later) (take (length m - r) (drop r m)) → drop (fixed_in kinds) (written r m s) ≡ drop (fixed_in kinds) m0
 fixed_stay kinds later kind m0 m s r is e few same h =
     let n : fixed_in kinds ≡ r + fixed_in later = ap (λ (x : List OperandKind). fixed_in x) is ∙ fixed_more kind later ∙ ap (λ (x : ℕ). x + fixed_in later) (sym e) in
     let now : drop (fixed_in later) (drop r (written r m s)) ≡ drop (fixed_in later) (drop r m0) =
-        ap (λ (x : List ℕ). drop (fixed_in later) x) (ap (λ (x : List ℕ). drop r x) (written_is r m s) ∙ rest_is r m s few)
-        ∙ h ∙ ap (λ (x : List ℕ). drop (fixed_in later) x) (part_is r m ∙ same) in
+    ap (λ (x : List ℕ). drop (fixed_in later) x) (ap (λ (x : List ℕ). drop r x) (written_is r m s) ∙ rest_is r m s few)
+    ∙ h ∙ ap (λ (x : List ℕ). drop (fixed_in later) x) (part_is r m ∙ same) in
     ap (λ (x : ℕ). drop x (written r m s)) n ∙ sym (drop-drop (fixed_in later) r (written r m s)) ∙ now ∙ drop-drop (fixed_in later) r m0 ∙ ap (λ (x : ℕ). drop x m0) (sym n)
 
 module _ (kind : OperandKind) (later : List OperandKind) (p0 p p2 : DataPlace) (m0 m s f0 f t : List ℕ) (imm : ℕ)
-  (few : own_registers kind ≤ length m) (few_fixed : own_fixed kind ≤ length f)
-  (stays : behind kind (record { registers = m; fixed = f; imm = imm }) ≡ behind kind (record { registers = m0; fixed = f0; imm = imm }))
-  (one : one_place (kind ∷ later) ≡ true)
-  (not_visited : is_place kind ≡ false → p ≡ p0)
-  (none_visited : no_place later ≡ true → p2 ≡ p) where
-
+    (few : own_registers kind ≤ length m) (few_fixed : own_fixed kind ≤ length f)
+    (stays : behind kind (record { registers = m; fixed = f; imm = imm }) ≡ behind kind (record { registers = m0; fixed = f0; imm = imm }))
+    (one : one_place (kind ∷ later) ≡ true)
+    (not_visited : is_place kind ≡ false → p ≡ p0)
+    (none_visited : no_place later ≡ true → p2 ≡ p) where
   abbrev start : Kept
   start = record { registers = m0; fixed = f0; imm = imm }
 
@@ -142,13 +140,13 @@ pub fixed_behind : (kind : OperandKind) (m0 m f0 f : List ℕ) (imm r : ℕ) →
 fixed_behind kind m0 m f0 f imm r e stays = rw e (ap (λ (x : Kept). x.fixed) (same_behind kind m0 m f0 f imm stays))
 
 pub run_all : {V : Type 0} (kinds later : List OperandKind) (kind : OperandKind) (p0 p p2 : DataPlace) (m0 m s f0 f t : List ℕ) (imm r rf : ℕ) (same : ℕ → ℕ → Bool) (steps : Steps V ℕ ℕ ℕ ℕ ℕ ℕ) (v u w : V)
-  → kinds ≡ kind ∷ later → r ≡ own_registers kind → rf ≡ own_fixed kind
-  → registers_in kinds ≤ length m0 → fixed_in kinds ≤ length f0 → length m ≡ length m0 → length f ≡ length f0
-  → behind kind (record { registers = m; fixed = f; imm = imm }) ≡ behind kind (record { registers = m0; fixed = f0; imm = imm })
-  → one_place kinds ≡ true → (is_place kind ≡ false → p ≡ p0) → (no_place later ≡ true → p2 ≡ p)
-  → OperandRun {R = Numbers} same steps v (operand_by kind p0 (record { registers = m0; fixed = f0; imm = imm })) (operand_by kind p (record { registers = m; fixed = f; imm = imm })) u
-  → Run {R = Numbers} same steps u (filled later p (record { registers = take (length m - r) (drop r m); fixed = take (length f - rf) (drop rf f); imm = imm })) (filled later p2 (record { registers = s; fixed = t; imm = imm })) w
-  → Run {R = Numbers} same steps v (filled kinds p0 (record { registers = m0; fixed = f0; imm = imm })) (filled kinds p2 (record { registers = written r m s; fixed = written rf f t; imm = imm })) w
+    → kinds ≡ kind ∷ later → r ≡ own_registers kind → rf ≡ own_fixed kind
+    → registers_in kinds ≤ length m0 → fixed_in kinds ≤ length f0 → length m ≡ length m0 → length f ≡ length f0
+    → behind kind (record { registers = m; fixed = f; imm = imm }) ≡ behind kind (record { registers = m0; fixed = f0; imm = imm })
+    → one_place kinds ≡ true → (is_place kind ≡ false → p ≡ p0) → (no_place later ≡ true → p2 ≡ p)
+    → OperandRun {R = Numbers} same steps v (operand_by kind p0 (record { registers = m0; fixed = f0; imm = imm })) (operand_by kind p (record { registers = m; fixed = f; imm = imm })) u
+    → Run {R = Numbers} same steps u (filled later p (record { registers = take (length m - r) (drop r m); fixed = take (length f - rf) (drop rf f); imm = imm })) (filled later p2 (record { registers = s; fixed = t; imm = imm })) w
+    → Run {R = Numbers} same steps v (filled kinds p0 (record { registers = m0; fixed = f0; imm = imm })) (filled kinds p2 (record { registers = written r m s; fixed = written rf f t; imm = imm })) w
 run_all kinds later kind p0 p p2 m0 m s f0 f t imm r rf same steps v u w is e ef few few_fixed long long_fixed stays one not_visited none_visited first others =
     let a : own_registers kind ≤ length m = let x = enough_first kinds later kind m0 is few in omega (arith, x, long) in
     let b : own_fixed kind ≤ length f = let x = enough_fixed kinds later kind f0 is few_fixed in omega (arith, x, long_fixed) in

@@ -1,11 +1,11 @@
-use Rattle.std.specs.Prelude.{ℕ, Option, Some, None, List, [], ◌∷◌}
+use Rattle.std.specs.Prelude.{ℕ, Option, Some, None, [], ◌∷◌}
 use Rattle.cax64_machine_code.specs.declared.row.Row.{Row}
 use Rattle.cax64_operand.specs.NopRow.{nop_row}
 use Rattle.cax64_operand.specs.declared.instruction.Numbers.{Numbers}
 use Rattle.cax64_operand.specs.declared.nop.Nop.{Nop}
 use Rattle.cax64_operand.specs.declared.operand.Operands.{Operands}
 use Rattle.cax64_operand.specs.declared.operand.Operands.TheVariants as operands
-use Rattle.cax64_signature.specs.Signature.{signature_of}
+use Rattle.cax64_operand.specs.Signature.{signature_of}
 use Rattle.cax64_inst_data.specs.Operands.{Kept, filled, listed}
 use Rattle.cax64_inst_data.specs.declared.data.InstData.{InstData}
 

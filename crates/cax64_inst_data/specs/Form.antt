@@ -1,4 +1,4 @@
-use Rattle.std.specs.Prelude.{ℕ, Bool, true, false, if◌then◌else◌, Option, Some, None}
+use Rattle.std.specs.Prelude.{ℕ, Option, Some, None}
 use Rattle.cax64_machine_code.specs.Rows.{line_of}
 use Rattle.cax64_encoder.specs.Numbered.{plain, numbered_place, no_form}
 use Rattle.cax64_encoder.specs.declared.content.Content.{Content}

@@ -1,5 +1,5 @@
-use Rattle.std.specs.Prelude.{ℕ, ◌&&◌, Bool, List, [], ◌∷◌}
-use Rattle.cax64_signature.specs.Signature.{signature_of}
+use Rattle.std.specs.Prelude.{◌&&◌, Bool, [], ◌∷◌}
+use Rattle.cax64_operand.specs.Signature.{signature_of}
 use Rattle.cax64_inst_data.specs.Encodable.{all_real, matches, numbers_met}
 use Rattle.cax64_inst_data.specs.Fits.{expected_of}
 use Rattle.cax64_inst_data.specs.declared.data.InstData.{InstData}

@@ -3,18 +3,18 @@
 ghost use Rattle.std.specs.Prelude.{◌≡◌, true};
 ghost use Rattle.cax64_operand.specs.NopRow.{nop_row};
 ghost use Rattle.cax64_inst_data.specs.Fits.{expected_of, fits};
-ghost use Rattle.cax64_signature.specs.Signature.{signature_of};
+ghost use Rattle.cax64_operand.specs.Signature.{signature_of};
 ghost use Rattle.cax64_inst_data.specs.Encodable.{four};
 ghost use Rattle.cax64_inst_data.specs.When.{when};
 
 use crate::listing::listed;
 use crate::place::DataPlace;
+use crate::visit::visit_kinds;
 use cax64_encoder::content::Content;
 use cax64_encoder::numbered::NumberedForm;
 use cax64_machine_code::row::Row;
-use cax64_operand::{FromOperands, Nop, Numbers, Operands};
+use cax64_operand::{FromOperands, Nop, Numbers, Operands, RegisterVisitor, signature};
 use cax64_register::gpr;
-use cax64_signature::signature;
 use cax64_table::numbers;
 
 /// An instruction: a row of the table, and operands by their numbers.
@@ -31,6 +31,7 @@ pub struct InstData {
 }
 
 impl InstData {
+    ghost use Rattle.cax64_operand.specs.Visit.{OperandsRun};
     ghost use Rattle.cax64_inst_data.specs.Data.{data_operands, data_row};
     ghost use Rattle.cax64_inst_data.specs.Form.{data_content, data_form};
     ghost use Rattle.cax64_inst_data.specs.Registers.{registers_met};
@@ -97,6 +98,35 @@ impl InstData {
         }
     }
 
+    /// Visits the registers in the order of the operands.
+    pub(crate) fn visit_registers<V: RegisterVisitor<Numbers>>(&mut self, visitor: &mut V)
+        ensures run { OperandsRun ⟦<u8 as PartialEq>⟧.eq V.steps visitor.old (data_operands self.old) (data_operands self.new) visitor.new }
+        ensures row { data_row self.new ≡ data_row self.old }
+    {
+        if self.nop.is_none() {
+            let mut place = self.place;
+            let mut registers = [self.reg, self.vvvv];
+            let mut fixed = self.fixed;
+            visit_kinds(
+                signature(self.row),
+                &mut place,
+                &mut registers,
+                &mut fixed,
+                visitor,
+            );
+            let [reg, vvvv] = registers;
+            *self = InstData {
+                place,
+                imm: self.imm,
+                row: self.row,
+                nop: None,
+                reg,
+                vvvv,
+                fixed,
+            };
+        }
+    }
+
     /// The row of the table.
     #[inline(always)]
     pub(crate) fn its_row(&self) -> Row
@@ -110,7 +140,7 @@ impl InstData {
 }
 
 /// The numbers that the fixed registers of a row have to hold, in the order of visits, and 0 behind them.
-#[tactic(auto, unfolding(cax64_signature::specs::Signature::signature_of))]
+#[tactic(auto, unfolding(cax64_operand::specs::Signature::signature_of))]
 #[inline(always)]
 fn expected(row: Row) -> [u8; 4]
     ensures { result ≡ four (expected_of (signature_of row)) }

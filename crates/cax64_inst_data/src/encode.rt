@@ -5,6 +5,7 @@ ghost use Rattle.std.specs.Prelude.{◌≡◌};
 use crate::data::InstData;
 use cax64_encoder::content::Content;
 use cax64_encoder::fault::first_fault;
+use cax64_encoder::room::{Measuring, RoomNeeded};
 use cax64_encoder::{Fault, Instruction};
 use cax64_machine_code::row::Row;
 use cax64_operand::{HasOperands, Numbers, RegisterFamily, RegisterVisitor, Task};
@@ -29,12 +30,14 @@ impl Instruction for InstData {
 
     ghost follows = { λ d offsets. refl };
 
-    #[tactic(auto, using(crate::proofs::Signature::has_shape))]
+    #[tactic(auto, using(crate::proofs::Signature::has_signature))]
     fn row(&self) -> Row {
         self.its_row()
     }
 
-    fn visit<V: RegisterVisitor<Numbers>>(&mut self, visitor: &mut V) {}
+    fn visit<V: RegisterVisitor<Numbers>>(&mut self, visitor: &mut V) {
+        self.visit_registers(visitor);
+    }
 
     #[inline(always)]
     fn first_fault<S: CodeSink>(&self, sink: &S) -> Option<Fault> {
@@ -51,11 +54,19 @@ impl Instruction for InstData {
     }
 
     fn encoded_len<S: CodeSink>(&self, sink: &S) -> u8 {
-        1
+        self.room_needed(sink).bytes
     }
 
     fn notice_count(&self) -> u8 {
         self.content().form.place.notice_count()
+    }
+
+    fn room_needed<S: CodeSink>(&self, sink: &S) -> RoomNeeded {
+        <Content as Task<Numbers, Measuring<'_, S>>>::take(
+            self.content(),
+            self.its_row(),
+            &mut Measuring { sink },
+        )
     }
 
     #[inline(always)]

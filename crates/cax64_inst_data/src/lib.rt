@@ -4,7 +4,7 @@
 pub mod data;
 mod encode;
 mod listing;
-mod visit;
 pub mod place;
+mod visit;
 
 pub use data::InstData;

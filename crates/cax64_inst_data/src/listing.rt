@@ -1,7 +1,7 @@
 //! The operands of data, listed.
 
 ghost use Rattle.std.specs.Prelude.{◌≡◌, ◌≤◌, true, [], ◌∷◌, length, ℕ};
-ghost use Rattle.cax64_signature.proofs.Taken.{field_of};
+ghost use Rattle.cax64_operand.proofs.Taken.{field_of};
 ghost use Rattle.cax64_inst_data.specs.Fits.{each_fits, imm_fits, kind_fits};
 ghost use Rattle.cax64_inst_data.specs.Operands.{amode_of, behind, filled, gpr_mem_of, head, imm_by, listed, operand_by, tail, xmm_mem_of};
 
@@ -9,9 +9,10 @@ use crate::place::{DataPlace, PlaceKind};
 use cax64_address::amode::Amode;
 use cax64_address::offset::AmodeOffsetPlusKnownOffset;
 use cax64_address::operand::{GprMem, XmmMem};
-use cax64_operand::{FromOperands, Immediate, Numbers, Operand, Operands};
+use cax64_operand::{
+    FromOperands, Immediate, ImmediateKind, Numbers, Operand, OperandKind, Operands,
+};
 use cax64_register::NonRspGpr;
-use cax64_signature::{ImmediateKind, OperandKind};
 use cax64_sink::{Constant, DeferredTarget, Label};
 
 /// The first number, 0 of none.
@@ -142,11 +143,7 @@ fn operand_of(
 }
 
 /// What is kept behind an operand of a kind.
-fn behind<'a>(
-    kind: OperandKind,
-    registers: &'a [u8],
-    fixed: &'a [u8],
-) -> (&'a [u8], &'a [u8])
+fn behind<'a>(kind: OperandKind, registers: &'a [u8], fixed: &'a [u8]) -> (&'a [u8], &'a [u8])
     ensures { (imm : ℕ) → record { registers = result.0.now; fixed = result.1.now; imm = imm } ≡ behind kind (record { registers = registers.now; fixed = fixed.now; imm = imm }) }
 {
     match kind {

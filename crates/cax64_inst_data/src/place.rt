@@ -59,10 +59,8 @@ impl DataPlace {
         ensures { result ≡ relative_by self.now.kind self.now.target }
     {
         match self.kind {
-            PlaceKind::Absent
-            | PlaceKind::Register
-            | PlaceKind::Base
-            | PlaceKind::BaseAndIndex => None,
+            PlaceKind::Absent | PlaceKind::Register | PlaceKind::Base | PlaceKind::BaseAndIndex =>
+                None,
             PlaceKind::Label => Some(DeferredTarget::Label(Label(self.target))),
             PlaceKind::Constant => Some(DeferredTarget::Constant(Constant(self.target))),
             PlaceKind::NoTarget => Some(DeferredTarget::None),

@@ -4,7 +4,7 @@ ghost use Rattle.std.specs.Prelude.{◌≡◌, ◌≤◌, ℕ, true, false, drop
 ghost use Rattle.cax64_operand.specs.Visit.{OperandRun, Run};
 ghost use Rattle.cax64_inst_data.specs.Own.{is_place, no_place, one_place, own_fixed, own_registers, own_rest};
 ghost use Rattle.cax64_operand.specs.VisitSteps.{AmodeRun, GprMemRun, XmmMemRun};
-ghost use Rattle.cax64_signature.proofs.Taken.{registers_in, rest_in};
+ghost use Rattle.cax64_operand.proofs.Taken.{registers_in, rest_in};
 ghost use Rattle.cax64_inst_data.specs.Alike.{Alike, AlikeGprMem, AlikeXmmMem};
 ghost use Rattle.cax64_inst_data.specs.Fits.{fixed_in, is_memory, is_present, place_fits};
 ghost use Rattle.cax64_inst_data.specs.Operands.{amode_of, behind, filled, gpr_mem_of, operand_by, xmm_mem_of};
@@ -14,9 +14,8 @@ use crate::place::DataPlace;
 use cax64_address::amode::Amode;
 use cax64_address::operand::{GprMem, XmmMem};
 use cax64_operand::visitor::visit_two_gprs;
-use cax64_operand::{Numbers, RegisterVisitor};
+use cax64_operand::{Numbers, OperandKind, RegisterVisitor};
 use cax64_register::Gpr;
-use cax64_signature::OperandKind;
 
 /// Puts the registers of memory in the place of those of a place, which is the same memory but for them.
 fn put_amode(place: &mut DataPlace, amode: &Amode<u8>)
@@ -150,7 +149,7 @@ fn visit_one<V: RegisterVisitor<Numbers>>(
 }
 
 /// Visits operands of these kinds.
-fn visit_kinds<V: RegisterVisitor<Numbers>>(
+pub(crate) fn visit_kinds<V: RegisterVisitor<Numbers>>(
     kinds: &[OperandKind],
     place: &mut DataPlace,
     registers: &mut [u8],

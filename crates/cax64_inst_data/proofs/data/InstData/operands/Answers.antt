@@ -1,4 +1,4 @@
-use Rattle.cax64_signature.proofs.Table.{few_in_signature}
+use Rattle.cax64_operand.proofs.Table.{few_in_signature}
 use Rattle.cax64_inst_data.proofs.Signature.{data_fits}
 use Rattle.cax64_inst_data.proofs.data.InstData.operands.Goals as goal
 

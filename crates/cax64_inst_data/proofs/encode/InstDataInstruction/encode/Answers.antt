@@ -6,19 +6,19 @@ use Rattle.cax64_encoder.proofs.Relatives.{meant_relative}
 use Rattle.cax64_inst_data.specs.Data.{data_operands, data_row}
 use Rattle.cax64_inst_data.proofs.Content.{content_is}
 use Rattle.cax64_inst_data.proofs.Filled.{numbers}
-use Rattle.cax64_inst_data.proofs.Signature.{has_shape}
+use Rattle.cax64_inst_data.proofs.Signature.{has_signature}
 use Rattle.cax64_inst_data.proofs.encode.InstDataInstruction.encode.Goals as goal
 
 pub take-requires : goal.take-requires
 take-requires g c =
     let d = c.args.self.now in
-    rw (c.its_row.ensures) (data_operands d, record { kept = c.content.ensures ∙ sym (content_is _ d); shape = has_shape d; can = c.requires })
+    rw (c.its_row.ensures) (data_operands d, record { kept = c.content.ensures ∙ sym (content_is _ d); signature = has_signature d; can = c.requires })
 
 pub returns : goal.returns
 returns g c =
     let d = c.args.self.now in
     let answered = rw c.its_row.ensures at c.take.ensures.0 in
-    let w = answered (data_operands d) (record { kept = c.content.ensures ∙ sym (content_is _ d); shape = has_shape d; can = c.requires }) in
+    let w = answered (data_operands d) (record { kept = c.content.ensures ∙ sym (content_is _ d); signature = has_signature d; can = c.requires }) in
     record {
       adds = run_adds c.take.result w.encodes w.ran;
       leaves = run_leaves c.take.result w.encodes w.ran;
@@ -31,5 +31,5 @@ returns g c =
       byte_room = run_bytes_fall w.encodes w.ran;
       notice_room = run_notices_fall w.encodes w.ran;
       most = len_most w.encodes;
-      relative = meant_relative (numbers ◌==◌) (data_row d) (data_operands d) (g.S.CodeSink.state c.args.sink.now).offsets (has_shape d);
+      relative = meant_relative (numbers ◌==◌) (data_row d) (data_operands d) (g.S.CodeSink.state c.args.sink.now).offsets (has_signature d);
     }
