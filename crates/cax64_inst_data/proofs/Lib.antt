@@ -9,3 +9,5 @@ pub mod OneMore
 pub mod More
 pub mod Visits
 pub mod Visited
+pub mod Give
+pub mod Filling

@@ -19,6 +19,7 @@ use Rattle.cax64_operand.specs.declared.kind.OperandKind.{OperandKind}
 use Rattle.cax64_operand.specs.declared.kind.OperandKind.TheVariants.{ReadGpr, ReadWriteGpr, WriteGpr, WriteTwoGprs, FixedReadGpr, FixedReadWriteGpr, ReadXmm, ReadWriteXmm, WriteXmm, ReadAmode, ReadGprMem, ReadWriteGprMem, ReadXmmMem, Imm}
 use Rattle.cax64_inst_data.specs.Data.{kept_of, operands_by, data_operands, row_by, data_row}
 use Rattle.cax64_inst_data.specs.Fits.{all_zero, each_fits, fixed_in, place_fits, imm_fits, kinds_fit, fits}
+use Rattle.cax64_inst_data.specs.Own.{no_imm, one_imm}
 use Rattle.cax64_inst_data.specs.Operands.{Kept, filled, next, next_fixed, imm_by}
 use Rattle.cax64_inst_data.specs.declared.data.InstData.{InstData}
 use Rattle.cax64_inst_data.specs.declared.place.DataPlace.{DataPlace}
@@ -60,41 +61,7 @@ word_in_range Predicate word h = h
 word_in_range VexPredicate word h = h
 
 -- a signature has one immediate at most
-abbrev no_imm : List OperandKind → Bool
-no_imm [] = true
-no_imm (ReadGpr size ∷ later) = no_imm later
-no_imm (ReadWriteGpr size ∷ later) = no_imm later
-no_imm (WriteGpr size ∷ later) = no_imm later
-no_imm (WriteTwoGprs size ∷ later) = no_imm later
-no_imm (FixedReadGpr expected size ∷ later) = no_imm later
-no_imm (FixedReadWriteGpr expected size ∷ later) = no_imm later
-no_imm (ReadXmm ∷ later) = no_imm later
-no_imm (ReadWriteXmm ∷ later) = no_imm later
-no_imm (WriteXmm ∷ later) = no_imm later
-no_imm (ReadAmode ∷ later) = no_imm later
-no_imm (ReadGprMem size ∷ later) = no_imm later
-no_imm (ReadWriteGprMem size ∷ later) = no_imm later
-no_imm (ReadXmmMem ∷ later) = no_imm later
-no_imm (Imm imm ∷ later) = false
-
-abbrev one_imm : List OperandKind → Bool
-one_imm [] = true
-one_imm (ReadGpr size ∷ later) = one_imm later
-one_imm (ReadWriteGpr size ∷ later) = one_imm later
-one_imm (WriteGpr size ∷ later) = one_imm later
-one_imm (WriteTwoGprs size ∷ later) = one_imm later
-one_imm (FixedReadGpr expected size ∷ later) = one_imm later
-one_imm (FixedReadWriteGpr expected size ∷ later) = one_imm later
-one_imm (ReadXmm ∷ later) = one_imm later
-one_imm (ReadWriteXmm ∷ later) = one_imm later
-one_imm (WriteXmm ∷ later) = one_imm later
-one_imm (ReadAmode ∷ later) = one_imm later
-one_imm (ReadGprMem size ∷ later) = one_imm later
-one_imm (ReadWriteGprMem size ∷ later) = one_imm later
-one_imm (ReadXmmMem ∷ later) = one_imm later
-one_imm (Imm imm ∷ later) = no_imm later
-
-row_has_one : (row : Row) → one_imm (signature_of row) ≡ true
+pub row_has_one : (row : Row) → one_imm (signature_of row) ≡ true
 unfolding signature_of
 row_has_one lock_addb_mi = refl
 row_has_one _ = refl

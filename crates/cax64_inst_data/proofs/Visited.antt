@@ -47,13 +47,14 @@ two_of (a ∷ b ∷ []) h = refl
 two_of (a ∷ b ∷ c ∷ later) h = absurd (omega (arith, h))
 
 run_of : {V : Type 0} (same : ℕ → ℕ → Bool) (steps : Steps V ℕ ℕ ℕ ℕ ℕ ℕ) (row : Row) (p0 p2 : DataPlace) (k0 k2 : Kept) (v w : V) → Run {R = Numbers} same steps v (filled (signature_of row) p0 k0) (filled (signature_of row) p2 k2) w → OperandsRun {R = Numbers} same steps v (listed (filled (signature_of row) p0 k0)) (listed (filled (signature_of row) p2 k2)) w
-run_of same steps row p0 p2 k0 k2 v w h =
-    ( rw (filled_back row p0 k0, filled_back row p2 k2) h
-    , none_listed (filled (signature_of row) p2 k2) ∙ sym (none_listed (filled (signature_of row) p0 k0)) )
+run_of same steps row p0 p2 k0 k2 v w h = (
+  rw (filled_back row p0 k0, filled_back row p2 k2) h,
+  none_listed (filled (signature_of row) p2 k2) ∙ sym (none_listed (filled (signature_of row) p0 k0)),
+)
 
 pub visited : {V : Type 0} (same : ℕ → ℕ → Bool) (steps : Steps V ℕ ℕ ℕ ℕ ℕ ℕ) (d : InstData) (kinds : List OperandKind) (p2 : DataPlace) (rs fs : List ℕ) (v w : V) → d.nop ≡ None → length rs ≡ 2 → kinds ≡ signature_of d.row
-  → Run {R = Numbers} same steps v (filled kinds d.place (kept_of d)) (filled kinds p2 (record { registers = rs; fixed = fs; imm = d.imm })) w
-  → OperandsRun {R = Numbers} same steps v (data_operands d) (listed (filled (signature_of d.row) p2 (record { registers = slice_index_or rs 0 0 ∷ slice_index_or rs 1 0 ∷ []; fixed = fs; imm = d.imm }))) w
+    → Run {R = Numbers} same steps v (filled kinds d.place (kept_of d)) (filled kinds p2 (record { registers = rs; fixed = fs; imm = d.imm })) w
+    → OperandsRun {R = Numbers} same steps v (data_operands d) (listed (filled (signature_of d.row) p2 (record { registers = slice_index_or rs 0 0 ∷ slice_index_or rs 1 0 ∷ []; fixed = fs; imm = d.imm }))) w
 visited same steps d kinds p2 rs fs v w none long is h =
     rw (data_listed d none, two_of rs long) (run_of same steps d.row d.place p2 (kept_of d) _ v w (rw is at h))
 

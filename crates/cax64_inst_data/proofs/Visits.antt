@@ -63,10 +63,10 @@ no_end : (s e : List ℕ) → e ≡ [] → s ++ e ≡ s
 no_end [] e h = h
 no_end (a ∷ s) e h = ap (λ (x : List ℕ). a ∷ x) (no_end s e h)
 
-written_is : (n : ℕ) (m s : List ℕ) → written n m s ≡ take n m ++ s
+pub written_is : (n : ℕ) (m s : List ℕ) → written n m s ≡ take n m ++ s
 written_is n m s = ap (λ (x : List ℕ). take n m ++ x) (no_end s (post_of n (length m - n) m) (nothing_behind n m))
 
-same_kept : {r r2 f f2 : List ℕ} (imm : ℕ) → r ≡ r2 → f ≡ f2 → ◌≡◌ {A = Kept} (record { registers = r; fixed = f; imm = imm }) (record { registers = r2; fixed = f2; imm = imm })
+pub same_kept : {r r2 f f2 : List ℕ} (imm : ℕ) → r ≡ r2 → f ≡ f2 → ◌≡◌ {A = Kept} (record { registers = r; fixed = f; imm = imm }) (record { registers = r2; fixed = f2; imm = imm })
 same_kept imm e g = rw (e, g) refl
 
 -- what lies behind those that a visit takes stays

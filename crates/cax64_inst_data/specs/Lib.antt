@@ -9,3 +9,6 @@ pub mod Encodable
 pub mod Registers
 pub mod Alike
 pub mod Own
+pub mod Given
+pub mod Refusal
+pub mod Message

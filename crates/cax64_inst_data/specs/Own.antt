@@ -1,4 +1,7 @@
 use Rattle.std.specs.Prelude.{ℕ, Bool, true, false, List, [], ◌∷◌}
+use Rattle.cax64_machine_code.specs.declared.line.ImmField.{ImmField}
+use Rattle.cax64_machine_code.specs.declared.line.ImmField.TheVariants as field
+use Rattle.cax64_operand.proofs.Taken.{field_of}
 use Rattle.cax64_operand.specs.Shape.{Rest, nothing, memory, register_or_memory}
 use Rattle.cax64_operand.specs.declared.kind.OperandKind.{OperandKind}
 use Rattle.cax64_operand.specs.declared.kind.OperandKind.TheVariants.{ReadGpr, ReadWriteGpr, WriteGpr, WriteTwoGprs, FixedReadGpr, FixedReadWriteGpr, ReadXmm, ReadWriteXmm, WriteXmm, ReadAmode, ReadGprMem, ReadWriteGprMem, ReadXmmMem, Imm}
@@ -103,3 +106,71 @@ one_place (ReadGprMem size ∷ later) = no_place later
 one_place (ReadWriteGprMem size ∷ later) = no_place later
 one_place (ReadXmmMem ∷ later) = no_place later
 one_place (Imm imm ∷ later) = one_place later
+
+-- the same of immediates
+abbrev pub no_imm : List OperandKind → Bool
+no_imm [] = true
+no_imm (ReadGpr size ∷ later) = no_imm later
+no_imm (ReadWriteGpr size ∷ later) = no_imm later
+no_imm (WriteGpr size ∷ later) = no_imm later
+no_imm (WriteTwoGprs size ∷ later) = no_imm later
+no_imm (FixedReadGpr expected size ∷ later) = no_imm later
+no_imm (FixedReadWriteGpr expected size ∷ later) = no_imm later
+no_imm (ReadXmm ∷ later) = no_imm later
+no_imm (ReadWriteXmm ∷ later) = no_imm later
+no_imm (WriteXmm ∷ later) = no_imm later
+no_imm (ReadAmode ∷ later) = no_imm later
+no_imm (ReadGprMem size ∷ later) = no_imm later
+no_imm (ReadWriteGprMem size ∷ later) = no_imm later
+no_imm (ReadXmmMem ∷ later) = no_imm later
+no_imm (Imm imm ∷ later) = false
+
+abbrev pub one_imm : List OperandKind → Bool
+one_imm [] = true
+one_imm (ReadGpr size ∷ later) = one_imm later
+one_imm (ReadWriteGpr size ∷ later) = one_imm later
+one_imm (WriteGpr size ∷ later) = one_imm later
+one_imm (WriteTwoGprs size ∷ later) = one_imm later
+one_imm (FixedReadGpr expected size ∷ later) = one_imm later
+one_imm (FixedReadWriteGpr expected size ∷ later) = one_imm later
+one_imm (ReadXmm ∷ later) = one_imm later
+one_imm (ReadWriteXmm ∷ later) = one_imm later
+one_imm (WriteXmm ∷ later) = one_imm later
+one_imm (ReadAmode ∷ later) = one_imm later
+one_imm (ReadGprMem size ∷ later) = one_imm later
+one_imm (ReadWriteGprMem size ∷ later) = one_imm later
+one_imm (ReadXmmMem ∷ later) = one_imm later
+one_imm (Imm imm ∷ later) = no_imm later
+
+abbrev pub is_imm : OperandKind → Bool
+is_imm (ReadGpr size) = false
+is_imm (ReadWriteGpr size) = false
+is_imm (WriteGpr size) = false
+is_imm (WriteTwoGprs size) = false
+is_imm (FixedReadGpr expected size) = false
+is_imm (FixedReadWriteGpr expected size) = false
+is_imm ReadXmm = false
+is_imm ReadWriteXmm = false
+is_imm WriteXmm = false
+is_imm ReadAmode = false
+is_imm (ReadGprMem size) = false
+is_imm (ReadWriteGprMem size) = false
+is_imm ReadXmmMem = false
+is_imm (Imm imm) = true
+
+-- the field that an operand of a kind fills
+abbrev pub own_field : OperandKind → ImmField
+own_field (ReadGpr size) = field.NoImm
+own_field (ReadWriteGpr size) = field.NoImm
+own_field (WriteGpr size) = field.NoImm
+own_field (WriteTwoGprs size) = field.NoImm
+own_field (FixedReadGpr expected size) = field.NoImm
+own_field (FixedReadWriteGpr expected size) = field.NoImm
+own_field ReadXmm = field.NoImm
+own_field ReadWriteXmm = field.NoImm
+own_field WriteXmm = field.NoImm
+own_field ReadAmode = field.NoImm
+own_field (ReadGprMem size) = field.NoImm
+own_field (ReadWriteGprMem size) = field.NoImm
+own_field ReadXmmMem = field.NoImm
+own_field (Imm imm) = field_of imm

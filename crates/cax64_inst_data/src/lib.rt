@@ -4,7 +4,10 @@
 pub mod data;
 mod encode;
 mod listing;
+mod make;
+pub mod operand;
 pub mod place;
 mod visit;
 
 pub use data::InstData;
+pub use operand::{DataError, DataOperand};

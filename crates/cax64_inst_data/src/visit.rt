@@ -182,7 +182,7 @@ pub(crate) fn visit_kinds<V: RegisterVisitor<Numbers>>(
 }
 
 /// How many registers an operand of a kind takes of those in the bytes.
-fn own_registers(kind: OperandKind) -> usize
+pub(crate) fn own_registers(kind: OperandKind) -> usize
     ensures { result ≡ own_registers kind }
 {
     match kind {
@@ -204,7 +204,7 @@ fn own_registers(kind: OperandKind) -> usize
 }
 
 /// How many it takes of the fixed ones.
-fn own_fixed(kind: OperandKind) -> usize
+pub(crate) fn own_fixed(kind: OperandKind) -> usize
     ensures { result ≡ own_fixed kind }
 {
     usize::from(matches!(
