@@ -11,3 +11,4 @@ pub mod Visits
 pub mod Visited
 pub mod Give
 pub mod Filling
+pub mod Finished

@@ -62,3 +62,6 @@ pub none_of : {T : Type 0} (o : Option T) (b : Bool) → is_some o ≡ not b →
 none_of None b h e = refl
 none_of (Some v) true h e = cc
 none_of (Some v) false h e = cc
+
+pub four_fixed : (row : Row) → fixed_in (signature_of row) ≤ 4
+four_fixed row = let h = row_has_four row in grind (arith, nat_tests, h)

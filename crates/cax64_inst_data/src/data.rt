@@ -1,6 +1,8 @@
 //! The type of an instruction as data.
 
-ghost use Rattle.std.specs.Prelude.{◌≡◌, true};
+ghost use Rattle.std.specs.Prelude.{◌≡◌, true, None, Some, IfErr, IfOk, OnOk};
+ghost use Rattle.cax64_operand.specs.declared.operand.Operands.TheVariants as operands;
+ghost use Rattle.cax64_inst_data.specs.Refusal.{is_nop_row};
 ghost use Rattle.cax64_operand.specs.NopRow.{nop_row};
 ghost use Rattle.cax64_inst_data.specs.Fits.{expected_of, fits};
 ghost use Rattle.cax64_operand.specs.Signature.{signature_of};
@@ -8,6 +10,8 @@ ghost use Rattle.cax64_inst_data.specs.Encodable.{four};
 ghost use Rattle.cax64_inst_data.specs.When.{when};
 
 use crate::listing::listed;
+use crate::make::fill;
+use crate::operand::{DataError, DataOperand, absent};
 use crate::place::DataPlace;
 use crate::visit::visit_kinds;
 use cax64_encoder::content::Content;
@@ -31,10 +35,74 @@ pub struct InstData {
 }
 
 impl InstData {
+    ghost use Rattle.cax64_operand.specs.OperandList.{list_of, nop_of};
+    ghost use Rattle.cax64_operand.specs.Signature.{HasSignature};
+    ghost use Rattle.cax64_inst_data.specs.Given.{all_given};
+    ghost use Rattle.cax64_inst_data.specs.Refusal.{refusal};
     ghost use Rattle.cax64_operand.specs.Visit.{OperandsRun};
     ghost use Rattle.cax64_inst_data.specs.Data.{data_operands, data_row};
     ghost use Rattle.cax64_inst_data.specs.Form.{data_content, data_form};
     ghost use Rattle.cax64_inst_data.specs.Registers.{registers_met};
+
+    /// Data of a row and its operands in the order of its signature.
+    ///
+    /// A row that no-operations have is refused, and so are operands that the row's signature doesn't take: too many or
+    /// too few, one of another kind, or an immediate out of its range. Registers of 16 and up are virtual.
+    pub fn new(row: Row, operands: &[DataOperand]) -> Result<InstData, DataError>
+        ensures taken { OnOk result (refusal row operands.now ≡ None) }
+        ensures refused { IfErr result (λ error. refusal row operands.now ≡ Some error) }
+        ensures row { IfOk result (λ d. data_row d ≡ row) }
+        ensures operands { IfOk result (λ d. all_given (list_of (data_operands d)) ≡ operands.now) }
+        ensures signature { IfOk result (λ d. HasSignature row (data_operands d)) }
+        ensures kind { IfOk result (λ d. nop_of (data_operands d) ≡ None) }
+    {
+        if is_nop_row(row) {
+            return Err(DataError::Nop);
+        }
+        let kinds = signature(row);
+        if operands.len() != kinds.len() {
+            return Err(DataError::Count(kinds.len()));
+        }
+        let mut place = absent();
+        let mut registers = [0; 2];
+        let mut fixed = [0; 4];
+        let mut imm = 0;
+        fill(
+            kinds,
+            operands,
+            0,
+            &mut place,
+            &mut registers,
+            &mut fixed,
+            &mut imm,
+        )?;
+        let [reg, vvvv] = registers;
+        Ok(InstData {
+            place,
+            imm,
+            row,
+            nop: None,
+            reg,
+            vvvv,
+            fixed,
+        })
+    }
+
+    /// A no-operation.
+    pub fn nop(nop: Nop) -> InstData
+        ensures row { data_row result ≡ nop_row nop }
+        ensures operands { data_operands result ≡ operands.Nop nop }
+    {
+        InstData {
+            place: absent(),
+            imm: 0,
+            row: Row::nop_1b,
+            nop: Some(nop),
+            reg: 0,
+            vvvv: 0,
+            fixed: [0; 4],
+        }
+    }
 
     /// The operands that the bytes hold, of an instruction that is no no-operation.
     #[inline(always)]
@@ -150,6 +218,13 @@ fn expected(row: Row) -> [u8; 4]
         Row::mulxl_rvm | Row::mulxq_rvm => [gpr::enc::RDX, 0, 0, 0],
         _ => [0; 4],
     }
+}
+
+/// Whether a row is one that no-operations have.
+fn is_nop_row(row: Row) -> bool
+    ensures { result ≡ is_nop_row row }
+{
+    matches!(row, Row::nop_1b | Row::nop_2b | Row::nopl_rm | Row::nopw_rm)
 }
 
 /// The row of a no-operation.

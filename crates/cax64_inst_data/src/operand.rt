@@ -8,6 +8,7 @@ ghost use Rattle.cax64_address.specs.declared.operand.XmmMem.TheVariants as xmm_
 ghost use Rattle.cax64_address.specs.declared.amode.Amode.TheVariants.{RipRelative};
 ghost use Rattle.cax64_inst_data.specs.declared.operand.DataOperand.TheVariants.{Register, TwoRegisters, Memory, Immediate};
 ghost use Rattle.cax64_inst_data.specs.Fits.{imm_fits, is_memory, is_present};
+ghost use Rattle.cax64_inst_data.specs.declared.place.PlaceKind.TheVariants.{Absent};
 ghost use Rattle.cax64_inst_data.specs.Given.{gpr_mem_given, xmm_mem_given};
 ghost use Rattle.cax64_inst_data.specs.Message.{data_error_text};
 ghost use Rattle.cax64_inst_data.specs.Operands.{amode_of, gpr_mem_of, imm_by, xmm_mem_of};

@@ -1,4 +1,4 @@
-use Rattle.std.proofs.Common.{rules, ◌≡◌, ◌≤◌, ◌+◌, ℕ, true, false, drop, length, None, Some, ◌∙◌, sym, ap, arith}
+use Rattle.std.proofs.Common.{◌≡◌, ◌∙◌, sym, arith}
 use Rattle.cax64_inst_data.specs.Own.{own_fixed, own_registers}
 use Rattle.cax64_inst_data.proofs.Give.{given_first, given_fixed, two_set}
 use Rattle.cax64_inst_data.proofs.make.fill_one.Goals as goal
