@@ -1,4 +1,4 @@
-use Rattle.std.proofs.Common.{◌≡◌, ℕ, ◌+◌, ◌-◌, ◌≤◌, refl, ◌∙◌, ap, sym, arith, Bool, true, false, Result, Ok, Err, List, [], ◌∷◌, ◌++◌, length, take, drop}
+use Rattle.std.proofs.Common.{◌≡◌, ℕ, ◌+◌, ◌≤◌, refl, ◌∙◌, ap, sym, arith, Bool, true, false, Result, Ok, Err, List, ◌∷◌, ◌++◌, length, take, drop}
 use Rattle.std.specs.Prelude.{OnOk}
 use Rattle.std.proofs.lemmas.List.{drop-drop}
 use Rattle.cax64_operand.proofs.Taken.{registers_in, rest_in, imm_field_in}
@@ -11,7 +11,6 @@ use Rattle.cax64_inst_data.specs.Operands.{Kept, behind, filled, operand_by}
 use Rattle.cax64_inst_data.specs.Own.{is_imm, is_place, no_imm, no_place, one_imm, one_place, own_field, own_fixed, own_registers, own_rest}
 use Rattle.cax64_inst_data.specs.declared.operand.DataOperand.{DataOperand}
 use Rattle.cax64_inst_data.specs.declared.place.DataPlace.{DataPlace}
-use Rattle.cax64_inst_data.specs.declared.place.PlaceKind.{PlaceKind}
 use Rattle.cax64_inst_data.proofs.Give.{imm_kept, one_imm_later, no_imm_later, no_imm_behind, field_behind, field_first}
 use Rattle.cax64_inst_data.proofs.More.{registers_more, behind_is, operand_kept, rest_is, none_later, none_behind, rest_behind, rest_first}
 use Rattle.cax64_inst_data.proofs.Visits.{written, written_is, enough_first, enough_fixed, same_kept}
@@ -22,7 +21,7 @@ pub on_ok : {T E P Q : Type 0} (r : Result T E) → OnOk r P → (P → Q) → O
 on_ok (Ok x) h f = f h
 on_ok (Err e) h f = h
 
-same_list : {A : Type 0} {a b : A} {l m : List A} → a ≡ b → l ≡ m → (a ∷ l) ≡ (b ∷ m)
+pub same_list : {A : Type 0} {a b : A} {l m : List A} → a ≡ b → l ≡ m → (a ∷ l) ≡ (b ∷ m)
 same_list e f = rw (e, f) refl
 
 pub given_more : (kinds later : List OperandKind) (kind : OperandKind) (operands os : List DataOperand) (o : DataOperand) (p p2 : DataPlace) (m0 m s f0 f t : List ℕ) (word word2 r rf : ℕ)

@@ -1,27 +1,25 @@
-use Rattle.std.proofs.Common.{◌≡◌, ℕ, zero, suc, ◌≤◌, refl, ◌∙◌, ap, sym, arith, Bool, true, false, Option, Some, None, List, [], ◌∷◌, length, drop, slice_index_or}
+use Rattle.std.proofs.Common.{◌≡◌, ℕ, zero, suc, refl, ◌∙◌, ap, Bool, true, false, List, [], ◌∷◌, length, drop, slice_index_or}
 use Rattle.std.specs.Prelude.{◌&&◌, ◌==◌}
-use Rattle.std.proofs.lemmas.Bool.Decides.{nat_tests}
-use Rattle.cax64_machine_code.specs.declared.line.ImmField.{ImmField}
 use Rattle.cax64_machine_code.specs.declared.line.ImmField.TheVariants as field
 use Rattle.cax64_machine_code.specs.declared.row.Row.{Row}
 use Rattle.cax64_machine_code.specs.declared.row.Row.TheVariants.{nop_1b}
 use Rattle.cax64_operand.proofs.Taken.{registers_in, rest_in, imm_field_in}
-use Rattle.cax64_operand.specs.OperandList.{list_of, nop_of}
-use Rattle.cax64_operand.specs.Shape.{Rest, nothing, memory, register_or_memory}
+use Rattle.cax64_operand.specs.OperandList.{list_of}
+use Rattle.cax64_operand.specs.Shape.{nothing}
 use Rattle.cax64_operand.specs.Signature.{signature_of}
 use Rattle.cax64_operand.specs.declared.instruction.Numbers.{Numbers}
 use Rattle.cax64_operand.specs.declared.operand.Operand.{Operand}
 use Rattle.cax64_operand.specs.declared.kind.OperandKind.{OperandKind}
 use Rattle.cax64_operand.specs.declared.kind.OperandKind.TheVariants.{ReadGpr, ReadWriteGpr, WriteGpr, WriteTwoGprs, FixedReadGpr, FixedReadWriteGpr, ReadXmm, ReadWriteXmm, WriteXmm, ReadAmode, ReadGprMem, ReadWriteGprMem, ReadXmmMem, Imm}
-use Rattle.cax64_inst_data.specs.Fits.{all_zero, expected_of, fixed_in, imm_fits, is_empty, kinds_fit, place_fits, is_absent}
+use Rattle.cax64_inst_data.specs.Fits.{all_zero, expected_of, fixed_in, imm_fits, is_empty, kinds_fit, place_fits}
 use Rattle.cax64_inst_data.specs.Given.{all_given}
-use Rattle.cax64_inst_data.specs.Operands.{Kept, filled, listed}
+use Rattle.cax64_inst_data.specs.Operands.{filled, listed}
 use Rattle.cax64_inst_data.specs.Own.{no_imm, no_place}
 use Rattle.cax64_inst_data.specs.declared.operand.DataOperand.{DataOperand}
 use Rattle.cax64_inst_data.specs.declared.place.DataPlace.{DataPlace}
 use Rattle.cax64_inst_data.specs.declared.place.PlaceKind.{PlaceKind}
 use Rattle.cax64_inst_data.specs.declared.place.PlaceKind.TheVariants.{Absent}
-use Rattle.cax64_inst_data.proofs.Content.{filled_back, none_listed}
+use Rattle.cax64_inst_data.proofs.Content.{filled_back}
 use Rattle.cax64_inst_data.proofs.Visited.{two_of}
 
 -- Data that was made keeps what its row's signature takes.
@@ -82,7 +80,7 @@ word_made : (kinds : List OperandKind) (b : Bool) (word : ℕ) → no_imm kinds 
 word_made kinds true word e none some = rw (none_word kinds e, none e) refl
 word_made kinds false word e none some = some e
 
-five : (a b c d e : Bool) → a ≡ true → b ≡ true → c ≡ true → d ≡ true → e ≡ true → (a && (b && (c && (d && e)))) ≡ true
+pub five : (a b c d e : Bool) → a ≡ true → b ≡ true → c ≡ true → d ≡ true → e ≡ true → (a && (b && (c && (d && e)))) ≡ true
 five a b c d e f g h i j = rw (f, g, h, i, j) refl
 
 pub made_fits : (row : Row) (kinds : List OperandKind) (rs fs : List ℕ) (kind : PlaceKind) (word : ℕ) → kinds ≡ signature_of row

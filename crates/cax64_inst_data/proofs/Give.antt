@@ -1,13 +1,11 @@
-use Rattle.std.proofs.Common.{◌≡◌, ℕ, ◌+◌, ◌≤◌, refl, ◌∙◌, ap, sym, arith, Bool, true, false, Option, Some, None, List, [], ◌∷◌, ◌++◌, length, take, drop, slice_set}
-use Rattle.cax64_operand.proofs.Taken.{registers_in, rest_in, imm_field_in}
-use Rattle.cax64_operand.specs.declared.instruction.Numbers.{Numbers}
+use Rattle.std.proofs.Common.{◌≡◌, ℕ, ◌≤◌, refl, ap, arith, true, false, List, [], ◌∷◌, length, slice_set}
+use Rattle.cax64_operand.proofs.Taken.{imm_field_in}
 use Rattle.cax64_operand.specs.declared.kind.OperandKind.{OperandKind}
 use Rattle.cax64_operand.specs.declared.kind.OperandKind.TheVariants.{ReadGpr, ReadWriteGpr, WriteGpr, WriteTwoGprs, FixedReadGpr, FixedReadWriteGpr, ReadXmm, ReadWriteXmm, WriteXmm, ReadAmode, ReadGprMem, ReadWriteGprMem, ReadXmmMem, Imm}
-use Rattle.cax64_inst_data.specs.Given.{all_given, given_of}
-use Rattle.cax64_inst_data.specs.Operands.{Kept, behind, filled, head, operand_by, tail}
-use Rattle.cax64_inst_data.specs.Own.{is_imm, is_place, no_imm, no_place, one_imm, one_place, own_field, own_fixed, own_registers, own_rest}
-use Rattle.cax64_inst_data.specs.declared.operand.DataOperand.{DataOperand}
-use Rattle.cax64_inst_data.specs.declared.operand.DataOperand.TheVariants.{Register, TwoRegisters, Memory, Immediate}
+use Rattle.cax64_inst_data.specs.Given.{given_of}
+use Rattle.cax64_inst_data.specs.Operands.{head, operand_by, tail}
+use Rattle.cax64_inst_data.specs.Own.{is_imm, no_imm, one_imm, own_field, own_fixed, own_registers}
+use Rattle.cax64_inst_data.specs.declared.operand.DataOperand.TheVariants.{Register, TwoRegisters}
 use Rattle.cax64_inst_data.specs.declared.place.DataPlace.{DataPlace}
 
 -- What an operand of a kind is made of.

@@ -12,3 +12,4 @@ pub mod Visited
 pub mod Give
 pub mod Filling
 pub mod Finished
+pub mod Renames

@@ -176,11 +176,11 @@ filled_anywhere (ReadWriteGprMem size ∷ later) p q k h = cc
 filled_anywhere (ReadXmmMem ∷ later) p q k h = cc
 filled_anywhere (Imm imm ∷ later) p q k h = ap (λ (l : List (Operand Numbers ℕ ℕ ℕ ℕ ℕ ℕ)). operand_by (Imm imm) p k ∷ l) (filled_anywhere later p q (behind (Imm imm) k) h)
 
-drop_none : (m : List ℕ) → m ≡ drop 0 m
+pub drop_none : (m : List ℕ) → m ≡ drop 0 m
 drop_none [] = refl
 drop_none (a ∷ m) = refl
 
-drop_one : (m : List ℕ) → tail m ≡ drop 1 m
+pub drop_one : (m : List ℕ) → tail m ≡ drop 1 m
 drop_one [] = refl
 drop_one (a ∷ m) = refl
 

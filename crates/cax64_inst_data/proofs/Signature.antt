@@ -104,7 +104,7 @@ in_range (ReadWriteGprMem size ∷ later) p k one h = in_range later p k one h
 in_range (ReadXmmMem ∷ later) p k one h = in_range later p k one h
 in_range (Imm imm ∷ later) p k one h = both _ _ (word_in_range imm k.imm h) (none_in_range later p k one)
 
-imm_fitted : (kinds : List OperandKind) (reg vvvv : ℕ) (fixed : List ℕ) (kind : PlaceKind) (imm : ℕ) → kinds_fit kinds reg vvvv fixed kind imm ≡ true → imm_fits (imm_field_in kinds) imm ≡ true
+pub imm_fitted : (kinds : List OperandKind) (reg vvvv : ℕ) (fixed : List ℕ) (kind : PlaceKind) (imm : ℕ) → kinds_fit kinds reg vvvv fixed kind imm ≡ true → imm_fits (imm_field_in kinds) imm ≡ true
 imm_fitted kinds reg vvvv fixed kind imm h =
     let p = and_parts (all_zero (drop (registers_in kinds) (reg ∷ vvvv ∷ []))) _ h in
     let q = and_parts (all_zero (drop (fixed_in kinds) fixed)) _ p.1 in

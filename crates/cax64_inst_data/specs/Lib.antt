@@ -12,3 +12,4 @@ pub mod Own
 pub mod Given
 pub mod Refusal
 pub mod Message
+pub mod Homes

@@ -7,12 +7,13 @@ ghost use Rattle.cax64_operand.specs.NopRow.{nop_row};
 ghost use Rattle.cax64_inst_data.specs.Fits.{expected_of, fits};
 ghost use Rattle.cax64_operand.specs.Signature.{signature_of};
 ghost use Rattle.cax64_inst_data.specs.Encodable.{four};
+ghost use Rattle.cax64_inst_data.specs.Homes.{fixed_count, home_if};
 ghost use Rattle.cax64_inst_data.specs.When.{when};
 
 use crate::listing::listed;
 use crate::make::fill;
 use crate::operand::{DataError, DataOperand, absent};
-use crate::place::DataPlace;
+use crate::place::{DataPlace, home};
 use crate::visit::visit_kinds;
 use cax64_encoder::content::Content;
 use cax64_encoder::numbered::NumberedForm;
@@ -39,7 +40,9 @@ impl InstData {
     ghost use Rattle.cax64_operand.specs.Signature.{HasSignature};
     ghost use Rattle.cax64_inst_data.specs.Given.{all_given};
     ghost use Rattle.cax64_inst_data.specs.Refusal.{refusal};
+    ghost use Rattle.cax64_inst_data.specs.Homes.{by_table};
     ghost use Rattle.cax64_operand.specs.Visit.{OperandsRun};
+    ghost use Rattle.cax64_renaming.specs.Renamed.{renamed_operands};
     ghost use Rattle.cax64_inst_data.specs.Data.{data_operands, data_row};
     ghost use Rattle.cax64_inst_data.specs.Form.{data_content, data_form};
     ghost use Rattle.cax64_inst_data.specs.Registers.{registers_met};
@@ -195,6 +198,35 @@ impl InstData {
         }
     }
 
+    /// Puts others in the place of all registers, general and vector, fixed ones too: each by its number in this table.
+    /// All else stays.
+    #[inline(always)]
+    pub fn rename(&mut self, homes: &[u8; 256])
+        ensures renamed { data_operands self.new ≡ renamed_operands (by_table homes.now) (data_operands self.old) }
+        ensures row { data_row self.new ≡ data_row self.old }
+    {
+        if self.nop.is_none() {
+            let mut place = self.place;
+            place.rename(homes);
+            let [a, b, c, d] = self.fixed;
+            let count = fixed_count(self.row);
+            *self = InstData {
+                place,
+                imm: self.imm,
+                row: self.row,
+                nop: None,
+                reg: home_if(numbers::has_register(self.row), homes, self.reg),
+                vvvv: home_if(numbers::has_vvvv(self.row), homes, self.vvvv),
+                fixed: [
+                    home_if(0 < count, homes, a),
+                    home_if(1 < count, homes, b),
+                    home_if(2 < count, homes, c),
+                    home_if(3 < count, homes, d),
+                ],
+            };
+        }
+    }
+
     /// The row of the table.
     #[inline(always)]
     pub(crate) fn its_row(&self) -> Row
@@ -218,6 +250,32 @@ fn expected(row: Row) -> [u8; 4]
         Row::mulxl_rvm | Row::mulxq_rvm => [gpr::enc::RDX, 0, 0, 0],
         _ => [0; 4],
     }
+}
+
+/// How many registers a row fixes.
+#[inline(always)]
+fn fixed_count(row: Row) -> usize
+    ensures { result ≡ fixed_count row }
+{
+    match row {
+        Row::lock_cmpxchg16b_m => 4,
+        Row::lock_cmpxchgb_mr
+        | Row::lock_cmpxchgw_mr
+        | Row::lock_cmpxchgl_mr
+        | Row::lock_cmpxchgq_mr
+        | Row::andb_i
+        | Row::mulxl_rvm
+        | Row::mulxq_rvm => 1,
+        _ => 0,
+    }
+}
+
+/// The number that a table gives for a register, where there is one.
+#[inline(always)]
+fn home_if(present: bool, homes: &[u8; 256], reg: u8) -> u8
+    ensures { result ≡ home_if present homes.now reg }
+{
+    if present { home(homes, reg) } else { reg }
 }
 
 /// Whether a row is one that no-operations have.

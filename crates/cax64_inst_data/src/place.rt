@@ -1,6 +1,6 @@
 //! The place of an instruction as data: a register, memory, or nothing.
 
-ghost use Rattle.std.specs.Prelude.{◌≡◌, true};
+ghost use Rattle.std.specs.Prelude.{◌≡◌, true, slice_index};
 ghost use Rattle.cax64_inst_data.specs.Place.{is_plain};
 
 use cax64_address::amode::Scale;
@@ -51,7 +51,8 @@ impl DataPlace {
     ghost use Rattle.cax64_inst_data.specs.Form.{place_operand};
     ghost use Rattle.cax64_inst_data.specs.Placed.{has_index, placed, relative_by};
     ghost use Rattle.cax64_inst_data.specs.Fits.{is_present};
-    ghost use Rattle.cax64_inst_data.specs.Operands.{is_register};
+    ghost use Rattle.cax64_inst_data.specs.Operands.{amode_of, gpr_mem_of, is_register, xmm_mem_of};
+    ghost use Rattle.cax64_renaming.specs.Renamed.{renamed_amode, renamed_gpr_mem, renamed_xmm_mem};
 
     /// The target of a place relative to the end.
     #[inline(always)]
@@ -110,6 +111,27 @@ impl DataPlace {
         displacement.fits(sink)
     }
 
+    /// Puts others in the place of the registers: each by its number in this table.
+    #[inline(always)]
+    pub(crate) fn rename(&mut self, homes: &[u8; 256])
+        ensures amode { is_present self.old.kind ≡ true → amode_of self.new ≡ renamed_amode (slice_index homes.now) (amode_of self.old) }
+        ensures general { is_present self.old.kind ≡ true → gpr_mem_of self.new ≡ renamed_gpr_mem (slice_index homes.now) (slice_index homes.now) (gpr_mem_of self.old) }
+        ensures vector { is_present self.old.kind ≡ true → xmm_mem_of self.new ≡ renamed_xmm_mem (slice_index homes.now) (slice_index homes.now) (xmm_mem_of self.old) }
+        ensures kind { self.new.kind ≡ self.old.kind }
+    {
+        match self.kind {
+            PlaceKind::Register | PlaceKind::Base => self.base = home(homes, self.base),
+            PlaceKind::BaseAndIndex => {
+                self.base = home(homes, self.base);
+                self.index = home(homes, self.index);
+            }
+            PlaceKind::Absent
+            | PlaceKind::Label
+            | PlaceKind::Constant
+            | PlaceKind::NoTarget => {}
+        }
+    }
+
     /// The numbers of the place that this stands for.
     #[tactic(auto, using(crate::proofs::Placed::numbers_are))]
     #[inline(always)]
@@ -145,4 +167,12 @@ impl PlaceKind {
     {
         matches!(self, PlaceKind::BaseAndIndex)
     }
+}
+
+/// The number that a table gives for a register.
+#[inline(always)]
+pub(crate) fn home(homes: &[u8; 256], reg: u8) -> u8
+    ensures { result ≡ slice_index homes.now reg }
+{
+    homes[usize::from(reg)]
 }
