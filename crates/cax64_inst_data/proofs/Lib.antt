@@ -1,0 +1,15 @@
+pub mod Filled
+pub mod Content
+pub mod Signature
+pub mod Placed
+pub mod Encodable
+pub mod Tested
+pub mod Conditions
+pub mod OneMore
+pub mod More
+pub mod Visits
+pub mod Visited
+pub mod Give
+pub mod Filling
+pub mod Finished
+pub mod Renames

@@ -1,0 +1,15 @@
+pub mod Place
+pub mod Fits
+pub mod Operands
+pub mod Data
+pub mod When
+pub mod Form
+pub mod Placed
+pub mod Encodable
+pub mod Registers
+pub mod Alike
+pub mod Own
+pub mod Given
+pub mod Refusal
+pub mod Message
+pub mod Homes

@@ -1,0 +1,13 @@
+//! Instructions as data: a row and operands by their numbers, in one type of 32 bytes.
+#![tactic(auto)]
+
+pub mod data;
+mod encode;
+mod listing;
+mod make;
+pub mod operand;
+pub mod place;
+mod visit;
+
+pub use data::InstData;
+pub use operand::{DataError, DataOperand};
