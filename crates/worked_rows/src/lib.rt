@@ -7,6 +7,8 @@ mod addresses;
 #[cfg(test)]
 mod checked;
 #[cfg(test)]
+mod data;
+#[cfg(test)]
 mod families;
 #[cfg(test)]
 mod fixed_sinks;
