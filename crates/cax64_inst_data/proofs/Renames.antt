@@ -205,20 +205,20 @@ module _ (d : InstData) (homes : List ℕ) (none : d.nop ≡ None) where
   renamed_fits q same =
       let parts = fitted_parts kinds d.reg d.vvvv d.fixed d.place.kind d.imm fitted in
       five _ _ _ _ _
-        (two_stay homes (registers_in kinds) d.reg d.vvvv (has_register (line_of d.row).tail) (has_vvvv (line_of d.row).prefix) (two_registers d.row) (register_in_row d.row) (vvvv_in_row d.row) parts.registers)
-        (four_stay homes (fixed_in kinds) d.fixed long parts.fixed_rest)
-        (ap (λ (k : PlaceKind). place_fits (rest_in kinds) k) same ∙ parts.place)
-        (imm_fitted kinds d.reg d.vvvv d.fixed d.place.kind d.imm fitted)
-        refl
+      (two_stay homes (registers_in kinds) d.reg d.vvvv (has_register (line_of d.row).tail) (has_vvvv (line_of d.row).prefix) (two_registers d.row) (register_in_row d.row) (vvvv_in_row d.row) parts.registers)
+      (four_stay homes (fixed_in kinds) d.fixed long parts.fixed_rest)
+      (ap (λ (k : PlaceKind). place_fits (rest_in kinds) k) same ∙ parts.place)
+      (imm_fitted kinds d.reg d.vvvv d.fixed d.place.kind d.imm fitted)
+      refl
 
   pub renamed_are : (q : DataPlace) → (is_present d.place.kind ≡ true → PlaceRenamed (slice_index homes) d.place q)
-    → listed (filled kinds q (record { registers = two_homes homes (has_register (line_of d.row).tail) (has_vvvv (line_of d.row).prefix) d.reg d.vvvv; fixed = four_homes homes (fixed_in kinds) d.fixed; imm = d.imm })) ≡ renamed_operands (by_table homes) (data_operands d)
+      → listed (filled kinds q (record { registers = two_homes homes (has_register (line_of d.row).tail) (has_vvvv (line_of d.row).prefix) d.reg d.vvvv; fixed = four_homes homes (fixed_in kinds) d.fixed; imm = d.imm })) ≡ renamed_operands (by_table homes) (data_operands d)
   renamed_are q there =
       let parts = fitted_parts kinds d.reg d.vvvv d.fixed d.place.kind d.imm fitted in
       ap (λ (l : Listed). listed l) (filled_renamed kinds d.place q (d.reg ∷ d.vvvv ∷ []) _ d.fixed _ d.imm homes
-        (two_follow homes (registers_in kinds) d.reg d.vvvv (has_register (line_of d.row).tail) (has_vvvv (line_of d.row).prefix) (two_registers d.row) (register_in_row d.row) (vvvv_in_row d.row))
-        (four_follow homes (fixed_in kinds) d.fixed (four_fixed d.row) long)
-        (λ some. there (fits_present kinds d.place.kind some parts.place)))
+      (two_follow homes (registers_in kinds) d.reg d.vvvv (has_register (line_of d.row).tail) (has_vvvv (line_of d.row).prefix) (two_registers d.row) (register_in_row d.row) (vvvv_in_row d.row))
+      (four_follow homes (fixed_in kinds) d.fixed (four_fixed d.row) long)
+      (λ some. there (fits_present kinds d.place.kind some parts.place)))
       ∙ listed_renamed homes (filled kinds d.place (kept_of d))
       ∙ ap (λ (o : Operands Numbers ℕ ℕ ℕ ℕ ℕ ℕ). renamed_operands (by_table homes) o) (sym (data_listed d none))
 
@@ -232,18 +232,18 @@ counted row n e = e ∙ count_is row
 
 -- the same of numbers that were found one by one
 pub found_fits : (d : InstData) (homes : List ℕ) (q : DataPlace) (n reg vvvv a b c e : ℕ) → d.nop ≡ None → q.kind ≡ d.place.kind → n ≡ fixed_count d.row
-  → reg ≡ home_if (has_register (line_of d.row).tail) homes d.reg → vvvv ≡ home_if (has_vvvv (line_of d.row).prefix) homes d.vvvv
-  → a ≡ home_if (nat_lt 0 n) homes (slice_index_or d.fixed 0 0) → b ≡ home_if (nat_lt 1 n) homes (slice_index_or d.fixed 1 0) → c ≡ home_if (nat_lt 2 n) homes (slice_index_or d.fixed 2 0) → e ≡ home_if (nat_lt 3 n) homes (slice_index_or d.fixed 3 0)
-  → kinds_fit (signature_of d.row) reg vvvv (a ∷ b ∷ c ∷ e ∷ []) q.kind d.imm ≡ true
+    → reg ≡ home_if (has_register (line_of d.row).tail) homes d.reg → vvvv ≡ home_if (has_vvvv (line_of d.row).prefix) homes d.vvvv
+    → a ≡ home_if (nat_lt 0 n) homes (slice_index_or d.fixed 0 0) → b ≡ home_if (nat_lt 1 n) homes (slice_index_or d.fixed 1 0) → c ≡ home_if (nat_lt 2 n) homes (slice_index_or d.fixed 2 0) → e ≡ home_if (nat_lt 3 n) homes (slice_index_or d.fixed 3 0)
+    → kinds_fit (signature_of d.row) reg vvvv (a ∷ b ∷ c ∷ e ∷ []) q.kind d.imm ≡ true
 found_fits d homes q n reg vvvv a b c e none same count r v ra rb rc re =
     rw (r, v, ra, rb, rc, re, counted d.row n count) (renamed_fits d homes none q same)
 
 pub found_are : (d : InstData) (homes : List ℕ) (q : DataPlace) (n reg vvvv a b c e : ℕ) → d.nop ≡ None → n ≡ fixed_count d.row
-  → reg ≡ home_if (has_register (line_of d.row).tail) homes d.reg → vvvv ≡ home_if (has_vvvv (line_of d.row).prefix) homes d.vvvv
-  → a ≡ home_if (nat_lt 0 n) homes (slice_index_or d.fixed 0 0) → b ≡ home_if (nat_lt 1 n) homes (slice_index_or d.fixed 1 0) → c ≡ home_if (nat_lt 2 n) homes (slice_index_or d.fixed 2 0) → e ≡ home_if (nat_lt 3 n) homes (slice_index_or d.fixed 3 0)
-  → (is_present d.place.kind ≡ true → amode_of q ≡ renamed_amode (slice_index homes) (amode_of d.place))
-  → (is_present d.place.kind ≡ true → gpr_mem_of q ≡ renamed_gpr_mem (slice_index homes) (slice_index homes) (gpr_mem_of d.place))
-  → (is_present d.place.kind ≡ true → xmm_mem_of q ≡ renamed_xmm_mem (slice_index homes) (slice_index homes) (xmm_mem_of d.place))
-  → listed (filled (signature_of d.row) q (record { registers = reg ∷ vvvv ∷ []; fixed = a ∷ b ∷ c ∷ e ∷ []; imm = d.imm })) ≡ renamed_operands (by_table homes) (data_operands d)
+    → reg ≡ home_if (has_register (line_of d.row).tail) homes d.reg → vvvv ≡ home_if (has_vvvv (line_of d.row).prefix) homes d.vvvv
+    → a ≡ home_if (nat_lt 0 n) homes (slice_index_or d.fixed 0 0) → b ≡ home_if (nat_lt 1 n) homes (slice_index_or d.fixed 1 0) → c ≡ home_if (nat_lt 2 n) homes (slice_index_or d.fixed 2 0) → e ≡ home_if (nat_lt 3 n) homes (slice_index_or d.fixed 3 0)
+    → (is_present d.place.kind ≡ true → amode_of q ≡ renamed_amode (slice_index homes) (amode_of d.place))
+    → (is_present d.place.kind ≡ true → gpr_mem_of q ≡ renamed_gpr_mem (slice_index homes) (slice_index homes) (gpr_mem_of d.place))
+    → (is_present d.place.kind ≡ true → xmm_mem_of q ≡ renamed_xmm_mem (slice_index homes) (slice_index homes) (xmm_mem_of d.place))
+    → listed (filled (signature_of d.row) q (record { registers = reg ∷ vvvv ∷ []; fixed = a ∷ b ∷ c ∷ e ∷ []; imm = d.imm })) ≡ renamed_operands (by_table homes) (data_operands d)
 found_are d homes q n reg vvvv a b c e none count r v ra rb rc re amode general vector =
     rw (r, v, ra, rb, rc, re, counted d.row n count) (renamed_are d homes none q (λ h. record { amode = amode h; general = general h; vector = vector h }))

@@ -153,8 +153,8 @@ impl InstData {
         (self.reg < 16) & (self.vvvv < 16) & fixed & self.place.is_met()
     }
 
-    /// The operands as a list.
-    pub(crate) fn operands(&self) -> Operands<Numbers>
+    /// The operands in the order of visits, over plain numbers; or which no-operation it is.
+    pub fn operands(&self) -> Operands<Numbers>
         ensures { result ≡ data_operands self.now }
     {
         match self.nop {

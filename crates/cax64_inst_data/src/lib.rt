@@ -7,6 +7,8 @@ mod listing;
 mod make;
 pub mod operand;
 pub mod place;
+#[cfg(test)]
+mod tests;
 mod visit;
 
 pub use data::InstData;

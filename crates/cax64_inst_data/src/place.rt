@@ -125,10 +125,7 @@ impl DataPlace {
                 self.base = home(homes, self.base);
                 self.index = home(homes, self.index);
             }
-            PlaceKind::Absent
-            | PlaceKind::Label
-            | PlaceKind::Constant
-            | PlaceKind::NoTarget => {}
+            PlaceKind::Absent | PlaceKind::Label | PlaceKind::Constant | PlaceKind::NoTarget => {}
         }
     }
 

@@ -25,10 +25,12 @@ pub fill-requires-clause-one_imm : goal.fill-requires-clause-one_imm
 fill-requires-clause-one_imm c = rw c.signature-kinds.ensures (signature.row_has_one c.args.row)
 
 pub invariant_of-result : goal.invariant_of-result
-invariant_of-result c = record { is_kept =
-    made_fits c.args.row c.signature-kinds.result.now c.fill.new.registers c.fill.new.fixed c.fill.new.place.kind c.fill.new.imm c.signature-kinds.ensures
+invariant_of-result c = record {
+  is_kept =
+      made_fits c.args.row c.signature-kinds.result.now c.fill.new.registers c.fill.new.fixed c.fill.new.place.kind c.fill.new.imm c.signature-kinds.ensures
       c.fill.ensures.registers c.fill.ensures.fixed c.fill.ensures.rest c.fill.ensures.fixed_rest
-      (λ none. ap (λ p. p.kind) (c.fill.ensures.place none) ∙ c.absent-place.ensures) c.in_ok-fill.ensures.place_fits c.fill.ensures.imm c.in_ok-fill.ensures.imm_fits }
+      (λ none. ap (λ p. p.kind) (c.fill.ensures.place none) ∙ c.absent-place.ensures) c.in_ok-fill.ensures.place_fits c.fill.ensures.imm c.in_ok-fill.ensures.imm_fits;
+}
 
 pub returns-clause-operands : goal.returns-clause-operands
 returns-clause-operands c =
@@ -37,7 +39,7 @@ returns-clause-operands c =
 pub returns-clause-signature : goal.returns-clause-signature
 returns-clause-signature c =
     let kept : kinds_fit (signature_of c.args.row) (slice_index_or c.fill.new.registers 0 0) (slice_index_or c.fill.new.registers 1 0) c.fill.new.fixed c.fill.new.place.kind c.fill.new.imm ≡ true =
-      made_fits c.args.row c.signature-kinds.result.now c.fill.new.registers c.fill.new.fixed c.fill.new.place.kind c.fill.new.imm c.signature-kinds.ensures
-        c.fill.ensures.registers c.fill.ensures.fixed c.fill.ensures.rest c.fill.ensures.fixed_rest
-        (λ none. ap (λ p. p.kind) (c.fill.ensures.place none) ∙ c.absent-place.ensures) c.in_ok-fill.ensures.place_fits c.fill.ensures.imm c.in_ok-fill.ensures.imm_fits in
+    made_fits c.args.row c.signature-kinds.result.now c.fill.new.registers c.fill.new.fixed c.fill.new.place.kind c.fill.new.imm c.signature-kinds.ensures
+    c.fill.ensures.registers c.fill.ensures.fixed c.fill.ensures.rest c.fill.ensures.fixed_rest
+    (λ none. ap (λ p. p.kind) (c.fill.ensures.place none) ∙ c.absent-place.ensures) c.in_ok-fill.ensures.place_fits c.fill.ensures.imm c.in_ok-fill.ensures.imm_fits in
     has_signature (record { place = c.fill.new.place; imm = c.fill.new.imm; row = c.args.row; nop = None; reg = slice_index_or c.fill.new.registers 0 0; vvvv = slice_index_or c.fill.new.registers 1 0; fixed = c.fill.new.fixed; is_kept = kept })
