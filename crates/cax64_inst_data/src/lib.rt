@@ -7,8 +7,6 @@ mod listing;
 mod make;
 pub mod operand;
 pub mod place;
-#[cfg(test)]
-mod tests;
 mod visit;
 
 pub use data::InstData;

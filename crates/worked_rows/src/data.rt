@@ -43,11 +43,9 @@ fn fault_of(data: &InstData) -> Option<Fault> {
 
 #[test]
 fn data_has_the_bytes_of_the_struct(rt: HostRuntime) {
-    let place = indexed(13, 9);
-    let operands = [DataOperand::Memory(place), DataOperand::Register(8)];
-    let addition = InstData::new(Row::lock_addl_mr, &operands).expect(&rt, "an addition");
-    let as_struct = lock_addl_mr::<Numbers>::new(place, Gpr::new(8));
-    assert!(rt; are_alike(&addition, &as_struct));
+    let sum = addition(indexed(13, 9), 8).expect(&rt, "an addition");
+    let as_struct = lock_addl_mr::<Numbers>::new(indexed(13, 9), Gpr::new(8));
+    assert!(rt; are_alike(&sum, &as_struct));
 
     let operands = [
         DataOperand::TwoRegisters(3, 10),
@@ -67,6 +65,14 @@ fn data_has_the_bytes_of_the_struct(rt: HostRuntime) {
     assert!(rt; !are_alike(&InstData::nop(Nop::Three), &nop_7b::new()));
 }
 
+fn memory() -> DataOperand {
+    DataOperand::Memory(based(0))
+}
+
+fn register() -> DataOperand {
+    DataOperand::Register(1)
+}
+
 /// Why no data is made.
 fn refusal_of(row: Row, operands: &[DataOperand]) -> Option<DataError> {
     InstData::new(row, operands).err()
@@ -82,16 +88,17 @@ fn added(value: i64) -> [DataOperand; 2] {
 
 #[test]
 fn operands_that_a_row_does_not_take_are_refused(rt: HostRuntime) {
-    let memory = DataOperand::Memory(based(0));
-    let register = DataOperand::Register(1);
     let row = Row::lock_addl_mr;
-    assert!(rt; refusal_of(row, &[memory]) == Some(DataError::Count(2)));
-    assert!(rt; refusal_of(row, &[memory, register, register]) == Some(DataError::Count(2)));
-    assert!(rt; refusal_of(row, &[register, register]) == Some(DataError::Kind(0)));
-    assert!(rt; refusal_of(row, &[memory, memory]) == Some(DataError::Kind(1)));
-    assert!(rt; refusal_of(Row::jmp_d8, &[memory]) == Some(DataError::Kind(0)));
-    assert!(rt; refusal_of(Row::nopl_rm, &[memory]) == Some(DataError::Nop));
+    assert!(rt; refusal_of(row, &[memory()]) == Some(DataError::Count(2)));
+    let three = [memory(), register(), register()];
+    assert!(rt; refusal_of(row, &three) == Some(DataError::Count(2)));
+    assert!(rt; refusal_of(row, &[register(), register()]) == Some(DataError::Kind(0)));
+    assert!(rt; refusal_of(row, &[memory(), memory()]) == Some(DataError::Kind(1)));
+    assert!(rt; refusal_of(Row::jmp_d8, &[memory()]) == Some(DataError::Kind(0)));
+    assert!(rt; refusal_of(Row::nopl_rm, &[memory()]) == Some(DataError::Nop));
     assert!(rt; refusal_of(Row::nop_1b, &[]) == Some(DataError::Nop));
+    let text = format!(in rt.alloc(); "{}", DataError::Range(1)).expect(&rt, "memory");
+    assert!(rt; text.as_str() == "operand 1 is an immediate out of its range");
 }
 
 #[test]
@@ -160,4 +167,9 @@ fn each_register_is_renamed_by_its_number(rt: HostRuntime) {
     let mut nop = InstData::nop(Nop::Nine);
     nop.rename(&[9; 256]);
     assert!(rt; nop == InstData::nop(Nop::Nine));
+}
+
+#[test]
+fn data_has_32_bytes(rt: HostRuntime) {
+    assert!(rt; size_of::<InstData>() <= 32);
 }
