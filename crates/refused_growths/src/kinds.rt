@@ -106,16 +106,22 @@ fn are_put_whole(rt: &impl Abort, alloc: Global, insts: &[Inst<Numbers>], wanted
     assert!(rt; recorder.notices().is_empty());
 }
 
-/// A sink of so many bytes takes them, or refuses them and keeps these bytes.
-fn fill<const N: usize>(
-    rt: &impl Abort,
-    insts: &[Inst<Numbers>],
-    answer: Result<(), Refused>,
-    wanted: &[u8],
-) {
-    let mut sink = FixedSink::<N>::new();
-    assert!(rt; put_all(rt, insts, &mut sink) == answer);
-    assert!(rt; sink.bytes() == wanted);
+/// A sink of five bytes refuses the third, and keeps a front of it.
+fn fill_five(rt: &impl Abort, insts: &[Inst<Numbers>]) {
+    let full = Refused {
+        whole: 2,
+        error: SinkError::Full,
+    };
+    let mut sink = FixedSink::<5>::new();
+    assert!(rt; put_all(rt, insts, &mut sink) == Err(full));
+    assert!(rt; sink.bytes() == [0x24, 0xAA, 0x90, 0xFF, 0x15].as_slice());
+}
+
+/// A sink of no bytes takes no instruction.
+fn fill_none(rt: &impl Abort, insts: &[Inst<Numbers>]) {
+    let mut sink = FixedSink::<0>::new();
+    assert!(rt; put_all(rt, insts, &mut sink) == Ok(()));
+    assert!(rt; sink.bytes().is_empty());
 }
 
 /// Where the third call of a sink is refused, the trap before it stays told.
@@ -144,17 +150,8 @@ fn lists_of_several_kinds(rt: HostRuntime) {
         &[0x24, 0x00, 0xF0, 0x01, 0x0C, 0x24],
     );
     are_put_whole(&rt, rt.alloc(), part(&rt, insts, 0, 2), &NOP_AND_MASK);
-    let full = Refused {
-        whole: 2,
-        error: SinkError::Full,
-    };
-    fill::<5>(
-        &rt,
-        part(&rt, insts, 1, 4),
-        Err(full),
-        &[0x24, 0xAA, 0x90, 0xFF, 0x15],
-    );
-    fill::<0>(&rt, part(&rt, insts, 0, 0), Ok(()), &[]);
+    fill_five(&rt, part(&rt, insts, 1, 4));
+    fill_none(&rt, part(&rt, insts, 0, 0));
     stop_behind_a_trap(&rt, rt.alloc(), part(&rt, insts, 6, 8));
 }
 
