@@ -4,7 +4,6 @@
 #![tactic(auto)]
 
 #[cfg(test)]
-mod kinds;
 mod lists;
 #[cfg(test)]
 mod process;
