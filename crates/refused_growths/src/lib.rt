@@ -4,6 +4,7 @@
 #![tactic(auto)]
 
 #[cfg(test)]
+mod kinds;
 mod lists;
 #[cfg(test)]
 mod process;
