@@ -2,12 +2,12 @@
 
 use crate::columns::{write_bytes, write_notices, write_target};
 use crate::lists::has_changed;
+use crate::representation::{Representation, TakesEither};
 use cranelift_assembler_x64::{
-    CodeSink, Constant, DeferredTarget, Instruction, Label, Numbers, RowAndOperands, SinkError,
+    CodeSink, Constant, DeferredTarget, Instruction, InstructionText, Label, Numbers, SinkError,
 };
 use named_instructions::address::target_of;
 use named_instructions::fields::{Fault, Fields, parsed};
-use named_instructions::{TakesInstruction, take_instruction};
 use std::alloc::Global;
 use x64_code_buffer::{BindError, CodeBuffer, FinishError, patched_field};
 
@@ -27,10 +27,13 @@ pub(crate) fn answer_patched(fields: &mut Fields<'_>, came: &mut String) -> Resu
 #[derive(Drop)]
 struct Pushed<'a>(&'a mut CodeBuffer<Global>);
 
-impl TakesInstruction for Pushed<'_> {
+impl TakesEither for Pushed<'_> {
     type Answer = Result<(), Fault>;
 
-    fn take<I: RowAndOperands<Family = Numbers> + Drop>(&mut self, inst: I) -> Result<(), Fault> {
+    fn take_either<I: Instruction<Family = Numbers> + InstructionText + Drop>(
+        &mut self,
+        inst: I,
+    ) -> Result<(), Fault> {
         if !inst.is_encodable(&*self.0) {
             return Err(Fault::Malformed);
         }
@@ -82,6 +85,8 @@ fn put(buffer: &mut CodeBuffer<Global>, call: &str, value: &str) -> Result<(), F
 
 /// Makes a call that has an argument, and writes its answer.
 fn make_call(
+    alloc: Global,
+    representation: Representation,
     buffer: &mut CodeBuffer<Global>,
     call: &str,
     argument: &str,
@@ -98,7 +103,7 @@ fn make_call(
         }
         "push" => {
             let (name, values) = argument.split_once(' ').ok_or(Fault::Malformed)?;
-            take_instruction(name, values, &mut Pushed(buffer))??;
+            representation.take(alloc, name, values, &mut Pushed(buffer))??;
             write_bound(came, Ok(()))
         }
         _ => {
@@ -110,6 +115,8 @@ fn make_call(
 
 /// Makes the calls of a script, and writes the answer of each: `-` where there is none.
 fn run_script(
+    alloc: Global,
+    representation: Representation,
     buffer: &mut CodeBuffer<Global>,
     script: &str,
     came: &mut String,
@@ -125,7 +132,9 @@ fn run_script(
         }
         is_first = false;
         match step.split_once(' ') {
-            Some((call, argument)) => make_call(buffer, call, argument, came)?,
+            Some((call, argument)) => {
+                make_call(alloc, representation, buffer, call, argument, came)?;
+            }
             None if step == "new_label" => new_label(buffer, came)?,
             None => return Err(Fault::Malformed),
         }
@@ -154,6 +163,7 @@ fn write_finished(came: &mut String, buffer: CodeBuffer<Global>) -> Result<(), F
 /// byte for the digit, is passed over where such a form is pushed.
 pub(crate) fn answer_buffer(
     alloc: Global,
+    representation: Representation,
     fields: &mut Fields<'_>,
     came: &mut String,
 ) -> Result<(), Fault> {
@@ -163,7 +173,7 @@ pub(crate) fn answer_buffer(
         return Err(Fault::PassedOver);
     }
     let mut buffer = CodeBuffer::new(alloc);
-    run_script(&mut buffer, script, came)?;
+    run_script(alloc, representation, &mut buffer, script, came)?;
     came.push('\t')?;
     write_notices(came, buffer.notices())?;
     came.push('\t')?;

@@ -2,15 +2,15 @@
 
 use crate::columns::{write_bytes, write_calls, write_fault, write_notices};
 use crate::reading::note_front;
+use crate::representation::{Representation, TakesEither};
 use crate::sinks::keep_the_same;
 use crate::texts::{Texts, texts_of};
 use crate::visits::VisitText;
 use cax64_test_support::CallRecorder;
 use cranelift_assembler_x64 as assembler;
 use cranelift_assembler_x64::reader::read_inst;
-use cranelift_assembler_x64::{Instruction, Numbers, Recorder, Row, RowAndOperands};
+use cranelift_assembler_x64::{Instruction, InstructionText, Numbers, Recorder, Row};
 use named_instructions::fields::{Fault, Fields, parsed};
-use named_instructions::{TakesInstruction, take_instruction};
 use std::alloc::Global;
 
 /// An empty recorder that knows the offsets of a column.
@@ -69,10 +69,10 @@ impl<'a> Encoded<'a> {
     }
 }
 
-impl TakesInstruction for Encoded<'_> {
+impl TakesEither for Encoded<'_> {
     type Answer = Result<(), Fault>;
 
-    fn take<I: RowAndOperands<Family = Numbers> + Drop>(
+    fn take_either<I: Instruction<Family = Numbers> + InstructionText + Drop>(
         &mut self,
         mut inst: I,
     ) -> Result<(), Fault> {
@@ -91,12 +91,13 @@ impl TakesInstruction for Encoded<'_> {
 /// What comes of the instruction of the next columns.
 fn encode_line<'a>(
     alloc: Global,
+    representation: Representation,
     fields: &mut Fields<'a>,
 ) -> Result<(Encoded<'a>, u8, Row), Fault> {
     let name = fields.text()?;
     let values = fields.text()?;
     let mut encoded = Encoded::new(alloc, fields.text()?)?;
-    take_instruction(name, values, &mut encoded)??;
+    representation.take(alloc, name, values, &mut encoded)??;
     let (length, row) = encoded.length_and_row.ok_or(Fault::Malformed)?;
     Ok((encoded, length, row))
 }
@@ -111,10 +112,11 @@ fn note_bytes(came: &mut String, encoded: &Encoded<'_>) -> Result<(), Fault> {
 
 pub(crate) fn answer_instruction(
     alloc: Global,
+    representation: Representation,
     fields: &mut Fields<'_>,
     came: &mut String,
 ) -> Result<(), Fault> {
-    let (encoded, length, row) = encode_line(alloc, fields)?;
+    let (encoded, length, row) = encode_line(alloc, representation, fields)?;
     write_calls(came, &encoded.sink)?;
     write!(came, "\t{length}\t")?;
     let texts = encoded.texts.as_ref().ok_or(Fault::Malformed)?;
@@ -129,10 +131,11 @@ pub(crate) fn answer_instruction(
 /// Bytes and notices, where the length and the row that is read are the right ones.
 pub(crate) fn answer_worked(
     alloc: Global,
+    representation: Representation,
     fields: &mut Fields<'_>,
     came: &mut String,
 ) -> Result<(), Fault> {
-    let (encoded, length, row) = encode_line(alloc, fields)?;
+    let (encoded, length, row) = encode_line(alloc, representation, fields)?;
     let bytes = encoded.sink.bytes();
     write_bytes(came, bytes)?;
     came.push('\t')?;
@@ -153,10 +156,13 @@ struct Faulty {
     visits: VisitText,
 }
 
-impl TakesInstruction for Faulty {
+impl TakesEither for Faulty {
     type Answer = ();
 
-    fn take<I: RowAndOperands<Family = Numbers> + Drop>(&mut self, mut inst: I) {
+    fn take_either<I: Instruction<Family = Numbers> + InstructionText + Drop>(
+        &mut self,
+        mut inst: I,
+    ) {
         self.fault = inst.first_fault(&self.sink);
         self.is_encodable = inst.is_encodable(&self.sink);
         inst.visit(&mut self.visits);
@@ -165,6 +171,7 @@ impl TakesInstruction for Faulty {
 
 pub(crate) fn answer_fault(
     alloc: Global,
+    representation: Representation,
     fields: &mut Fields<'_>,
     came: &mut String,
 ) -> Result<(), Fault> {
@@ -176,7 +183,7 @@ pub(crate) fn answer_fault(
         is_encodable: false,
         visits: VisitText::new(alloc),
     };
-    take_instruction(name, values, &mut faulty)?;
+    representation.take(alloc, name, values, &mut faulty)?;
     write_fault(came, faulty.fault)?;
     if faulty.is_encodable != faulty.fault.is_none() {
         let is_encodable = faulty.is_encodable;

@@ -2,13 +2,14 @@
 
 use crate::columns::{write_bytes, write_notices};
 use crate::encoding::recorder_of;
+use crate::representation::{Representation, TakesEitherList};
 use cax64_test_support::RefusingSink;
 use cranelift_assembler_x64::{
-    CodeSink, FixedSink, Instruction, Numbers, Recorder, RowAndOperands, SinkError, all_encodable,
-    encode_each, encode_each_whole,
+    CodeSink, FixedSink, Instruction, Numbers, Recorder, SinkError, all_encodable, encode_each,
+    encode_each_whole,
 };
 use named_instructions::fields::{Fault, Fields, parsed};
-use named_instructions::{Form, TakesList, take_list};
+use named_instructions::Form;
 use std::alloc::Global;
 
 /// The size of the fixed sink.
@@ -92,10 +93,10 @@ struct Refusing<'a> {
     came: &'a mut String,
 }
 
-impl TakesList for Refusing<'_> {
+impl TakesEitherList for Refusing<'_> {
     type Answer = Result<(), Fault>;
 
-    fn take<I: RowAndOperands<Family = Numbers> + Drop>(
+    fn take_either_list<I: Instruction<Family = Numbers> + Drop>(
         &mut self,
         insts: &[I],
     ) -> Result<(), Fault> {
@@ -128,6 +129,7 @@ pub(crate) fn has_changed(list: &str) -> bool {
 /// Cases of the first stage hold of lists without these.
 pub(crate) fn answer_refusal(
     alloc: Global,
+    representation: Representation,
     fields: &mut Fields<'_>,
     came: &mut String,
 ) -> Result<(), Fault> {
@@ -146,5 +148,5 @@ pub(crate) fn answer_refusal(
         came,
     };
     let list = if list == "-" { "" } else { list };
-    take_list(alloc, list, FORM, &mut refusing).map_err(|refusal| refusal.fault)?
+    representation.take_list(alloc, list, FORM, &mut refusing)?
 }

@@ -18,6 +18,7 @@ mod prefixes;
 mod program;
 mod reading;
 mod report;
+mod representation;
 mod rows;
 mod sinks;
 mod tails;
@@ -25,6 +26,7 @@ mod texts;
 mod visits;
 
 use crate::report::{Difference, Report, report_of};
+use crate::representation::Representation;
 use named_instructions::fields::{Fault, Fields};
 use std::alloc::Global;
 use std::io::ErrorKind;
@@ -147,10 +149,24 @@ impl Kind {
         }
     }
 
+    /// Whether a line has instructions, which are given as data too.
+    pub(crate) fn has_instructions(self) -> bool {
+        matches!(
+            self,
+            Kind::Rows
+                | Kind::Instructions
+                | Kind::Worked
+                | Kind::Faults
+                | Kind::Refusals
+                | Kind::Buffers
+        )
+    }
+
     /// Reads what goes in, and writes what comes out as the columns that are left.
     fn answer(
         self,
         alloc: Global,
+        representation: Representation,
         fields: &mut Fields<'_>,
         came: &mut String,
     ) -> Result<(), Fault> {
@@ -166,16 +182,16 @@ impl Kind {
             Kind::Immediates => immediates::answer_immediate(alloc, fields, came),
             Kind::Ranges => immediates::answer_range(fields, came),
             Kind::Names => names::answer_name(fields, came),
-            Kind::Rows => rows::answer_row(fields, came),
-            Kind::Instructions => encoding::answer_instruction(alloc, fields, came),
-            Kind::Worked => encoding::answer_worked(alloc, fields, came),
-            Kind::Faults => encoding::answer_fault(alloc, fields, came),
-            Kind::Refusals => lists::answer_refusal(alloc, fields, came),
+            Kind::Rows => rows::answer_row(alloc, representation, fields, came),
+            Kind::Instructions => encoding::answer_instruction(alloc, representation, fields, came),
+            Kind::Worked => encoding::answer_worked(alloc, representation, fields, came),
+            Kind::Faults => encoding::answer_fault(alloc, representation, fields, came),
+            Kind::Refusals => lists::answer_refusal(alloc, representation, fields, came),
             Kind::Reader => reading::answer_reading(alloc, fields, came),
             Kind::Program => program::answer_program(alloc, fields, came),
             Kind::Addresses => texts::answer_address(alloc, fields, came),
             Kind::Patched => buffers::answer_patched(fields, came),
-            Kind::Buffers => buffers::answer_buffer(alloc, fields, came),
+            Kind::Buffers => buffers::answer_buffer(alloc, representation, fields, came),
         }
     }
 }

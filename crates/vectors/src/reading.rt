@@ -3,6 +3,7 @@
 ghost use Rattle.std.specs.Prelude.{◌<◌, IfOk};
 
 use cranelift_assembler_x64::reader::{Place, Reading, RegView, read_inst};
+use cranelift_assembler_x64::{InstData, Instruction, Row};
 use named_instructions::fields::{Fault, Fields};
 use std::alloc::Global;
 
@@ -115,6 +116,37 @@ pub(crate) fn note_front(came: &mut String, bytes: &[u8]) -> Result<(), Fault> {
     Ok(())
 }
 
+/// Whether no data is made of a reading: it names a high byte, memory without a base or relative to the end, or it is a
+/// no-operation, of which there are nine alone.
+fn has_no_data(reading: &Reading) -> bool {
+    let is_high = matches!(reading.reg, Some(RegView::High(_)));
+    let has_no_place = matches!(
+        reading.place,
+        Some(Place::Reg(RegView::High(_)) | Place::Rip(_) | Place::Mem { base: None, .. })
+    );
+    is_high || has_no_place || matches!(reading.row, Row::nopl_rm | Row::nopw_rm)
+}
+
+/// Whether what is made of a reading is read as the same operands, and isn't longer.
+fn is_made_again(alloc: Global, reading: &Reading) -> bool {
+    let Some(data) = InstData::of_reading(reading) else {
+        return has_no_data(reading);
+    };
+    let mut code: Vec<u8> = Vec::new(alloc);
+    if !data.is_encodable(&code) || data.encode(&mut code).is_err() {
+        return false;
+    }
+    let Some(again) = read_inst(code.as_slice()) else {
+        return false;
+    };
+    again.length <= reading.length
+        && Reading {
+            length: again.length,
+            tail: again.tail,
+            ..*reading
+        } == again
+}
+
 pub(crate) fn answer_reading(
     alloc: Global,
     fields: &mut Fields<'_>,
@@ -126,6 +158,9 @@ pub(crate) fn answer_reading(
     match read_inst(&bytes) {
         Some(reading) => {
             write_reading(came, &reading)?;
+            if !is_made_again(alloc, &reading) {
+                came.push_str(" but data of it is read as another")?;
+            }
             let own = bytes.get(..usize::from(reading.length));
             note_front(came, own.ok_or(Fault::Malformed)?)
         }

@@ -1,6 +1,7 @@
 //! The comparison of a file.
 
 use crate::Kind;
+use crate::representation::Representation;
 use named_instructions::fields::{Fault, Fields};
 use std::alloc::{AllocError, Global};
 
@@ -90,13 +91,31 @@ fn columns_but(alloc: Global, left_out: &[&str], names: &str, line: &str) -> Res
     Ok(columns)
 }
 
-fn answer_of(alloc: Global, kind: Kind, names: &str, line: &str) -> Result<Answer, Fault> {
-    let columns = columns_but(alloc, kind.unanswered(), names, line)?;
-    let mut fields = Fields::new(columns.as_str());
+fn answer_as(
+    alloc: Global,
+    kind: Kind,
+    representation: Representation,
+    columns: &str,
+) -> Result<Answer, Fault> {
+    let mut fields = Fields::new(columns);
     let mut came = String::new(alloc);
-    kind.answer(alloc, &mut fields, &mut came)?;
+    kind.answer(alloc, representation, &mut fields, &mut came)?;
     let wanted = String::from_str(alloc, fields.rest()?)?;
     Ok(Answer { wanted, came })
+}
+
+/// The answer of a line: of the first type whose answer isn't the wanted one, or of the last.
+fn answer_of(alloc: Global, kind: Kind, names: &str, line: &str) -> Result<Answer, Fault> {
+    let columns = columns_but(alloc, kind.unanswered(), names, line)?;
+    let columns = columns.as_str();
+    let mut answer = answer_as(alloc, kind, Representation::Enumeration, columns)?;
+    if kind.has_instructions() && answer.came == answer.wanted {
+        answer = answer_as(alloc, kind, Representation::Data, columns)?;
+        if answer.came != answer.wanted {
+            answer.came.push_str(" (as data)")?;
+        }
+    }
+    Ok(answer)
 }
 
 /// Compares each line of a file but the first, which names the columns behind a `#`.

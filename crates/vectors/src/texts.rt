@@ -1,6 +1,6 @@
 //! Texts of instructions and addresses.
 
-use cranelift_assembler_x64::{Dialect, InstructionText, Numbers, RowAndOperands};
+use cranelift_assembler_x64::{Dialect, InstructionText};
 use named_instructions::address::amode_of;
 use named_instructions::fields::{Fault, Fields};
 use std::alloc::Global;
@@ -15,10 +15,7 @@ pub(crate) struct Texts {
 }
 
 /// The texts of an instruction whose registers have names.
-pub(crate) fn texts_of<I: RowAndOperands<Family = Numbers>>(
-    alloc: Global,
-    inst: &I,
-) -> Result<Texts, Fault> {
+pub(crate) fn texts_of<I: InstructionText>(alloc: Global, inst: &I) -> Result<Texts, Fault> {
     if !inst.nameable() {
         return Err(Fault::Malformed);
     }

@@ -4,10 +4,12 @@
 //! nanoseconds that it takes for one instruction, in the best of 15 rounds over the whole list.
 #![tactic(auto)]
 
+mod data;
 mod timing;
 
+use crate::data::{DATA_CALLS, best_time_of_data};
 use crate::timing::{CALLS, best_time, first_unfit};
-use cranelift_assembler_x64::{Numbers, RowAndOperands};
+use cranelift_assembler_x64::{InstData, Instruction, InstructionText, Numbers, RowAndOperands};
 use named_instructions::fields::Fault;
 use named_instructions::{Form, Refusal, TakesList, take_list};
 use std::io::ErrorKind;
@@ -33,15 +35,48 @@ fn tenths(time: Duration, count: usize) -> Option<u64> {
     nanos.checked_mul(10)?.checked_div(count)
 }
 
-fn print_time(rt: &impl Print, name: &str, time: Duration, count: usize) -> io::Result<()> {
+fn print_time(
+    rt: &impl Print,
+    front: &str,
+    name: &str,
+    time: Duration,
+    count: usize,
+) -> io::Result<()> {
     let Some(tenths) = tenths(time, count) else {
-        return println!(rt; "{name} failed");
+        return println!(rt; "{front}{name} failed");
     };
     let (whole, tenth) = (tenths / 10, tenths % 10);
-    println!(rt; "{name} {whole}.{tenth}")
+    println!(rt; "{front}{name} {whole}.{tenth}")
 }
 
-fn time_list<I: RowAndOperands>(rt: &HostRuntime, insts: &[I]) -> io::Result<ExitCode> {
+/// Times the calls that every instruction has, with this before the name of each.
+fn time_calls<I: Instruction + InstructionText>(
+    rt: &HostRuntime,
+    front: &str,
+    insts: &[I],
+    code: &mut Vec<u8>,
+) -> io::Result<()> {
+    for call in CALLS {
+        let best = best_time(rt, call, insts, code)?;
+        print_time(rt, front, call.name(), best, insts.len())?;
+    }
+    Ok(())
+}
+
+/// Times the same instructions as data.
+fn time_data(rt: &HostRuntime, data: &mut [InstData], code: &mut Vec<u8>) -> io::Result<()> {
+    time_calls(rt, "data_", &*data, code)?;
+    for call in DATA_CALLS {
+        let best = best_time_of_data(rt, call, data, code)?;
+        print_time(rt, "data_", call.name(), best, data.len())?;
+    }
+    Ok(())
+}
+
+fn time_list<I: RowAndOperands<Family = Numbers>>(
+    rt: &HostRuntime,
+    insts: &[I],
+) -> io::Result<ExitCode> {
     let count = insts.len();
     if count == 0 {
         println!(rt; "bench.tsv has no instruction")?;
@@ -54,10 +89,15 @@ fn time_list<I: RowAndOperands>(rt: &HostRuntime, insts: &[I]) -> io::Result<Exi
         let fault = Fault::Malformed;
         return refuse(rt, Refusal { number, fault });
     }
-    for call in CALLS {
-        let best = best_time(rt, call, insts, &mut code)?;
-        print_time(rt, call.name(), best, count)?;
+    time_calls(rt, "", insts, &mut code)?;
+    let mut data = Vec::new(rt.alloc());
+    for inst in insts {
+        // Plain numbers are settled.
+        if let Some(inst) = InstData::of(inst) {
+            data.push(inst).map_err(|_| io::Error::from(ErrorKind::OutOfMemory))?;
+        }
     }
+    time_data(rt, data.as_mut_slice(), &mut code)?;
     Ok(ExitCode::SUCCESS)
 }
 

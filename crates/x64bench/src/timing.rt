@@ -7,14 +7,14 @@ ghost use Rattle.cranelift_assembler_x64.specs.Vec.{vec_state};
 
 use cranelift_assembler_x64::reader::read_inst;
 use cranelift_assembler_x64::{
-    Instruction, InstructionText, RowAndOperands, all_encodable, encode_each,
+    Instruction, InstructionText, all_encodable, encode_each,
 };
 use std::alloc::{AllocError, Global};
 use std::io;
 use std::io::ErrorKind;
 use std::time::{Duration, Instant};
 
-const ROUNDS: u32 = 15;
+pub(crate) const ROUNDS: u32 = 15;
 
 /// What is timed.
 #[derive(Clone, Copy)]
@@ -51,7 +51,10 @@ impl Call {
 }
 
 /// The place of the first instruction that can't be encoded or has no text.
-pub(crate) fn first_unfit<I: RowAndOperands>(insts: &[I], code: &Vec<u8>) -> Option<usize> {
+pub(crate) fn first_unfit<I: Instruction + InstructionText>(
+    insts: &[I],
+    code: &Vec<u8>,
+) -> Option<usize> {
     for (place, inst) in insts.iter().enumerate() {
         if !inst.is_encodable(code) || !inst.nameable() {
             return Some(place);
@@ -61,7 +64,7 @@ pub(crate) fn first_unfit<I: RowAndOperands>(insts: &[I], code: &Vec<u8>) -> Opt
 }
 
 /// The time since `start`. An error where not all was done, or what came isn't what was to come.
-fn time_if(rt: &HostRuntime, start: Instant, is_done: bool) -> io::Result<Duration> {
+pub(crate) fn time_if(rt: &HostRuntime, start: Instant, is_done: bool) -> io::Result<Duration> {
     let time = start.elapsed(rt)?;
     if is_done {
         Ok(time)
@@ -190,7 +193,7 @@ fn time_read_inst(rt: &HostRuntime, code: &[u8], count: usize) -> io::Result<Dur
 }
 
 /// The time of one round. `code` is what the last call that encodes made.
-fn time_of<I: RowAndOperands>(
+fn time_of<I: Instruction + InstructionText>(
     rt: &HostRuntime,
     call: Call,
     insts: &[I],
@@ -207,7 +210,7 @@ fn time_of<I: RowAndOperands>(
 }
 
 /// The best time of all rounds.
-pub(crate) fn best_time<I: RowAndOperands>(
+pub(crate) fn best_time<I: Instruction + InstructionText>(
     rt: &HostRuntime,
     call: Call,
     insts: &[I],

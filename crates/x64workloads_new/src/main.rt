@@ -3,30 +3,76 @@
 //! The words are a job, how often it is done and the seed. Without words each job is done a little.
 #![tactic(auto)]
 
+mod data;
+mod kinds;
 mod stubs;
 
+use crate::data::functions_of_data;
 use crate::stubs::stubs_again;
+use cranelift_assembler_x64::SinkError;
+use std::alloc::Global;
 use std::process::ExitCode;
 use std::{env, io};
+use workload_source::digest::Digest;
 use workload_source::registers::Regs;
 
-fn run_job(rt: &HostRuntime, count: u32, seed: u64) -> io::Result<ExitCode> {
-    let Ok(digest) = stubs_again::<Regs>(rt.alloc(), count, seed) else {
-        println!(rt; "stubs_again refused")?;
-        return Ok(ExitCode::FAILURE);
+/// What is done.
+#[derive(Clone, Copy)]
+enum Job {
+    StubsAgain,
+    Data,
+}
+
+const JOBS: [Job; 2] = [Job::StubsAgain, Job::Data];
+
+impl Job {
+    fn name(self) -> &'static str {
+        match self {
+            Job::StubsAgain => "stubs_again",
+            Job::Data => "data",
+        }
+    }
+
+    fn do_it(self, alloc: Global, count: u32, seed: u64) -> Result<Digest, SinkError> {
+        match self {
+            Job::StubsAgain => stubs_again::<Regs>(alloc, count, seed),
+            Job::Data => functions_of_data(alloc, count, seed),
+        }
+    }
+}
+
+/// Does a job and prints its digest. Answers whether it was done.
+fn run_job(rt: &HostRuntime, job: Job, count: u32, seed: u64) -> io::Result<bool> {
+    let name = job.name();
+    let Ok(digest) = job.do_it(rt.alloc(), count, seed) else {
+        println!(rt; "{name} refused")?;
+        return Ok(false);
     };
     let number = digest.number();
-    println!(rt; "stubs_again {number:016x}")?;
-    Ok(ExitCode::SUCCESS)
+    println!(rt; "{name} {number:016x}")?;
+    Ok(true)
+}
+
+fn status(is_done: bool) -> ExitCode {
+    if is_done {
+        ExitCode::SUCCESS
+    } else {
+        ExitCode::FAILURE
+    }
+}
+
+fn job_of(name: &str) -> Option<Job> {
+    JOBS.into_iter().find(|job| job.name() == name)
 }
 
 fn run_words(rt: &HostRuntime, job: &str, count: &str, seed: &str) -> io::Result<ExitCode> {
-    let ("stubs_again", Ok(count), Ok(seed)) = (job, count.parse::<u32>(), seed.parse::<u64>())
+    let (Some(job), Ok(count), Ok(seed)) =
+        (job_of(job), count.parse::<u32>(), seed.parse::<u64>())
     else {
         println!(rt; "usage: x64workloads_new [JOB COUNT SEED]")?;
         return Ok(ExitCode::from(2));
     };
-    run_job(rt, count, seed)
+    Ok(status(run_job(rt, job, count, seed)?))
 }
 
 fn main(rt: HostRuntime) -> io::Result<ExitCode> {
@@ -34,5 +80,9 @@ fn main(rt: HostRuntime) -> io::Result<ExitCode> {
     if let [_, job, count, seed] = arguments.as_slice() {
         return run_words(&rt, job.as_str(), count.as_str(), seed.as_str());
     }
-    run_job(&rt, 100, 1)
+    let mut is_done = true;
+    for job in JOBS {
+        is_done = run_job(&rt, job, 100, 1)? && is_done;
+    }
+    Ok(status(is_done))
 }
