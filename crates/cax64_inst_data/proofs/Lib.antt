@@ -13,3 +13,5 @@ pub mod Give
 pub mod Filling
 pub mod Finished
 pub mod Renames
+pub mod Gathered
+pub mod Families

@@ -5,8 +5,10 @@ pub mod data;
 mod encode;
 mod listing;
 mod make;
+pub mod numbered;
 pub mod operand;
 pub mod place;
+mod reading;
 mod visit;
 
 pub use data::InstData;
