@@ -15,3 +15,4 @@ pub mod Finished
 pub mod Renames
 pub mod Gathered
 pub mod Families
+pub mod SameMeaning

@@ -3,6 +3,7 @@
 
 pub mod data;
 mod encode;
+pub mod laws;
 mod listing;
 mod make;
 pub mod numbered;
