@@ -257,7 +257,7 @@ fixed_are (operand.ReadWriteGprMem place size ∷ later) = fixed_are later
 fixed_are (operand.ReadXmmMem place ∷ later) = fixed_are later
 fixed_are (operand.Imm imm ∷ later) = fixed_are later
 
-zeros_behind : (n : ℕ) → all_zero (drop n []) ≡ true
+pub zeros_behind : (n : ℕ) → all_zero (drop n []) ≡ true
 zeros_behind zero = refl
 zeros_behind (suc n) = refl
 
@@ -266,7 +266,7 @@ zeros_of_two [] n e = rw (sym e) refl
 zeros_of_two (a ∷ []) n e = rw (sym e) refl
 zeros_of_two (a ∷ b ∷ rs) n e = rw (sym e) (zeros_behind (length rs))
 
-zeros_of_four : (fs : List ℕ) (n : ℕ) → length fs ≡ n → all_zero (drop n (four fs)) ≡ true
+pub zeros_of_four : (fs : List ℕ) (n : ℕ) → length fs ≡ n → all_zero (drop n (four fs)) ≡ true
 zeros_of_four [] n e = rw (sym e) refl
 zeros_of_four (a ∷ []) n e = rw (sym e) refl
 zeros_of_four (a ∷ b ∷ []) n e = rw (sym e) refl

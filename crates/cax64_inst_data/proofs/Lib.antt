@@ -16,3 +16,5 @@ pub mod Renames
 pub mod Gathered
 pub mod Families
 pub mod SameMeaning
+pub mod ReadAgain
+pub mod ReadNops

@@ -1,6 +1,6 @@
 //! Data of what was read from bytes.
 
-ghost use Rattle.std.specs.Prelude.{◌≡◌, ◌^◌, true, false, not, None, Some, IfSome, is_some, option_map};
+ghost use Rattle.std.specs.Prelude.{◌≡◌, ◌^◌, ℕ, ℤ, Option, true, false, not, None, Some, IfSome, is_some, option_map};
 ghost use Rattle.cax64_address.specs.Address.{scale_number};
 ghost use Rattle.cax64_address.specs.Operand.{is_gpr_mem};
 ghost use Rattle.cax64_encoder.specs.ImmActions.{imm_named};
