@@ -13,3 +13,8 @@ pub mod Give
 pub mod Filling
 pub mod Finished
 pub mod Renames
+pub mod Gathered
+pub mod Families
+pub mod SameMeaning
+pub mod ReadAgain
+pub mod ReadNops

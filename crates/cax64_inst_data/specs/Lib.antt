@@ -13,3 +13,7 @@ pub mod Given
 pub mod Refusal
 pub mod Message
 pub mod Homes
+pub mod Numbered
+pub mod OfReading
+pub mod Gathered
+pub mod ReadOperands

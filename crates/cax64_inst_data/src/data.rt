@@ -25,13 +25,13 @@ use cax64_table::numbers;
 /// An instruction: a row of the table, and operands by their numbers.
 #[derive(Clone, Copy, Debug, PartialEq)]
 pub struct InstData {
-    place: DataPlace,
-    imm: u32,
-    row: Row,
-    nop: Option<Nop>,
-    reg: u8,
-    vvvv: u8,
-    fixed: [u8; 4],
+    pub(crate) place: DataPlace,
+    pub(crate) imm: u32,
+    pub(crate) row: Row,
+    pub(crate) nop: Option<Nop>,
+    pub(crate) reg: u8,
+    pub(crate) vvvv: u8,
+    pub(crate) fixed: [u8; 4],
     ghost is_kept: { fits nop row reg vvvv fixed place.kind imm ≡ true },
 }
 
@@ -242,7 +242,7 @@ impl InstData {
 /// The numbers that the fixed registers of a row have to hold, in the order of visits, and 0 behind them.
 #[tactic(auto, unfolding(cax64_operand::specs::Signature::signature_of))]
 #[inline(always)]
-fn expected(row: Row) -> [u8; 4]
+pub(crate) fn expected(row: Row) -> [u8; 4]
     ensures { result ≡ four (expected_of (signature_of row)) }
 {
     match row {
@@ -279,7 +279,7 @@ fn home_if(present: bool, homes: &[u8; 256], reg: u8) -> u8
 }
 
 /// Whether a row is one that no-operations have.
-fn is_nop_row(row: Row) -> bool
+pub(crate) fn is_nop_row(row: Row) -> bool
     ensures { result ≡ is_nop_row row }
 {
     matches!(row, Row::nop_1b | Row::nop_2b | Row::nopl_rm | Row::nopw_rm)

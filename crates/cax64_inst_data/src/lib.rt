@@ -3,10 +3,13 @@
 
 pub mod data;
 mod encode;
+pub mod laws;
 mod listing;
 mod make;
+pub mod numbered;
 pub mod operand;
 pub mod place;
+mod reading;
 mod visit;
 
 pub use data::InstData;

@@ -9,6 +9,8 @@ mod checked;
 #[cfg(test)]
 mod data;
 #[cfg(test)]
+mod data_makers;
+#[cfg(test)]
 mod families;
 #[cfg(test)]
 mod fixed_sinks;

@@ -1,0 +1,28 @@
+//! Laws of the items here. The functions do nothing: their clauses are the laws.
+
+ghost use Rattle.std.specs.Prelude.{◌≡◌, ℕ, ℤ, true, Option, option_map};
+ghost use Rattle.cax64_encoder.specs.Fault.{is_encodable};
+ghost use Rattle.cax64_encoder.specs.Meant.{meant_of};
+ghost use Rattle.cax64_machine_code.specs.declared.row.Row.{Row};
+ghost use Rattle.cax64_operand.specs.declared.operand.Operands.{Operands};
+ghost use Rattle.cax64_inst_data.specs.Numbered.{numbered_amode, numbered_operands, settled_operands};
+
+use cax64_operand::{Numbers, RegisterFamily};
+use cax64_register::Registers;
+
+/// Where each register of an instruction is settled, data of its numbers means the same: it is read as the same parts,
+/// has the same bytes where these are fixed, refers to the same memory by its numbers, and can be encoded where the
+/// instruction can. The same registers are visited where destinations of one number compare equal.
+pub fn numbers_mean_the_same<R: Registers>()
+    ensures parts { (row : Row) (o : Operands R R.ReadGpr R.ReadWriteGpr R.WriteGpr R.ReadXmm R.ReadWriteXmm R.WriteXmm) (offsets : ℕ → Option ℤ) → settled_operands ⟦<R as RegisterFamily>⟧.family o ≡ true
+        → (meant_of ⟦<Numbers as RegisterFamily>⟧.family row (numbered_operands ⟦<R as RegisterFamily>⟧.family o) offsets).parts ≡ (meant_of ⟦<R as RegisterFamily>⟧.family row o offsets).parts }
+    ensures exact { (row : Row) (o : Operands R R.ReadGpr R.ReadWriteGpr R.WriteGpr R.ReadXmm R.ReadWriteXmm R.WriteXmm) (offsets : ℕ → Option ℤ)
+        → (meant_of ⟦<Numbers as RegisterFamily>⟧.family row (numbered_operands ⟦<R as RegisterFamily>⟧.family o) offsets).exact ≡ (meant_of ⟦<R as RegisterFamily>⟧.family row o offsets).exact }
+    ensures memory { (row : Row) (o : Operands R R.ReadGpr R.ReadWriteGpr R.WriteGpr R.ReadXmm R.ReadWriteXmm R.WriteXmm) (offsets : ℕ → Option ℤ) → settled_operands ⟦<R as RegisterFamily>⟧.family o ≡ true
+        → (meant_of ⟦<Numbers as RegisterFamily>⟧.family row (numbered_operands ⟦<R as RegisterFamily>⟧.family o) offsets).memory ≡ option_map (λ amode. numbered_amode ⟦<R as RegisterFamily>⟧.family.read_gpr amode) (meant_of ⟦<R as RegisterFamily>⟧.family row o offsets).memory }
+    ensures encodable { (row : Row) (o : Operands R R.ReadGpr R.ReadWriteGpr R.WriteGpr R.ReadXmm R.ReadWriteXmm R.WriteXmm) (offsets : ℕ → Option ℤ) → settled_operands ⟦<R as RegisterFamily>⟧.family o ≡ true
+        → is_encodable offsets (meant_of ⟦<Numbers as RegisterFamily>⟧.family row (numbered_operands ⟦<R as RegisterFamily>⟧.family o) offsets) ≡ is_encodable offsets (meant_of ⟦<R as RegisterFamily>⟧.family row o offsets) }
+    ensures visited { (row : Row) (o : Operands R R.ReadGpr R.ReadWriteGpr R.WriteGpr R.ReadXmm R.ReadWriteXmm R.WriteXmm) (offsets : ℕ → Option ℤ) → settled_operands ⟦<R as RegisterFamily>⟧.family o ≡ true
+        → ((a b : R.WriteGpr) → R.WriteGpr.enc a ≡ R.WriteGpr.enc b → R.WriteGpr.eq a b ≡ true)
+        → (meant_of ⟦<Numbers as RegisterFamily>⟧.family row (numbered_operands ⟦<R as RegisterFamily>⟧.family o) offsets).visited ≡ (meant_of ⟦<R as RegisterFamily>⟧.family row o offsets).visited }
+{}

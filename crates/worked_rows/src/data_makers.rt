@@ -1,0 +1,229 @@
+//! Data of instructions and of what was read.
+
+use cax64_inst_data::{DataOperand, InstData};
+use cax64_machine_code::reading::{Place, Reading, RegView};
+use cax64_machine_code::row::Row;
+use cax64_operand::Nop;
+use cax64_test_support::{All, Virtual};
+use cranelift_assembler_x64::reader::read_inst;
+use cranelift_assembler_x64::inst::{
+    andb_i, andps_a, lock_addl_mr, lock_cmpxchg16b_m, lock_xaddl_mr, mulxl_rvm, nop_7b,
+};
+use cranelift_assembler_x64::{
+    Amode, AmodeOffset, AmodeOffsetPlusKnownOffset, Fixed, FixedSink, Gpr, GprMem, Imm8,
+    Instruction, NonRspGpr, Scale, Xmm, XmmMem,
+};
+
+type Before = All<Virtual>;
+
+fn reg(number: u32) -> Gpr<Virtual> {
+    Gpr::new(Virtual(number))
+}
+
+fn indexed(base: u32, index: u32) -> Amode<Virtual> {
+    Amode::ImmRegRegShift {
+        base: Virtual(base),
+        index: NonRspGpr::new(Virtual(index)),
+        scale: Scale::Four,
+        simm32: AmodeOffset::new(-128),
+        trap: None,
+    }
+}
+
+fn based(base: u32) -> Amode<Virtual> {
+    Amode::ImmReg {
+        base: Virtual(base),
+        simm32: AmodeOffsetPlusKnownOffset::ZERO,
+        trap: None,
+    }
+}
+
+fn plain_indexed(base: u8, index: u8) -> Amode<u8> {
+    Amode::ImmRegRegShift {
+        base,
+        index: NonRspGpr::new(index),
+        scale: Scale::Four,
+        simm32: AmodeOffset::new(-128),
+        trap: None,
+    }
+}
+
+fn plain_based(base: u8) -> Amode<u8> {
+    Amode::ImmReg {
+        base,
+        simm32: AmodeOffsetPlusKnownOffset::ZERO,
+        trap: None,
+    }
+}
+
+fn made(row: Row, operands: &[DataOperand]) -> Option<InstData> {
+    InstData::new(row, operands).ok()
+}
+
+fn addition(base: u32, index: u32, register: u32) -> lock_addl_mr<Before> {
+    lock_addl_mr::new(indexed(base, index), reg(register))
+}
+
+#[test]
+fn an_instruction_is_data_by_its_numbers(rt: HostRuntime) {
+    let sum = [
+        DataOperand::Memory(plain_indexed(13, 9)),
+        DataOperand::Register(8),
+    ];
+    assert!(rt; InstData::of(&addition(13, 9, 8)) == made(Row::lock_addl_mr, &sum));
+
+    let product = mulxl_rvm::<Before>::new(
+        reg(3),
+        reg(10),
+        GprMem::Gpr(Virtual(7)),
+        Fixed(Virtual(2)),
+    );
+    let operands = [
+        DataOperand::TwoRegisters(3, 10),
+        DataOperand::Register(7),
+        DataOperand::Register(2),
+    ];
+    assert!(rt; InstData::of(&product) == made(Row::mulxl_rvm, &operands));
+
+    let mask = andb_i::<Before>::new(Fixed(Virtual(0)), Imm8::new(200));
+    let operands = [DataOperand::Register(0), DataOperand::Immediate(200)];
+    assert!(rt; InstData::of(&mask) == made(Row::andb_i, &operands));
+
+    let and = andps_a::<Before>::new(Xmm::new(Virtual(12)), XmmMem::Xmm(Virtual(4)));
+    let operands = [DataOperand::Register(12), DataOperand::Register(4)];
+    assert!(rt; InstData::of(&and) == made(Row::andps_a, &operands));
+
+    let exchange = lock_cmpxchg16b_m::<Before>::new(
+        based(6),
+        Fixed(Virtual(0)),
+        Fixed(Virtual(2)),
+        Fixed(Virtual(1)),
+        Fixed(Virtual(3)),
+    );
+    let operands = [
+        DataOperand::Memory(plain_based(6)),
+        DataOperand::Register(0),
+        DataOperand::Register(2),
+        DataOperand::Register(1),
+        DataOperand::Register(3),
+    ];
+    assert!(rt; InstData::of(&exchange) == made(Row::lock_cmpxchg16b_m, &operands));
+
+    assert!(rt; InstData::of(&nop_7b::new()) == Some(InstData::nop(Nop::Seven)));
+}
+
+#[test]
+fn an_instruction_with_a_virtual_register_is_no_data(rt: HostRuntime) {
+    assert!(rt; InstData::of(&addition(13, 9, 20)).is_none());
+    assert!(rt; InstData::of(&addition(13, 20, 8)).is_none());
+    assert!(rt; InstData::of(&addition(20, 9, 8)).is_none());
+    let add = lock_xaddl_mr::<Before>::new(based(16), reg(1));
+    assert!(rt; InstData::of(&add).is_none());
+    let mask = andb_i::<Before>::new(Fixed(Virtual(16)), Imm8::new(1));
+    assert!(rt; InstData::of(&mask).is_none());
+}
+
+fn read(bytes: &[u8]) -> Option<InstData> {
+    InstData::of_reading(&read_inst(bytes)?)
+}
+
+/// Whether what is read of these bytes is data that has the same bytes.
+fn comes_back(bytes: &[u8]) -> bool {
+    let mut sink = FixedSink::<13>::new();
+    match read(bytes) {
+        Some(data) => data.encode_checked(&mut sink).is_ok() && sink.bytes() == bytes,
+        None => false,
+    }
+}
+
+#[test]
+fn what_is_read_comes_back(rt: HostRuntime) {
+    // lock add [r13 + 4 * r9 - 128], r8d
+    assert!(rt; comes_back(&[0xF0, 0x47, 0x01, 0x44, 0x8D, 0x80]));
+    // and al, 200
+    assert!(rt; comes_back(&[0x24, 0xC8]));
+    // mulx ebx, r10d, edi
+    assert!(rt; comes_back(&[0xC4, 0xE2, 0x2B, 0xF6, 0xDF]));
+    // lock add dword ptr [rax], -1
+    assert!(rt; comes_back(&[0xF0, 0x83, 0x00, 0xFF]));
+    // lock cmpxchg16b [rsi]
+    assert!(rt; comes_back(&[0xF0, 0x48, 0x0F, 0xC7, 0x0E]));
+    // andps xmm12, xmm4
+    assert!(rt; comes_back(&[0x44, 0x0F, 0x54, 0xE4]));
+    // jmp rax
+    assert!(rt; comes_back(&[0xFF, 0xE0]));
+    // a jump back by a distance of one byte, and by one of four
+    assert!(rt; comes_back(&[0xEB, 0xFE]));
+    assert!(rt; comes_back(&[0xE9, 0x00, 0x00, 0x00, 0x80]));
+}
+
+#[test]
+fn the_no_operations_come_back(rt: HostRuntime) {
+    assert!(rt; read(&[0x90]) == Some(InstData::nop(Nop::One)));
+    assert!(rt; read(&[0x66, 0x90]) == Some(InstData::nop(Nop::Two)));
+    assert!(rt; read(&[0x0F, 0x1F, 0x00]) == Some(InstData::nop(Nop::Three)));
+    assert!(rt; read(&[0x0F, 0x1F, 0x40, 0]) == Some(InstData::nop(Nop::Four)));
+    assert!(rt; read(&[0x0F, 0x1F, 0x44, 0, 0]) == Some(InstData::nop(Nop::Five)));
+    assert!(rt; read(&[0x66, 0x0F, 0x1F, 0x44, 0, 0]) == Some(InstData::nop(Nop::Six)));
+    assert!(rt; read(&[0x0F, 0x1F, 0x80, 0, 0, 0, 0]) == Some(InstData::nop(Nop::Seven)));
+    assert!(rt; read(&[0x0F, 0x1F, 0x84, 0, 0, 0, 0, 0]) == Some(InstData::nop(Nop::Eight)));
+    let nine = [0x66, 0x0F, 0x1F, 0x84, 0, 0, 0, 0, 0];
+    assert!(rt; read(&nine) == Some(InstData::nop(Nop::Nine)));
+    // A length that none of that place has, and a place that none has.
+    assert!(rt; read(&[0x0F, 0x1F, 0x04, 0]) == Some(InstData::nop(Nop::Five)));
+    assert!(rt; read(&[0x0F, 0x1F, 0x01]).is_none());
+    assert!(rt; read(&[0x66, 0x0F, 0x1F, 0x00]).is_none());
+}
+
+#[test]
+fn what_data_does_not_hold_is_none(rt: HostRuntime) {
+    // lock add [rax], ah, and then spl
+    assert!(rt; read(&[0xF0, 0x00, 0x20]).is_none());
+    assert!(rt; comes_back(&[0xF0, 0x40, 0x00, 0x20]));
+    // A place relative to the end, and one without a base.
+    assert!(rt; read(&[0xF0, 0x01, 0x05, 0, 0, 0, 0]).is_none());
+    assert!(rt; read(&[0xF0, 0x01, 0x04, 0x25, 0, 0, 0, 0]).is_none());
+}
+
+fn sum(base: u8, index: (u8, u8), register: u8, imm: Option<i64>) -> Reading {
+    Reading {
+        row: Row::lock_addl_mr,
+        length: 5,
+        tail: 3,
+        reg: Some(RegView::Low(register)),
+        vvvv: None,
+        place: Some(Place::Mem {
+            base: Some(base),
+            index: Some(index),
+            disp: 1,
+        }),
+        imm,
+    }
+}
+
+#[test]
+fn a_reading_of_no_bytes_is_no_data(rt: HostRuntime) {
+    assert!(rt; InstData::of_reading(&sum(13, (9, 4), 8, None)).is_some());
+    assert!(rt; InstData::of_reading(&sum(16, (9, 4), 8, None)).is_none());
+    assert!(rt; InstData::of_reading(&sum(13, (4, 4), 8, None)).is_none());
+    assert!(rt; InstData::of_reading(&sum(13, (16, 4), 8, None)).is_none());
+    assert!(rt; InstData::of_reading(&sum(13, (9, 3), 8, None)).is_none());
+    assert!(rt; InstData::of_reading(&sum(13, (9, 4), 16, None)).is_none());
+    assert!(rt; InstData::of_reading(&sum(13, (9, 4), 8, Some(1))).is_none());
+    let mut mask = Reading {
+        row: Row::andb_i,
+        length: 2,
+        tail: 0,
+        reg: None,
+        vvvv: None,
+        place: None,
+        imm: Some(255),
+    };
+    assert!(rt; InstData::of_reading(&mask).is_some());
+    mask.imm = Some(256);
+    assert!(rt; InstData::of_reading(&mask).is_none());
+    mask.imm = Some(-1);
+    assert!(rt; InstData::of_reading(&mask).is_none());
+    mask.imm = None;
+    assert!(rt; InstData::of_reading(&mask).is_none());
+}
