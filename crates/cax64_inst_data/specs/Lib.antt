@@ -13,3 +13,5 @@ pub mod Given
 pub mod Refusal
 pub mod Message
 pub mod Homes
+pub mod Made
+pub mod Class

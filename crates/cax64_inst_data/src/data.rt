@@ -25,13 +25,13 @@ use cax64_table::numbers;
 /// An instruction: a row of the table, and operands by their numbers.
 #[derive(Clone, Copy, Debug, PartialEq)]
 pub struct InstData {
-    place: DataPlace,
-    imm: u32,
-    row: Row,
-    nop: Option<Nop>,
-    reg: u8,
-    vvvv: u8,
-    fixed: [u8; 4],
+    pub(crate) place: DataPlace,
+    pub(crate) imm: u32,
+    pub(crate) row: Row,
+    pub(crate) nop: Option<Nop>,
+    pub(crate) reg: u8,
+    pub(crate) vvvv: u8,
+    pub(crate) fixed: [u8; 4],
     ghost is_kept: { fits nop row reg vvvv fixed place.kind imm ≡ true },
 }
 

@@ -1,13 +1,18 @@
 //! Instructions as data: a row and operands by their numbers, in one type of 32 bytes.
 #![tactic(auto)]
 
+mod class;
 pub mod data;
 mod encode;
 mod listing;
 mod make;
 pub mod operand;
+pub mod operands;
 pub mod place;
+mod short;
+mod text;
 mod visit;
 
 pub use data::InstData;
 pub use operand::{DataError, DataOperand};
+pub use operands::DataOperands;

@@ -163,7 +163,7 @@ fn word_of(kind: ImmediateKind, value: i64) -> Option<u32>
 }
 
 /// The place that is a register.
-fn place_of_register(reg: u8) -> DataPlace
+pub(crate) fn place_of_register(reg: u8) -> DataPlace
     ensures general { gpr_mem_of result ≡ gpr_mem.Gpr reg }
     ensures vector { xmm_mem_of result ≡ xmm_mem.Xmm reg }
     ensures kind { is_present result.kind ≡ true }
@@ -181,7 +181,7 @@ fn place_of_register(reg: u8) -> DataPlace
 }
 
 /// The place that is memory.
-fn place_of(amode: Amode<u8>) -> DataPlace
+pub(crate) fn place_of(amode: Amode<u8>) -> DataPlace
     ensures amode { amode_of result ≡ amode }
     ensures kind { is_memory result.kind ≡ true }
 {

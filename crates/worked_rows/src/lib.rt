@@ -9,6 +9,10 @@ mod checked;
 #[cfg(test)]
 mod data;
 #[cfg(test)]
+mod data_short;
+#[cfg(test)]
+mod data_texts;
+#[cfg(test)]
 mod families;
 #[cfg(test)]
 mod fixed_sinks;
