@@ -10,10 +10,10 @@ use Rattle.cax64_inst_data.specs.declared.operand.DataError.{DataError}
 use Rattle.cax64_inst_data.specs.declared.operand.DataOperand.{DataOperand}
 
 -- What is made of a row and operands: data that has them where they aren't refused, and why they are where they are.
-pub record MadeOf (row : Row) (operands : List DataOperand) (result : Result InstData DataError) : Type 0 where
-  pub taken : OnOk result (refusal row operands ≡ None)
-  pub refused : IfErr result (λ error. refusal row operands ≡ Some error)
-  pub row : IfOk result (λ d. data_row d ≡ row)
-  pub operands : IfOk result (λ d. all_given (list_of (data_operands d)) ≡ operands)
-  pub signature : IfOk result (λ d. HasSignature row (data_operands d))
+pub record MadeOf (r : Row) (os : List DataOperand) (result : Result InstData DataError) : Type 0 where
+  pub taken : OnOk result (refusal r os ≡ None)
+  pub refused : IfErr result (λ error. refusal r os ≡ Some error)
+  pub row : IfOk result (λ d. data_row d ≡ r)
+  pub operands : IfOk result (λ d. all_given (list_of (data_operands d)) ≡ os)
+  pub signature : IfOk result (λ d. HasSignature r (data_operands d))
   pub kind : IfOk result (λ d. nop_of (data_operands d) ≡ None)

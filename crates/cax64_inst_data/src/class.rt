@@ -120,30 +120,30 @@ pub(crate) fn class_of(row: Row) -> Class
         | Row::lock_xorq_mi_sxl => Class::MemorySimm32,
         Row::lock_addb_mr
         | Row::lock_addw_mr
-        | Row::lock_addl_mr
-        | Row::lock_addq_mr
         | Row::lock_orb_mr
         | Row::lock_orw_mr
-        | Row::lock_orl_mr
-        | Row::lock_orq_mr
         | Row::lock_adcb_mr
         | Row::lock_adcw_mr
-        | Row::lock_adcl_mr
-        | Row::lock_adcq_mr
         | Row::lock_sbbb_mr
         | Row::lock_sbbw_mr
-        | Row::lock_sbbl_mr
-        | Row::lock_sbbq_mr
         | Row::lock_andb_mr
         | Row::lock_andw_mr
-        | Row::lock_andl_mr
-        | Row::lock_andq_mr
         | Row::lock_subb_mr
         | Row::lock_subw_mr
+        | Row::lock_xorb_mr
+        | Row::lock_xorw_mr => Class::MemoryRegister,
+        Row::lock_addl_mr
+        | Row::lock_addq_mr
+        | Row::lock_orl_mr
+        | Row::lock_orq_mr
+        | Row::lock_adcl_mr
+        | Row::lock_adcq_mr
+        | Row::lock_sbbl_mr
+        | Row::lock_sbbq_mr
+        | Row::lock_andl_mr
+        | Row::lock_andq_mr
         | Row::lock_subl_mr
         | Row::lock_subq_mr
-        | Row::lock_xorb_mr
-        | Row::lock_xorw_mr
         | Row::lock_xorl_mr
         | Row::lock_xorq_mr => Class::MemoryRegister,
         Row::lock_cmpxchgb_mr

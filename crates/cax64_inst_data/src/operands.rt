@@ -1,8 +1,7 @@
 //! The operands of data, one by one.
 
-ghost use Rattle.std.specs.Prelude.{◌≡◌, List, ℕ};
+ghost use Rattle.std.specs.Prelude.{◌≡◌};
 ghost use Rattle.std.specs.Iterator.{YieldsFirst, item_count};
-ghost use Rattle.cax64_operand.specs.OperandList.{list_of};
 
 use crate::data::InstData;
 use cax64_operand::{Numbers, Operand, Operands};
@@ -16,6 +15,8 @@ pub struct DataOperands {
 }
 
 impl Model for DataOperands {
+    ghost use Rattle.std.specs.Prelude.{List, ℕ};
+    ghost use Rattle.cax64_operand.specs.OperandList.{list_of};
     ghost use Rattle.cax64_operand.specs.declared.instruction.Numbers.{Numbers};
     ghost use Rattle.cax64_operand.specs.declared.operand.Operand.{Operand};
 
@@ -25,6 +26,7 @@ impl Model for DataOperands {
 }
 
 impl InstData {
+    ghost use Rattle.cax64_operand.specs.OperandList.{list_of};
     ghost use Rattle.cax64_inst_data.specs.Data.{data_operands};
 
     /// The operands in the order of visits, over plain numbers. A no-operation has none.

@@ -3,13 +3,12 @@
 //! Each makes what [`InstData::new`] makes of the same operands, and refuses what that refuses. Of rows that have just this
 //! list of fields it is made with no loop.
 
-ghost use Rattle.std.specs.Prelude.{◌≡◌, [], ◌∷◌, List, Ok, pos, true};
+ghost use Rattle.std.specs.Prelude.{◌≡◌, [], ◌∷◌, Ok, pos, true};
 ghost use Rattle.cax64_inst_data.specs.Class.{class_takes, row_takes, taken_fits, taken_given};
 ghost use Rattle.cax64_inst_data.specs.Fits.{is_present};
 ghost use Rattle.cax64_inst_data.specs.Given.{gpr_mem_given, xmm_mem_given};
 ghost use Rattle.cax64_inst_data.specs.Made.{MadeOf};
 ghost use Rattle.cax64_inst_data.specs.Operands.{gpr_mem_of, xmm_mem_of};
-ghost use Rattle.cax64_inst_data.specs.declared.operand.DataOperand.{DataOperand};
 ghost use Rattle.cax64_inst_data.specs.declared.operand.DataOperand.TheVariants.{Register, TwoRegisters, Memory, Immediate};
 
 use crate::class::{Class, class_of};
@@ -42,7 +41,7 @@ fn kept(
 ) -> InstData
     requires class { class_takes class ≡ row_takes row }
     requires fits { taken_fits (class_takes class) reg vvvv fixed place.kind imm ≡ true }
-    ensures { (operands : List DataOperand) → taken_given (class_takes class) place (record { registers = reg ∷ vvvv ∷ []; fixed = fixed; imm = imm }) ≡ operands → MadeOf row operands (Ok result) }
+    ensures { MadeOf row (taken_given (class_takes class) place (record { registers = reg ∷ vvvv ∷ []; fixed = fixed; imm = imm })) (Ok result) }
 {
     InstData {
         place,
@@ -214,8 +213,8 @@ impl InstData {
 
     /// Data of a distance in four bytes: `call`, `jmp` and conditional jumps.
     #[inline(always)]
-    pub fn of_simm32(row: Row, simm32: i32) -> Result<InstData, DataError>
-        ensures { MadeOf row (Immediate simm32 ∷ []) result }
+    pub fn of_simm32(row: Row, distance: i32) -> Result<InstData, DataError>
+        ensures { MadeOf row (Immediate distance ∷ []) result }
     {
         match class_of(row) {
             Class::Simm32 => Ok(kept(
@@ -225,16 +224,16 @@ impl InstData {
                 0,
                 0,
                 [0; 4],
-                simm32.cast_unsigned(),
+                distance.cast_unsigned(),
             )),
-            _ => made(row, &[DataOperand::Immediate(i64::from(simm32))]),
+            _ => made(row, &[DataOperand::Immediate(i64::from(distance))]),
         }
     }
 
     /// Data of a distance in a byte: `jmp` and conditional jumps.
     #[inline(always)]
-    pub fn of_simm8(row: Row, simm8: i8) -> Result<InstData, DataError>
-        ensures { MadeOf row (Immediate simm8 ∷ []) result }
+    pub fn of_simm8(row: Row, distance: i8) -> Result<InstData, DataError>
+        ensures { MadeOf row (Immediate distance ∷ []) result }
     {
         match class_of(row) {
             Class::Simm8 => Ok(kept(
@@ -244,9 +243,9 @@ impl InstData {
                 0,
                 0,
                 [0; 4],
-                u32::from(simm8.cast_unsigned()),
+                u32::from(distance.cast_unsigned()),
             )),
-            _ => made(row, &[DataOperand::Immediate(i64::from(simm8))]),
+            _ => made(row, &[DataOperand::Immediate(i64::from(distance))]),
         }
     }
 

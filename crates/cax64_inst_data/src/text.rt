@@ -5,7 +5,6 @@ ghost use Rattle.cax64_operand.specs.Fold.{fold};
 
 use crate::data::InstData;
 use cax64_feature::{AvailableFeatures, Features};
-use cax64_machine_code::row::Row;
 use cax64_operand::{
     FromOperands, Numbers, Operands, RegisterVisitor, RowAndOperands, Task, of_five, of_four,
     of_one, of_three, of_two,
@@ -14,17 +13,19 @@ use cax64_text::{InstructionText, RegisterNames};
 use std::alloc::{AllocError, Allocator};
 
 /// What is wanted of operands that are listed.
-fn fold_list<T: FromOperands<Numbers>>(operands: Operands<Numbers>) -> T
-    ensures { result ≡ fold T.made_of_none T.made_with T.made_of_nop operands }
+fn fold_list<T: FromOperands<Numbers>>(operands: &Operands<Numbers>) -> T
+    ensures { result ≡ fold T.made_of_none T.made_with T.made_of_nop operands.now }
 {
     match operands {
         Operands::Zero => T::none(),
-        Operands::One(a) => of_one(a),
-        Operands::Two(a, b) => of_two(a, b),
-        Operands::Three(a, b, c) => of_three(a, b, c),
-        Operands::Four(a, b, c, d) => of_four(a, b, c, d),
-        Operands::Five(a, b, c, d, e) => of_five(a, b, c, d, e),
-        Operands::Nop(nop) => T::nop(nop),
+        Operands::One(a) => of_one(a.copied()),
+        Operands::Two(a, b) => of_two(a.copied(), b.copied()),
+        Operands::Three(a, b, c) => of_three(a.copied(), b.copied(), c.copied()),
+        Operands::Four(a, b, c, d) => of_four(a.copied(), b.copied(), c.copied(), d.copied()),
+        Operands::Five(a, b, c, d, e) => {
+            of_five(a.copied(), b.copied(), c.copied(), d.copied(), e.copied())
+        }
+        Operands::Nop(nop) => T::nop(*nop),
     }
 }
 
@@ -43,7 +44,7 @@ impl RowAndOperands for Listed {
 
     #[tactic(auto, using(crate::proofs::Signature::has_signature))]
     fn hand_to<T: Task<Numbers, X>, X>(&self, to: &mut X) -> T::Answer {
-        let made: T = fold_list(self.0.operands());
+        let made: T = fold_list(&self.0.operands());
         made.take(self.0.its_row(), to)
     }
 

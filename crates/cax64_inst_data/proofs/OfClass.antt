@@ -14,9 +14,10 @@ use Rattle.cax64_operand.specs.declared.kind.ImmediateKind.{ImmediateKind}
 use Rattle.cax64_operand.specs.declared.kind.ImmediateKind.TheVariants.{Imm8, Imm16, Imm32, Simm8, Simm32, Distance8, Distance32, Predicate, VexPredicate}
 use Rattle.cax64_operand.specs.declared.kind.OperandKind.{OperandKind}
 use Rattle.cax64_operand.specs.declared.kind.OperandKind.TheVariants.{ReadGpr, ReadWriteGpr, WriteGpr, WriteTwoGprs, FixedReadGpr, FixedReadWriteGpr, ReadXmm, ReadWriteXmm, WriteXmm, ReadAmode, ReadGprMem, ReadWriteGprMem, ReadXmmMem, Imm}
+use Rattle.cax64_operand.specs.declared.nop.Nop.{Nop}
 use Rattle.cax64_operand.specs.declared.operand.Operand.{Operand}
 use Rattle.cax64_inst_data.specs.Class.{plain_imm, plain_kinds, row_takes, taken_fits, taken_given}
-use Rattle.cax64_inst_data.specs.Data.{kept_of, data_operands, data_row}
+use Rattle.cax64_inst_data.specs.Data.{kept_of, data_operands, data_row, row_by}
 use Rattle.cax64_inst_data.specs.Fits.{each_fits, fixed_in, imm_fits, kinds_fit}
 use Rattle.cax64_inst_data.specs.Given.{all_given, gpr_mem_given, xmm_mem_given}
 use Rattle.cax64_inst_data.specs.Made.{MadeOf}
@@ -236,7 +237,7 @@ same_number a b e = grind (arith, nat_tests)
 made_by : (d : InstData) (operands : List DataOperand) → d.nop ≡ None → is_nop_row d.row ≡ false → all_given (filled (signature_of d.row) d.place (kept_of d)) ≡ operands → MadeOf d.row operands (Ok d)
 made_by d operands none no_nop given =
     let list : data_operands d ≡ listed (filled (signature_of d.row) d.place (kept_of d)) = data_listed d none in
-    let row : data_row d ≡ d.row = rw none refl in
+    let row : data_row d ≡ d.row = ap (λ (n : Option Nop). row_by n d) none in
     let long : (length (all_given (filled (signature_of d.row) d.place (kept_of d))) == length (signature_of d.row)) ≡ true = same_number _ _ (given_length (signature_of d.row) d.place (kept_of d)) in
     let met : first_unmet (signature_of d.row) (all_given (filled (signature_of d.row) d.place (kept_of d))) 0 ≡ None = none_unmet (signature_of d.row) d.place (kept_of d) 0 (data_fits d none) in
     let taken : refusal.refusal d.row (all_given (filled (signature_of d.row) d.place (kept_of d))) ≡ None = not_refused _ _ _ _ no_nop long met in
