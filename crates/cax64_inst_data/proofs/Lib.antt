@@ -18,3 +18,4 @@ pub mod Families
 pub mod SameMeaning
 pub mod ReadAgain
 pub mod ReadNops
+pub mod OfClass

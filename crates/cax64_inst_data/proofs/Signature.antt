@@ -49,7 +49,7 @@ byte_in_range word h = signed_8 _ (cast_8 word (ltb-true _ _ h))
 long_in_range : (word : ℕ) → nat_lt word (256 ^ 4) ≡ true → signed_below (2 ^ 31) (cast_signed w32 word) ≡ true
 long_in_range word h = signed_32 _ (cast_32 word (ltb-true _ _ h))
 
-word_in_range : (kind : ImmediateKind) (word : ℕ) → imm_fits (field_of kind) word ≡ true → imm_in_range (imm_of (imm_by kind word)) ≡ true
+pub word_in_range : (kind : ImmediateKind) (word : ℕ) → imm_fits (field_of kind) word ≡ true → imm_in_range (imm_of (imm_by kind word)) ≡ true
 word_in_range Imm8 word h = h
 word_in_range Imm16 word h = h
 word_in_range Imm32 word h = h

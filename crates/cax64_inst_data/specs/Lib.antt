@@ -17,3 +17,5 @@ pub mod Numbered
 pub mod OfReading
 pub mod Gathered
 pub mod ReadOperands
+pub mod Made
+pub mod Class

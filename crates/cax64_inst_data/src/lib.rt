@@ -1,6 +1,7 @@
 //! Instructions as data: a row and operands by their numbers, in one type of 32 bytes.
 #![tactic(auto)]
 
+mod class;
 pub mod data;
 mod encode;
 pub mod laws;
@@ -8,9 +9,13 @@ mod listing;
 mod make;
 pub mod numbered;
 pub mod operand;
+pub mod operands;
 pub mod place;
 mod reading;
+mod short;
+mod text;
 mod visit;
 
 pub use data::InstData;
 pub use operand::{DataError, DataOperand};
+pub use operands::DataOperands;

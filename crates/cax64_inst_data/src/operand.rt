@@ -163,6 +163,7 @@ pub(crate) fn word_of(kind: ImmediateKind, value: i64) -> Option<u32>
 }
 
 /// The place that is a register.
+#[inline(always)]
 pub(crate) fn place_of_register(reg: u8) -> DataPlace
     ensures general { gpr_mem_of result ≡ gpr_mem.Gpr reg }
     ensures vector { xmm_mem_of result ≡ xmm_mem.Xmm reg }
@@ -181,6 +182,7 @@ pub(crate) fn place_of_register(reg: u8) -> DataPlace
 }
 
 /// The place that is memory.
+#[inline(always)]
 pub(crate) fn place_of(amode: Amode<u8>) -> DataPlace
     ensures amode { amode_of result ≡ amode }
     ensures kind { is_memory result.kind ≡ true }
@@ -256,6 +258,7 @@ fn place_of_target(target: DeferredTarget) -> DataPlace
 }
 
 /// No place.
+#[inline(always)]
 pub(crate) fn absent() -> DataPlace
     ensures { result.kind ≡ Absent }
 {

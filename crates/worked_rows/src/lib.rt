@@ -11,6 +11,10 @@ mod data;
 #[cfg(test)]
 mod data_makers;
 #[cfg(test)]
+mod data_short;
+#[cfg(test)]
+mod data_texts;
+#[cfg(test)]
 mod families;
 #[cfg(test)]
 mod fixed_sinks;
