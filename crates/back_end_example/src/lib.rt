@@ -8,6 +8,8 @@ pub mod checked;
 #[cfg(test)]
 mod counted_loop;
 #[cfg(test)]
+mod data;
+#[cfg(test)]
 mod examples;
 pub mod notices;
 pub mod places;
