@@ -18,3 +18,6 @@ pub mod Families
 pub mod SameMeaning
 pub mod ReadAgain
 pub mod ReadNops
+pub mod PrefixBytes
+pub mod TailBytes
+pub mod BytesGiven
