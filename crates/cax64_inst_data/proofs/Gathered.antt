@@ -216,7 +216,7 @@ filled_again (operand.ReadAmode amode ∷ later) p rs fs word b f place one w on
 filled_again (operand.ReadGprMem own size ∷ later) p rs fs word b f place one w one_word r = same_list (ap (λ (x : GprMem ℕ ℕ). operand.ReadGprMem x size) (as_gpr_mem p own (place refl))) (filled_again later p rs fs word b f (λ e. never (no_place (kinds_of later)) one e) (one_later (ReadGprMem size) (kinds_of later) one) w one_word r)
 filled_again (operand.ReadWriteGprMem own size ∷ later) p rs fs word b f place one w one_word r = same_list (ap (λ (x : GprMem ℕ ℕ). operand.ReadWriteGprMem x size) (as_gpr_mem p own (place refl))) (filled_again later p rs fs word b f (λ e. never (no_place (kinds_of later)) one e) (one_later (ReadWriteGprMem size) (kinds_of later) one) w one_word r)
 filled_again (operand.ReadXmmMem own ∷ later) p rs fs word b f place one w one_word r = same_list (ap (λ (x : XmmMem ℕ ℕ). operand.ReadXmmMem x) (as_xmm_mem p own (place refl))) (filled_again later p rs fs word b f (λ e. never (no_place (kinds_of later)) one e) (one_later ReadXmmMem (kinds_of later) one) w one_word r)
-filled_again (operand.Imm imm ∷ later) p rs fs word b f place one w one_word r = 
+filled_again (operand.Imm imm ∷ later) p rs fs word b f place one w one_word r =
     let q = and_parts (imm_in_range (imm_of imm)) _ r in
     let own : imm_by (kind_of_imm imm) word ≡ imm = ap (λ (n : ℕ). imm_by (kind_of_imm imm) n) (w refl) ∙ word_again imm q.0 in
     same_list (ap (λ (x : Immediate). operand.Imm x) own) (filled_again later p rs fs word b f place one (λ e. never (no_imm (kinds_of later)) one_word e) (one_imm_later (kind.Imm (kind_of_imm imm)) (kinds_of later) one_word) q.1)

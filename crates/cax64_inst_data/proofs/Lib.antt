@@ -19,3 +19,6 @@ pub mod SameMeaning
 pub mod ReadAgain
 pub mod ReadNops
 pub mod OfClass
+pub mod PrefixBytes
+pub mod TailBytes
+pub mod BytesGiven

@@ -264,10 +264,10 @@ same_parts : {row : Row} {r s : Option RegView} {v w : Option ℕ} {p q : Option
 same_parts e f g h = rw (e, f, g, h) refl
 
 module _ (r : Reading) (p : DataPlace) (reg vvvv word : ℕ) (fixed : List ℕ)
-         (reg_read : r.reg ≡ option_map Low (when (has_register (line_of r.row).tail) reg))
-         (vvvv_read : r.vvvv ≡ when (has_vvvv (line_of r.row).prefix) vvvv)
-         (place_kept : PlaceOf r.place p) (fits : place_fits (rest_of (line_of r.row).tail) p.kind ≡ true)
-         (imm_read : r.imm ≡ option_map imm_value (imm_named (line_of r.row).imm word)) where
+    (reg_read : r.reg ≡ option_map Low (when (has_register (line_of r.row).tail) reg))
+    (vvvv_read : r.vvvv ≡ when (has_vvvv (line_of r.row).prefix) vvvv)
+    (place_kept : PlaceOf r.place p) (fits : place_fits (rest_of (line_of r.row).tail) p.kind ≡ true)
+    (imm_read : r.imm ≡ option_map imm_value (imm_named (line_of r.row).imm word)) where
   abbrev kinds : List OperandKind
   kinds = signature_of r.row
 
@@ -305,7 +305,6 @@ module _ (r : Reading) (p : DataPlace) (reg vvvv word : ℕ) (fixed : List ℕ)
       let own : parts_of r ≡ parts None l = same_parts reg_same vvvv_same (place_same offsets (imm_size (imm_in roles))) imm_same in
       own ∙ ap (λ (x : List (Operand Numbers ℕ ℕ ℕ ℕ ℕ ℕ)). parts None x) (sym (filled_back r.row p kept)) ∙ ap (λ (x : Option Nop). parts x (list_of (listed l))) (sym (none_listed l))
 
-
 -- the same by the parts that the code has
 
 pub fits_by : (row : Row) (line : Line) (has_reg has_number : Bool) (reg vvvv : ℕ) (kind : PlaceKind) (word : ℕ) (fixed : List ℕ)
@@ -332,4 +331,3 @@ means_by r line has_reg has_number p reg vvvv word fixed is has hasv reg_read vv
 
 pub sized_by : (row : Row) (line : Line) → line ≡ line_of row → has_size line.imm ≡ true
 sized_by row line is = ap (λ (l : Line). has_size l.imm) is ∙ row_has_size row
-

@@ -126,3 +126,6 @@ no_nop r h = sym (either (is_bare r) _ (no_nop_at r.row r.place r.length h))
 
 pub nop_means : (r : Reading) (nop : Nop) (row : Row) (o : Operands Numbers ℕ ℕ ℕ ℕ ℕ ℕ) → nop_for r ≡ Some nop → row ≡ nop_row nop → o ≡ operands.Nop nop → (offsets : ℕ → Option ℤ) → Same r ((meant_of (numbers ◌==◌) row o offsets).parts)
 nop_means r nop row o h e f offsets = rw (e, f) (nop_read r nop h)
+
+pub nop_place_is : (row : Row) (place : Option Place) (length : ℕ) (nop : Nop) → nop_at row place length ≡ Some nop → nop_place nop ≡ place
+nop_place_is row place length nop h = (nop_is row place length nop h).place_is

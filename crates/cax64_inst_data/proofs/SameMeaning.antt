@@ -277,7 +277,6 @@ module _ {R A B C D E F : Type 0} (f : Family A B C D E F) where
         ∙ holds_is f row o offsets
 
     module _ (tells : (a b : C) → f.write_gpr.enc a ≡ f.write_gpr.enc b → f.same_write_gpr a b ≡ true) where
-
       all_visited : (l : List (Operand R A B C D E F)) → all_settled f l ≡ true → visits_of plain (plain_roles l) ≡ visits_of f.read_gpr (own_roles l)
       all_visited [] h = refl
       all_visited (operand.ReadGpr reg size ∷ later) h = let p = and_parts (settled_operand {R = R} f (operand.ReadGpr reg size)) _ h in rw (← settled_number f.read_gpr reg p.0, all_visited later p.1) refl

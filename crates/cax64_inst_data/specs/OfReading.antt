@@ -104,3 +104,27 @@ nop_for r = if is_bare r then nop_at r.row r.place r.length else None
 
 abbrev pub is_data : Reading → Bool
 is_data r = if is_nop_row r.row then is_some (nop_for r) else operands_given (line_of r.row) r
+
+-- Why there is no data of a reading that bytes have.
+
+abbrev pub is_high : Option RegView → Bool
+is_high None = false
+is_high (Some (Low number)) = false
+is_high (Some (High number)) = true
+
+abbrev pub place_is_high : Option Place → Bool
+place_is_high (Some (Reg view)) = is_high (Some view)
+place_is_high _ = false
+
+-- relative to the end, or a displacement and an index alone
+abbrev pub lacks_base : Option Place → Bool
+lacks_base (Some (Rip disp)) = true
+lacks_base (Some (Mem None index disp)) = true
+lacks_base _ = false
+
+-- a no-operation with another place
+abbrev pub is_other_nop : Reading → Bool
+is_other_nop r = is_nop_row r.row && is_none (nop_at r.row r.place r.length)
+
+abbrev pub is_left_out : Reading → Bool
+is_left_out r = is_high r.reg || (place_is_high r.place || (lacks_base r.place || is_other_nop r))

@@ -1,12 +1,17 @@
 //! Laws of the items here. The functions do nothing: their clauses are the laws.
 
-ghost use Rattle.std.specs.Prelude.{◌≡◌, ℕ, ℤ, true, Option, option_map};
+ghost use Rattle.std.specs.Prelude.{◌≡◌, ℕ, ℤ, true, not, List, Option, Some, option_map};
 ghost use Rattle.cax64_encoder.specs.Fault.{is_encodable};
 ghost use Rattle.cax64_encoder.specs.Meant.{meant_of};
+ghost use Rattle.cax64_machine_code.specs.Fields.{IsBytes};
+ghost use Rattle.cax64_machine_code.specs.Reading.{read};
+ghost use Rattle.cax64_machine_code.specs.declared.reading.Reading.{Reading};
 ghost use Rattle.cax64_machine_code.specs.declared.row.Row.{Row};
 ghost use Rattle.cax64_operand.specs.declared.operand.Operands.{Operands};
 ghost use Rattle.cax64_inst_data.specs.Numbered.{numbered_amode, numbered_operands, settled_operands};
+ghost use Rattle.cax64_inst_data.specs.OfReading.{is_data, is_left_out};
 
+use cax64_machine_code::reading::Reading;
 use cax64_operand::{Numbers, RegisterFamily};
 use cax64_register::Registers;
 
@@ -25,4 +30,10 @@ pub fn numbers_mean_the_same<R: Registers>()
     ensures visited { (row : Row) (o : Operands R R.ReadGpr R.ReadWriteGpr R.WriteGpr R.ReadXmm R.ReadWriteXmm R.WriteXmm) (offsets : ℕ → Option ℤ) → settled_operands ⟦<R as RegisterFamily>⟧.family o ≡ true
         → ((a b : R.WriteGpr) → R.WriteGpr.enc a ≡ R.WriteGpr.enc b → R.WriteGpr.eq a b ≡ true)
         → (meant_of ⟦<Numbers as RegisterFamily>⟧.family row (numbered_operands ⟦<R as RegisterFamily>⟧.family o) offsets).visited ≡ (meant_of ⟦<R as RegisterFamily>⟧.family row o offsets).visited }
+{}
+
+/// Of what is read of any bytes there is data but for four reasons: a high byte, a place relative to the end, memory
+/// without a base, and a no-operation with a place that none of the nine has.
+pub fn what_bytes_have_is_data(reading: Reading)
+    ensures { (bytes : List ℕ) → IsBytes bytes → read bytes ≡ Some reading → is_data reading ≡ not (is_left_out reading) }
 {}

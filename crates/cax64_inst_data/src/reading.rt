@@ -29,7 +29,7 @@ use cax64_address::operand::GprMem;
 use cax64_machine_code::line::{ImmField, PlaceField, TailField};
 use cax64_machine_code::reading::{Place, Reading, RegView};
 use cax64_machine_code::row::Row;
-use cax64_operand::{ImmediateKind, Nop, RegisterFamily, Numbers};
+use cax64_operand::{ImmediateKind, Nop, Numbers, RegisterFamily};
 use cax64_register::{NonRspGpr, gpr};
 use cax64_table::{line, numbers};
 
@@ -63,7 +63,11 @@ fn number(present: bool, number: Option<u8>) -> Option<u8>
     ensures absent { present ≡ false → IfSome result (λ kept. kept ≡ 0) }
 {
     match number {
-        Some(number) => if present && number < 16 { Some(number) } else { None },
+        Some(number) => if present && number < 16 {
+            Some(number)
+        } else {
+            None
+        },
         None => if present { None } else { Some(0) },
     }
 }
@@ -156,9 +160,7 @@ fn place(tail: TailField, place: Option<Place>) -> Option<DataPlace>
 {
     match (tail, place) {
         (TailField::NoTail, None) => Some(placed(None)),
-        (TailField::Modrm(_, field), Some(place)) => {
-            Some(placed(Some(operand(field, place)?)))
-        }
+        (TailField::Modrm(_, field), Some(place)) => { Some(placed(Some(operand(field, place)?))) }
         _ => None,
     }
 }
