@@ -22,10 +22,21 @@ use cax64_machine_code::row::Row;
 /// What is made of a row of another class than a constructor is for.
 #[cold]
 #[inline(never)]
-fn made(row: Row, operands: &[DataOperand]) -> Result<InstData, DataError>
+fn made_apart(row: Row, operands: &[DataOperand]) -> Result<InstData, DataError>
     ensures { MadeOf row operands.now result }
 {
     InstData::new(row, operands)
+}
+
+/// The same, copied from where the call left it: so the fields of data that is made at once need not go through memory.
+#[inline(always)]
+fn made(row: Row, operands: &[DataOperand]) -> Result<InstData, DataError>
+    ensures { MadeOf row operands.now result }
+{
+    match made_apart(row, operands) {
+        Ok(data) => Ok(data),
+        Err(error) => Err(error),
+    }
 }
 
 /// Data of a row of this class, by what is kept of its operands.
