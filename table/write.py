@@ -8,6 +8,7 @@ be or a part has no place: then nothing is written.
 import sys
 from pathlib import Path
 
+import classes
 import enumeration
 import facade
 import index
@@ -39,6 +40,7 @@ def sources_of(table):
     enumeration.write(table, sources)
     texts.write(table, sources)
     signatures.write(table, sources)
+    classes.write(table, sources)
     facade.write(table, sources)
     return sources
 

@@ -65,14 +65,14 @@ class_takes class.MemorySimm8 = Some (ReadAmode ∷ Imm Distance8 ∷ [])
 class_takes class.MemorySimm32 = Some (ReadAmode ∷ Imm Distance32 ∷ [])
 class_takes class.MemoryRegister = Some (ReadAmode ∷ ReadXmm ∷ [])
 class_takes class.MemoryRegisterFixed = Some (ReadAmode ∷ ReadXmm ∷ FixedReadGpr 0 None ∷ [])
-class_takes class.MemoryFourFixed = Some (ReadAmode ∷ FixedReadGpr 0 None ∷ FixedReadGpr 0 None ∷ FixedReadGpr 0 None ∷ FixedReadGpr 0 None ∷ [])
+class_takes class.MemoryFixedFixedFixedFixed = Some (ReadAmode ∷ FixedReadGpr 0 None ∷ FixedReadGpr 0 None ∷ FixedReadGpr 0 None ∷ FixedReadGpr 0 None ∷ [])
 class_takes class.RegisterMemory = Some (ReadXmm ∷ ReadAmode ∷ [])
 class_takes class.RegisterXmmMem = Some (ReadXmm ∷ ReadXmmMem ∷ [])
 class_takes class.RegisterXmmMemImm8 = Some (ReadXmm ∷ ReadXmmMem ∷ Imm Imm8 ∷ [])
 class_takes class.Simm8 = Some (Imm Distance8 ∷ [])
 class_takes class.Simm32 = Some (Imm Distance32 ∷ [])
-class_takes class.TwoRegistersGprMemFixed = Some (WriteTwoGprs Byte ∷ ReadGprMem Byte ∷ FixedReadGpr 0 None ∷ [])
-class_takes class.TwoRegistersXmmMemImm8 = Some (ReadXmm ∷ ReadXmm ∷ ReadXmmMem ∷ Imm Imm8 ∷ [])
+class_takes class.PairGprMemFixed = Some (WriteTwoGprs Byte ∷ ReadGprMem Byte ∷ FixedReadGpr 0 None ∷ [])
+class_takes class.RegisterRegisterXmmMemImm8 = Some (ReadXmm ∷ ReadXmm ∷ ReadXmmMem ∷ Imm Imm8 ∷ [])
 
 -- whether what is kept is what is taken
 abbrev pub taken_fits : Option (List OperandKind) → ℕ → ℕ → List ℕ → PlaceKind → ℕ → Bool

@@ -22,10 +22,21 @@ use cax64_machine_code::row::Row;
 /// What is made of a row of another class than a constructor is for.
 #[cold]
 #[inline(never)]
-fn made(row: Row, operands: &[DataOperand]) -> Result<InstData, DataError>
+fn made_apart(row: Row, operands: &[DataOperand]) -> Result<InstData, DataError>
     ensures { MadeOf row operands.now result }
 {
     InstData::new(row, operands)
+}
+
+/// The same, copied from where the call left it: so the fields of data that is made at once need not go through memory.
+#[inline(always)]
+fn made(row: Row, operands: &[DataOperand]) -> Result<InstData, DataError>
+    ensures { MadeOf row operands.now result }
+{
+    match made_apart(row, operands) {
+        Ok(data) => Ok(data),
+        Err(error) => Err(error),
+    }
 }
 
 /// Data of a row of this class, by what is kept of its operands.
@@ -100,6 +111,8 @@ fn given_xmm_mem(place: XmmMem<u8, u8>) -> DataOperand
 
 impl InstData {
     /// Data of `al` and a byte: `and` of `al`.
+    ///
+    /// Fails as [`InstData::new`] does.
     #[inline(always)]
     pub fn of_fixed_imm8(row: Row, fixed: u8, imm8: u8) -> Result<InstData, DataError>
         ensures { MadeOf row (Register fixed ∷ Immediate (pos imm8) ∷ []) result }
@@ -125,6 +138,8 @@ impl InstData {
     }
 
     /// Data of the registers of the high half and of the low one, a general register or memory, and `rdx`: `mulx`.
+    ///
+    /// Fails as [`InstData::new`] does.
     #[inline(always)]
     pub fn of_reg_reg_gpr_mem_fixed(
         row: Row,
@@ -136,8 +151,8 @@ impl InstData {
         ensures { MadeOf row (TwoRegisters high low ∷ gpr_mem_given place ∷ Register fixed ∷ []) result }
     {
         match class_of(row) {
-            Class::TwoRegistersGprMemFixed => Ok(kept(
-                Class::TwoRegistersGprMemFixed,
+            Class::PairGprMemFixed => Ok(kept(
+                Class::PairGprMemFixed,
                 row,
                 place_of_gpr_mem(place),
                 high,
@@ -157,6 +172,8 @@ impl InstData {
     }
 
     /// Data of a general register or memory, read or read and written: shifts by one, and `call` and `jmp` through it.
+    ///
+    /// Fails as [`InstData::new`] does.
     #[inline(always)]
     pub fn of_gpr_mem(row: Row, place: GprMem<u8, u8>) -> Result<InstData, DataError>
         ensures { MadeOf row (gpr_mem_given place ∷ []) result }
@@ -168,6 +185,8 @@ impl InstData {
     }
 
     /// Data of a register and the memory that it is exchanged with: `xchg`.
+    ///
+    /// Fails as [`InstData::new`] does.
     #[inline(always)]
     pub fn of_reg_mem(row: Row, reg: u8, amode: Amode<u8>) -> Result<InstData, DataError>
         ensures { MadeOf row (Register reg ∷ Memory amode ∷ []) result }
@@ -190,6 +209,8 @@ impl InstData {
     }
 
     /// The same with the memory first, as `lock xadd` has it.
+    ///
+    /// Fails as [`InstData::new`] does.
     #[inline(always)]
     pub fn of_mem_exchanged_reg(row: Row, amode: Amode<u8>, reg: u8) -> Result<InstData, DataError>
         ensures { MadeOf row (Register reg ∷ Memory amode ∷ []) result }
@@ -212,6 +233,8 @@ impl InstData {
     }
 
     /// Data of a distance in four bytes: `call`, `jmp` and conditional jumps.
+    ///
+    /// Fails as [`InstData::new`] does.
     #[inline(always)]
     pub fn of_simm32(row: Row, distance: i32) -> Result<InstData, DataError>
         ensures { MadeOf row (Immediate distance ∷ []) result }
@@ -231,6 +254,8 @@ impl InstData {
     }
 
     /// Data of a distance in a byte: `jmp` and conditional jumps.
+    ///
+    /// Fails as [`InstData::new`] does.
     #[inline(always)]
     pub fn of_simm8(row: Row, distance: i8) -> Result<InstData, DataError>
         ensures { MadeOf row (Immediate distance ∷ []) result }
@@ -250,6 +275,8 @@ impl InstData {
     }
 
     /// Data of memory and a byte: `lock_*b_mi`.
+    ///
+    /// Fails as [`InstData::new`] does.
     #[inline(always)]
     pub fn of_mem_imm8(row: Row, amode: Amode<u8>, imm8: u8) -> Result<InstData, DataError>
         ensures { MadeOf row (Memory amode ∷ Immediate (pos imm8) ∷ []) result }
@@ -275,6 +302,8 @@ impl InstData {
     }
 
     /// Data of memory and two bytes: `lock_*w_mi`.
+    ///
+    /// Fails as [`InstData::new`] does.
     #[inline(always)]
     pub fn of_mem_imm16(row: Row, amode: Amode<u8>, imm16: u16) -> Result<InstData, DataError>
         ensures { MadeOf row (Memory amode ∷ Immediate (pos imm16) ∷ []) result }
@@ -300,6 +329,8 @@ impl InstData {
     }
 
     /// Data of memory and four bytes: `lock_*l_mi`.
+    ///
+    /// Fails as [`InstData::new`] does.
     #[inline(always)]
     pub fn of_mem_imm32(row: Row, amode: Amode<u8>, imm32: u32) -> Result<InstData, DataError>
         ensures { MadeOf row (Memory amode ∷ Immediate (pos imm32) ∷ []) result }
@@ -325,6 +356,8 @@ impl InstData {
     }
 
     /// Data of memory and four signed bytes: `lock_*q_mi_sxl`.
+    ///
+    /// Fails as [`InstData::new`] does.
     #[inline(always)]
     pub fn of_mem_simm32(row: Row, amode: Amode<u8>, simm32: i32) -> Result<InstData, DataError>
         ensures { MadeOf row (Memory amode ∷ Immediate simm32 ∷ []) result }
@@ -350,6 +383,8 @@ impl InstData {
     }
 
     /// Data of memory and a signed byte: `lock_*l_mi_sxb` and `lock_*q_mi_sxb`.
+    ///
+    /// Fails as [`InstData::new`] does.
     #[inline(always)]
     pub fn of_mem_simm8(row: Row, amode: Amode<u8>, simm8: i8) -> Result<InstData, DataError>
         ensures { MadeOf row (Memory amode ∷ Immediate simm8 ∷ []) result }
@@ -375,6 +410,8 @@ impl InstData {
     }
 
     /// Data of memory and a register: `lock_*_mr` but `lock xadd` and `lock cmpxchg`.
+    ///
+    /// Fails as [`InstData::new`] does.
     #[inline(always)]
     pub fn of_mem_reg(row: Row, amode: Amode<u8>, reg: u8) -> Result<InstData, DataError>
         ensures { MadeOf row (Memory amode ∷ Register reg ∷ []) result }
@@ -397,6 +434,8 @@ impl InstData {
     }
 
     /// Data of memory, a register and `rax`: `lock cmpxchg`.
+    ///
+    /// Fails as [`InstData::new`] does.
     #[inline(always)]
     pub fn of_mem_reg_fixed(
         row: Row,
@@ -428,6 +467,8 @@ impl InstData {
     }
 
     /// Data of memory, `rax`, `rdx`, `rcx` and `rbx`: `lock cmpxchg16b`.
+    ///
+    /// Fails as [`InstData::new`] does.
     #[inline(always)]
     pub fn of_mem_four_fixed(
         row: Row,
@@ -440,8 +481,8 @@ impl InstData {
         ensures { MadeOf row (Memory amode ∷ Register rax ∷ Register rdx ∷ Register rcx ∷ Register rbx ∷ []) result }
     {
         match class_of(row) {
-            Class::MemoryFourFixed => Ok(kept(
-                Class::MemoryFourFixed,
+            Class::MemoryFixedFixedFixedFixed => Ok(kept(
+                Class::MemoryFixedFixedFixedFixed,
                 row,
                 place_of(amode),
                 0,
@@ -463,6 +504,8 @@ impl InstData {
     }
 
     /// Data of a vector register, written or read and written, and a vector register or memory: `andps`, `vcvtpd2ps` and `vcvttpd2dq`.
+    ///
+    /// Fails as [`InstData::new`] does.
     #[inline(always)]
     pub fn of_reg_xmm_mem(row: Row, reg: u8, place: XmmMem<u8, u8>) -> Result<InstData, DataError>
         ensures { MadeOf row (Register reg ∷ xmm_mem_given place ∷ []) result }
@@ -482,6 +525,8 @@ impl InstData {
     }
 
     /// Data of a vector register, a vector register or memory, and a predicate: `cmpps` to `cmpsd`.
+    ///
+    /// Fails as [`InstData::new`] does.
     #[inline(always)]
     pub fn of_reg_xmm_mem_imm8(
         row: Row,
@@ -513,6 +558,8 @@ impl InstData {
     }
 
     /// Data of a vector register that is written, one that is read, a vector register or memory, and a predicate: `vcmpps` to `vcmpsd`.
+    ///
+    /// Fails as [`InstData::new`] does.
     #[inline(always)]
     pub fn of_reg_reg_xmm_mem_imm8(
         row: Row,
@@ -524,8 +571,8 @@ impl InstData {
         ensures { MadeOf row (Register reg ∷ Register vvvv ∷ xmm_mem_given place ∷ Immediate (pos imm8) ∷ []) result }
     {
         match class_of(row) {
-            Class::TwoRegistersXmmMemImm8 => Ok(kept(
-                Class::TwoRegistersXmmMemImm8,
+            Class::RegisterRegisterXmmMemImm8 => Ok(kept(
+                Class::RegisterRegisterXmmMemImm8,
                 row,
                 place_of_xmm_mem(place),
                 reg,
