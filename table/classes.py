@@ -1,4 +1,7 @@
-"""The class of each row: what data of it is made of, as the code has it."""
+"""The class of each row: what data of it is made of, as the code has it. The classes are named by hand, after the operands
+that a constructor is for."""
+
+import re
 
 from formatting import arms
 from operands import shown_operands
@@ -27,11 +30,14 @@ def word(operand):
     return "Fixed" if kind.startswith("Fixed") else "Register"
 
 
-def write(table, sources):
+def write(table, sources, text):
+    """`text` is what stands in the file of the classes."""
     of_nops = {instruction.row for instruction in table.instructions if instruction.nop}
+    classes = re.findall(r"^    (\w+),$", text, re.M)
 
     def class_of(row):
-        return "Nop" if row.name in of_nops else "".join(word(operand) for operand in shown_operands(row))
+        name = "" if row.name in of_nops else "".join(word(operand) for operand in shown_operands(row))
+        return name if name in classes else "Other"
 
     lines = []
     for name, rows in by(table.rows, class_of).items():

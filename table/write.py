@@ -40,7 +40,7 @@ def sources_of(table):
     enumeration.write(table, sources)
     texts.write(table, sources)
     signatures.write(table, sources)
-    classes.write(table, sources)
+    classes.write(table, sources, parts.current(ROOT / classes.SOURCE))
     facade.write(table, sources)
     return sources
 

@@ -1,4 +1,4 @@
-use Rattle.std.specs.Prelude.{ℕ, if◌then◌else◌, Bool, false, Option, Some, None, List, [], ◌∷◌}
+use Rattle.std.specs.Prelude.{◌≡◌, ℕ, if◌then◌else◌, Bool, false, Option, Some, None, List, [], ◌∷◌}
 use Rattle.cax64_machine_code.specs.declared.row.Row.{Row}
 use Rattle.cax64_operand.specs.Signature.{signature_of}
 use Rattle.cax64_operand.specs.declared.kind.ImmediateKind.{ImmediateKind}
@@ -55,7 +55,7 @@ row_takes row = if is_nop_row row then None else Some (plain_kinds (signature_of
 
 -- the same of a class
 abbrev pub class_takes : Class → Option (List OperandKind)
-class_takes class.Nop = None
+class_takes class.Other = None
 class_takes class.FixedImm8 = Some (FixedReadGpr 0 None ∷ Imm Imm8 ∷ [])
 class_takes class.GprMem = Some (ReadGprMem Byte ∷ [])
 class_takes class.MemoryImm8 = Some (ReadAmode ∷ Imm Imm8 ∷ [])
@@ -73,6 +73,11 @@ class_takes class.Simm8 = Some (Imm Distance8 ∷ [])
 class_takes class.Simm32 = Some (Imm Distance32 ∷ [])
 class_takes class.PairGprMemFixed = Some (WriteTwoGprs Byte ∷ ReadGprMem Byte ∷ FixedReadGpr 0 None ∷ [])
 class_takes class.RegisterRegisterXmmMemImm8 = Some (ReadXmm ∷ ReadXmm ∷ ReadXmmMem ∷ Imm Imm8 ∷ [])
+
+-- a class takes what its rows take, if it takes anything
+abbrev pub TakesAs : Option (List OperandKind) → Option (List OperandKind) → Type 0
+TakesAs None row = Unit {0}
+TakesAs (Some kinds) row = Some kinds ≡ row
 
 -- whether what is kept is what is taken
 abbrev pub taken_fits : Option (List OperandKind) → ℕ → ℕ → List ℕ → PlaceKind → ℕ → Bool

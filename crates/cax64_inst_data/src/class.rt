@@ -1,15 +1,14 @@
 //! What data of each row is made of.
 
-ghost use Rattle.std.specs.Prelude.{◌≡◌};
-ghost use Rattle.cax64_inst_data.specs.Class.{class_takes, row_takes};
+ghost use Rattle.cax64_inst_data.specs.Class.{TakesAs, class_takes, row_takes};
 
 use cax64_machine_code::row::Row;
 
 /// What data of a row is made of: the operands in the order of visits, whatever the instruction does with them.
 #[derive(Clone, Copy)]
 pub(crate) enum Class {
-    /// No-operations, which aren't made of operands.
-    Nop,
+    /// No-operations, which aren't made of operands, and rows for whose operands there is no constructor.
+    Other,
     /// A fixed register and a byte.
     FixedImm8,
     /// A general register or memory.
@@ -50,7 +49,7 @@ pub(crate) enum Class {
 #[tactic(auto, unfolding(cax64_operand::specs::Signature::signature_of))]
 #[inline(always)]
 pub(crate) fn class_of(row: Row) -> Class
-    ensures { class_takes result ≡ row_takes row }
+    ensures { TakesAs (class_takes result) (row_takes row) }
 {
     match row {
         // table/write.py: classes
@@ -106,7 +105,7 @@ pub(crate) fn class_of(row: Row) -> Class
         Row::vcmpps_b | Row::vcmppd_b | Row::vcmpss_b | Row::vcmpsd_b =>
             Class::RegisterRegisterXmmMemImm8,
         Row::mulxl_rvm | Row::mulxq_rvm => Class::PairGprMemFixed,
-        Row::nop_1b | Row::nop_2b | Row::nopl_rm | Row::nopw_rm => Class::Nop,
+        Row::nop_1b | Row::nop_2b | Row::nopl_rm | Row::nopw_rm => Class::Other,
         // table/write.py: end
     }
 }
