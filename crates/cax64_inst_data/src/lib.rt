@@ -6,11 +6,12 @@ mod encode;
 pub mod laws;
 mod listing;
 mod make;
-pub mod numbered;
+mod numbered;
 pub mod operand;
 pub mod place;
 mod reading;
 mod visit;
+pub mod worked;
 
 pub use data::InstData;
 pub use operand::{DataError, DataOperand};
