@@ -1,6 +1,8 @@
 //! Data of instructions and of what was read.
 
-use cax64_inst_data::laws::{numbers_mean_the_same, what_bytes_have_is_data};
+use cax64_inst_data::laws::{
+    numbers_mean_the_same, the_length_tells_a_no_operation, what_bytes_have_is_data,
+};
 use cax64_inst_data::{DataOperand, InstData};
 use cax64_machine_code::reading::{Place, Reading, RegView};
 use cax64_machine_code::row::Row;
@@ -189,6 +191,7 @@ fn what_is_read_comes_back(rt: HostRuntime) {
 
 #[test]
 fn the_no_operations_come_back(rt: HostRuntime) {
+    the_length_tells_a_no_operation();
     assert!(rt; read(&[0x90]) == Some(InstData::nop(Nop::One)));
     assert!(rt; read(&[0x66, 0x90]) == Some(InstData::nop(Nop::Two)));
     assert!(rt; read(&[0x0F, 0x1F, 0x00]) == Some(InstData::nop(Nop::Three)));
