@@ -1,6 +1,5 @@
-use Rattle.std.proofs.Common.{◌≡◌, ℕ, ◌+◌, ◌-◌, ◌*◌, ◌<◌, ◌^◌, arith, refl, ◌∙◌, ap, sym, subst, ◌≤◌, Bool, true, false, Option, Some, None, List, [], ℤ, pos, negsuc, ◌≤ℤ◌, length}
+use Rattle.std.proofs.Common.{◌≡◌, ℕ, ◌+◌, ◌-◌, ◌*◌, ◌<◌, ◌^◌, arith, refl, ap, sym, subst, ◌≤◌, Bool, true, false, Option, Some, None, List, ℤ, pos, negsuc, ◌≤ℤ◌, length}
 use Rattle.std.specs.Prelude.{◌-ℤ◌, ◌<ℤ◌, ◌==◌, ◌&&◌, ◌||◌, not, nat_le, nat_lt, if◌then◌else◌, is_none, is_some, option_and_then, option_map}
-use Rattle.std.proofs.lemmas.Bool.{and_parts}
 use Rattle.std.proofs.lemmas.Bool.Decides.{nat_tests}
 use Rattle.std.proofs.lemmas.Int.{ints}
 use Rattle.std.proofs.lemmas.Option.{same_Some}
@@ -27,7 +26,6 @@ use Rattle.cax64_machine_code.specs.declared.line.VvvvField.TheVariants.{VvvvReg
 use Rattle.cax64_machine_code.specs.declared.reading.Place.{Place}
 use Rattle.cax64_machine_code.specs.declared.reading.Place.TheVariants.{Reg, Mem, Rip}
 use Rattle.cax64_machine_code.specs.declared.reading.Reading.{Reading}
-use Rattle.cax64_machine_code.specs.declared.reading.RegView.{RegView}
 use Rattle.cax64_machine_code.specs.declared.reading.RegView.TheVariants.{Low, High}
 use Rattle.cax64_machine_code.specs.declared.row.Row.{Row}
 use Rattle.cax64_machine_code.specs.declared.row.Row.TheVariants.{lock_addb_mi, nop_1b, nop_2b, nopl_rm, nopw_rm}
@@ -37,7 +35,7 @@ use Rattle.cax64_operand.specs.Immediate.{signed_below}
 use Rattle.cax64_operand.specs.declared.nop.Nop.{Nop}
 use Rattle.cax64_operand.specs.declared.nop.Nop.TheVariants.{One, Two, Three, Four, Five, Six, Seven, Eight, Nine}
 use Rattle.cax64_table.specs.Numbers.{has_register, has_vvvv}
-use Rattle.cax64_inst_data.specs.OfReading.{imm_given, is_bare, is_data, is_high, is_left_out, is_low, is_other_nop, lacks_base, nop_at, nop_for, number_given, operand_given, operands_given, place_given, place_is_high, register_given}
+use Rattle.cax64_inst_data.specs.OfReading.{imm_given, is_data, is_high_byte, is_left_out, is_low, is_other_nop, lacks_base, nop_at, nop_for, number_given, operand_given, operands_given, place_given, place_is_high_byte, register_given}
 use Rattle.cax64_inst_data.specs.ReadOperands.{has_size}
 use Rattle.cax64_inst_data.specs.Refusal.{is_nop_row, unsigned_below}
 use Rattle.cax64_inst_data.proofs.PrefixBytes.{Prefixed, after_kept, prefixed}
@@ -51,21 +49,21 @@ use Rattle.cax64_inst_data.proofs.TailBytes as tails
 -- what is so of the operands of a line that are read
 record Facts (line : Line) (parts : Parts) : Type 0 where
   absent : has_register line.tail ≡ false → parts.reg ≡ None
-  reg : register_given (has_register line.tail) parts.reg ≡ not (is_high parts.reg)
+  reg : register_given (has_register line.tail) parts.reg ≡ not (is_high_byte parts.reg)
   vvvv : number_given (has_vvvv line.prefix) parts.vvvv ≡ true
-  place : place_given line.tail parts.place ≡ not (place_is_high parts.place || lacks_base parts.place)
+  place : place_given line.tail parts.place ≡ not (place_is_high_byte parts.place || lacks_base parts.place)
   imm : imm_given line.imm parts.imm ≡ true
 
 -- a register
 
-by_view : (t : Bool) (n : ℕ) → nat_lt n 16 ≡ true → is_low (if t then High (n - 4) else Low n) ≡ not (is_high (Some (if t then High (n - 4) else Low n)))
+by_view : (t : Bool) (n : ℕ) → nat_lt n 16 ≡ true → is_low (if t then High (n - 4) else Low n) ≡ not (is_high_byte (Some (if t then High (n - 4) else Low n)))
 by_view true n h = refl
 by_view false n h = h
 
-view_given : (eight rex : Bool) (n : ℕ) → nat_lt n 16 ≡ true → is_low (view_of eight rex n) ≡ not (is_high (Some (view_of eight rex n)))
+view_given : (eight rex : Bool) (n : ℕ) → nat_lt n 16 ≡ true → is_low (view_of eight rex n) ≡ not (is_high_byte (Some (view_of eight rex n)))
 view_given eight rex n h = by_view (eight && (not rex && (nat_le 4 n && nat_le n 7))) n h
 
-reg_given : (field : RegField) (place : PlaceField) (p : Prefix) (reg : ℕ) → reg < 8 → r_of p < 2 → register_given (has_register (Modrm field place)) (reg_view field p reg) ≡ not (is_high (reg_view field p reg))
+reg_given : (field : RegField) (place : PlaceField) (p : Prefix) (reg : ℕ) → reg < 8 → r_of p < 2 → register_given (has_register (Modrm field place)) (reg_view field p reg) ≡ not (is_high_byte (reg_view field p reg))
 reg_given (Digit d) place p reg h k = refl
 reg_given Register8 place p reg h k = view_given true (has_rex p) (reg + 8 * r_of p) (low_below reg (r_of p) h k)
 reg_given Register place p reg h k = view_given false (has_rex p) (reg + 8 * r_of p) (low_below reg (r_of p) h k)
@@ -82,14 +80,14 @@ vvvv_given (VexField pp map l Stored1111) p h = refl
 
 -- a place
 
-view_place : (t : Bool) (n : ℕ) → nat_lt n 16 ≡ true → is_low (if t then High (n - 4) else Low n) ≡ not (is_high (Some (if t then High (n - 4) else Low n)) || false)
+view_place : (t : Bool) (n : ℕ) → nat_lt n 16 ≡ true → is_low (if t then High (n - 4) else Low n) ≡ not (is_high_byte (Some (if t then High (n - 4) else Low n)) || false)
 view_place true n h = refl
 view_place false n h = h
 
 not_low : (a b : Bool) (h : Bool) → a ≡ not b → h ≡ false → a ≡ not (h || b)
 not_low a b h e f = rw f e
 
-at_place : (field : PlaceField) (p : Prefix) (named place : Place) → operand_given RegisterOrMemory named ≡ not (lacks_base (Some named)) → place_is_high (Some named) ≡ false → place_at field p named ≡ Some place → operand_given field place ≡ not (place_is_high (Some place) || lacks_base (Some place))
+at_place : (field : PlaceField) (p : Prefix) (named place : Place) → operand_given RegisterOrMemory named ≡ not (lacks_base (Some named)) → place_is_high_byte (Some named) ≡ false → place_at field p named ≡ Some place → operand_given field place ≡ not (place_is_high_byte (Some place) || lacks_base (Some place))
 at_place Memory p (Reg view) place g l h = absurd cc
 at_place RegisterOrMemory p (Reg view) place g l h = rw (← same_Some _ _ h) (not_low _ _ _ g l)
 at_place Register8OrMemory p (Reg (Low n)) place g l h = rw (← same_Some _ _ h) (view_place (true && (not (has_rex p) && (nat_le 4 n && nat_le n 7))) n g)
@@ -236,7 +234,7 @@ four false false false other e = rw e refl
 given_is : (r : Reading) → Facts (line_of r.row) (parts_of r) → is_nop_row r.row ≡ false → operands_given (line_of r.row) r ≡ not (is_left_out r)
 given_is r f e =
     let other : is_other_nop r ≡ false = rw e refl in
-    rw (f.reg, f.vvvv, f.place, f.imm) (four (is_high r.reg) (place_is_high r.place) (lacks_base r.place) (is_other_nop r) other)
+    rw (f.reg, f.vvvv, f.place, f.imm) (four (is_high_byte r.reg) (place_is_high_byte r.place) (lacks_base r.place) (is_other_nop r) other)
 
 -- no-operations
 
@@ -259,7 +257,7 @@ none_there None h = refl
 none_there (Some x) h = absurd cc
 
 record NopPlace (place : Option Place) : Type 0 where
-  low : place_is_high place ≡ false
+  low : place_is_high_byte place ≡ false
   base : lacks_base place ≡ false
 
 own_place : (nop : Nop) → NopPlace (nop_place nop)
@@ -278,8 +276,8 @@ other_last true l = refl
 other_last false true = refl
 other_last false false = refl
 
-by_nop : (o : Option Nop) (row : Row) (place : Option Place) (length : ℕ) → nop_at row place length ≡ o → is_some o ≡ not (place_is_high place || (lacks_base place || is_none o))
-by_nop None row place length e = other_last (place_is_high place) (lacks_base place)
+by_nop : (o : Option Nop) (row : Row) (place : Option Place) (length : ℕ) → nop_at row place length ≡ o → is_some o ≡ not (place_is_high_byte place || (lacks_base place || is_none o))
+by_nop None row place length e = other_last (place_is_high_byte place) (lacks_base place)
 by_nop (Some nop) row place length e =
     let k : NopPlace place = let P : Option Place → Type 0 = λ x. NopPlace x in subst P (nop_place_is row place length nop e) (own_place nop) in
     rw (k.low, k.base) refl

@@ -1,5 +1,5 @@
-use Rattle.std.proofs.Common.{◌≡◌, ℕ, refl, ◌∙◌, ap, sym, subst, ◌≤◌, Bool, true, false, Option, Some, None, List, [], ◌∷◌}
-use Rattle.std.specs.Prelude.{◌&&◌, not, MatchOption}
+use Rattle.std.proofs.Common.{◌≡◌, ℕ, refl, ◌∙◌, ap, sym, subst, ◌≤◌, Bool, true, false, Some, None, List, [], ◌∷◌}
+use Rattle.std.specs.Prelude.{not}
 use Rattle.std.proofs.lemmas.Bool.{and_parts}
 use Rattle.cax64_address.specs.declared.amode.Amode.{Amode}
 use Rattle.cax64_address.specs.declared.amode.Amode.TheVariants.{ImmReg, ImmRegRegShift, RipRelative}
@@ -7,8 +7,6 @@ use Rattle.cax64_address.specs.declared.operand.GprMem.{GprMem}
 use Rattle.cax64_address.specs.declared.operand.GprMem.TheVariants as gpr_mem
 use Rattle.cax64_address.specs.declared.operand.XmmMem.{XmmMem}
 use Rattle.cax64_address.specs.declared.operand.XmmMem.TheVariants as xmm_mem
-use Rattle.cax64_encoder.specs.Number.{number_value}
-use Rattle.cax64_encoder.specs.Role.{number}
 use Rattle.cax64_machine_code.specs.declared.row.Row.{Row}
 use Rattle.cax64_operand.proofs.Taken.{registers_in}
 use Rattle.cax64_operand.specs.Family.{Family, Numbering}

@@ -1,6 +1,6 @@
-use Rattle.std.proofs.Common.{◌≡◌, ℕ, zero, suc, ◌+◌, ◌≤◌, ◌^◌, refl, ◌∙◌, ap, sym, arith, Bool, true, false, Option, Some, None, List, [], ◌∷◌, ℤ, pos, negsuc, length, drop, w8, w32, FitsSigned}
+use Rattle.std.proofs.Common.{◌≡◌, ℕ, zero, suc, ◌≤◌, ◌^◌, refl, ◌∙◌, ap, sym, arith, Bool, true, false, Option, Some, None, List, [], ◌∷◌, ℤ, pos, negsuc, length, drop, w8, w32, FitsSigned}
 use Rattle.std.specs.Int.{cast_signed, cast_unsigned}
-use Rattle.std.specs.Prelude.{◌&&◌, ◌==◌, nat_lt}
+use Rattle.std.specs.Prelude.{◌&&◌, nat_lt}
 use Rattle.std.proofs.lemmas.Bool.{and_parts}
 use Rattle.std.proofs.lemmas.Bool.Decides.{nat_tests}
 use Rattle.std.proofs.lemmas.Int.{ints, to_z-of_z}
@@ -13,7 +13,6 @@ use Rattle.cax64_encoder.specs.ImmActions.{imm_word}
 use Rattle.cax64_operand.proofs.Taken.{field_of, imm_field_in, registers_in, rest_in}
 use Rattle.cax64_operand.specs.Immediate.{imm_of, imm_in_range, signed_below}
 use Rattle.cax64_operand.specs.Kind.{kind_of_imm, kinds_of, imms_in_range}
-use Rattle.cax64_operand.specs.Shape.{nothing}
 use Rattle.cax64_operand.specs.declared.immediate.Immediate.{Immediate}
 use Rattle.cax64_operand.specs.declared.immediate.Immediate.TheVariants as immediate
 use Rattle.cax64_operand.specs.declared.instruction.Numbers.{Numbers}
@@ -23,8 +22,8 @@ use Rattle.cax64_operand.specs.declared.operand.Operand.{Operand}
 use Rattle.cax64_operand.specs.declared.operand.Operand.TheVariants as operand
 use Rattle.cax64_inst_data.specs.Encodable.{four}
 use Rattle.cax64_inst_data.specs.Fits.{all_zero, fixed_in, imm_fits, is_memory, is_present, kinds_fit, place_fits}
-use Rattle.cax64_inst_data.specs.Gathered.{IsPlace, any_register, nothing_gathered, with_numbers, with_settled}
-use Rattle.cax64_inst_data.specs.Operands.{Kept, amode_of, filled, gpr_mem_of, head, imm_by, is_register, tail, xmm_mem_of}
+use Rattle.cax64_inst_data.specs.Gathered.{IsPlace, any_register, with_numbers, with_settled}
+use Rattle.cax64_inst_data.specs.Operands.{filled, gpr_mem_of, head, imm_by, is_register, tail, xmm_mem_of}
 use Rattle.cax64_inst_data.specs.Own.{no_imm, no_place, one_imm, one_place}
 use Rattle.cax64_inst_data.specs.declared.numbered.Gathered.{Gathered}
 use Rattle.cax64_inst_data.specs.declared.place.DataPlace.{DataPlace}

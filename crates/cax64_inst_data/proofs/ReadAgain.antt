@@ -1,6 +1,5 @@
-use Rattle.std.proofs.Common.{◌≡◌, ℕ, zero, suc, refl, ◌∙◌, ap, sym, arith, Bool, true, false, Option, Some, None, List, [], ◌∷◌, ℤ, length, drop}
-use Rattle.std.specs.Prelude.{◌&&◌, ◌==◌, if◌then◌else◌, is_none, nat_le, option_map}
-use Rattle.std.proofs.lemmas.Bool.{and_parts}
+use Rattle.std.proofs.Common.{◌≡◌, ℕ, zero, suc, refl, ◌∙◌, ap, sym, Bool, true, false, Option, Some, None, List, [], ◌∷◌, ℤ, length, drop}
+use Rattle.std.specs.Prelude.{◌==◌, if◌then◌else◌, nat_le, option_map}
 use Rattle.cax64_address.specs.declared.amode.Amode.{Amode}
 use Rattle.cax64_address.specs.declared.operand.GprMem.{GprMem}
 use Rattle.cax64_address.specs.declared.operand.GprMem.TheVariants as gpr_mem
@@ -24,7 +23,6 @@ use Rattle.cax64_machine_code.specs.Sequence.{Same, parts_of}
 use Rattle.cax64_machine_code.specs.declared.line.ImmField.{ImmField}
 use Rattle.cax64_machine_code.specs.declared.line.Line.{Line}
 use Rattle.cax64_machine_code.specs.declared.reading.Place.{Place}
-use Rattle.cax64_machine_code.specs.declared.reading.Place.TheVariants.{Reg, Mem, Rip}
 use Rattle.cax64_machine_code.specs.declared.reading.Reading.{Reading}
 use Rattle.cax64_machine_code.specs.declared.reading.RegView.{RegView}
 use Rattle.cax64_machine_code.specs.declared.reading.RegView.TheVariants.{Low}
@@ -33,7 +31,7 @@ use Rattle.cax64_machine_code.specs.declared.row.Row.TheVariants.{lock_addb_mi}
 use Rattle.cax64_operand.proofs.Taken.{field_of, imm_field_in, registers_in, rest_in}
 use Rattle.cax64_operand.specs.Family.{Numbering}
 use Rattle.cax64_operand.specs.Immediate.{imm_of, imm_size, imm_value}
-use Rattle.cax64_operand.specs.OperandList.{list_of, nop_of}
+use Rattle.cax64_operand.specs.OperandList.{list_of}
 use Rattle.cax64_operand.specs.Shape.{Rest, nothing, memory, register_or_memory}
 use Rattle.cax64_operand.specs.Signature.{signature_of}
 use Rattle.cax64_operand.specs.declared.immediate.ImmOperand.{ImmOperand}
@@ -49,14 +47,14 @@ use Rattle.cax64_inst_data.specs.Encodable.{four}
 use Rattle.cax64_inst_data.specs.Fits.{all_zero, expected_of, fixed_in, imm_fits, is_memory, kinds_fit, place_fits}
 use Rattle.cax64_inst_data.specs.Form.{operand_by}
 use Rattle.cax64_inst_data.specs.Gathered.{IsPlace}
-use Rattle.cax64_inst_data.specs.Operands.{Kept, amode_by, amode_of, filled, head, imm_by, is_register, listed, next, next_fixed, tail}
+use Rattle.cax64_inst_data.specs.Operands.{Kept, amode_by, amode_of, filled, imm_by, is_register, listed, next, next_fixed}
 use Rattle.cax64_inst_data.specs.ReadOperands.{PlaceOf, ReadsAs, has_size, rest_of}
 use Rattle.cax64_inst_data.specs.When.{when}
 use Rattle.cax64_inst_data.specs.declared.place.DataPlace.{DataPlace}
 use Rattle.cax64_inst_data.specs.declared.place.PlaceKind.{PlaceKind}
 use Rattle.cax64_inst_data.specs.declared.place.PlaceKind.TheVariants.{Absent, Register, Base, BaseAndIndex, Label, Constant, NoTarget}
 use Rattle.cax64_inst_data.proofs.Content.{filled_back, none_listed, register_in_row, vvvv_in_row}
-use Rattle.cax64_inst_data.proofs.Filled.{first_of, numbers, reg_is, second_of, vvvv_is}
+use Rattle.cax64_inst_data.proofs.Filled.{numbers, reg_is, vvvv_is}
 use Rattle.cax64_inst_data.proofs.Finished.{five}
 use Rattle.cax64_inst_data.proofs.Gathered.{zeros_behind, zeros_of_four}
 

@@ -1,12 +1,12 @@
 use Rattle.std.proofs.Common.{◌≡◌, ℕ, refl, ◌∙◌, ap, sym, arith, Bool, true, false, Option, Some, None, ℤ, pos, negsuc}
-use Rattle.std.specs.Prelude.{◌&&◌, ◌==◌, if◌then◌else◌, is_none, is_some}
+use Rattle.std.specs.Prelude.{◌==◌, if◌then◌else◌, is_none}
 use Rattle.std.proofs.lemmas.Bool.{and_parts}
 use Rattle.std.proofs.lemmas.Bool.Decides.{nat_tests}
 use Rattle.std.proofs.lemmas.Option.{same_Some}
 use Rattle.cax64_encoder.specs.Meant.{meant_of}
 use Rattle.cax64_encoder.specs.Nop.{nop_parts, nop_place, rax_alone, rax_twice}
 use Rattle.cax64_machine_code.specs.Reading.{Parts}
-use Rattle.cax64_machine_code.specs.Sequence.{Same, parts_of}
+use Rattle.cax64_machine_code.specs.Sequence.{Same}
 use Rattle.cax64_machine_code.specs.declared.reading.Place.{Place}
 use Rattle.cax64_machine_code.specs.declared.reading.Place.TheVariants.{Reg, Mem, Rip}
 use Rattle.cax64_machine_code.specs.declared.reading.Reading.{Reading}

@@ -1,45 +1,37 @@
-use Rattle.std.proofs.Common.{◌≡◌, ℕ, refl, ◌∙◌, ap, sym, arith, Bool, true, false, Option, Some, None, List, [], ◌∷◌, ℤ}
+use Rattle.std.proofs.Common.{◌≡◌, ℕ, refl, ◌∙◌, ap, sym, arith, Bool, true, false, Option, List, [], ◌∷◌, ℤ}
 use Rattle.std.specs.Prelude.{◌&&◌, ◌||◌, ◌==◌, nat_lt, option_map}
 use Rattle.std.proofs.lemmas.Bool.{and_parts}
 use Rattle.std.proofs.lemmas.Bool.Decides.{nat_tests}
-use Rattle.cax64_address.specs.Address.{displaced_place, displacement_of}
-use Rattle.cax64_address.specs.declared.amode.Amode.{Amode}
 use Rattle.cax64_address.specs.declared.amode.Amode.TheVariants.{ImmReg, ImmRegRegShift, RipRelative}
 use Rattle.cax64_address.specs.declared.operand.GprMem.{GprMem}
 use Rattle.cax64_address.specs.declared.operand.GprMem.TheVariants as gpr_mem
 use Rattle.cax64_address.specs.declared.operand.XmmMem.{XmmMem}
 use Rattle.cax64_address.specs.declared.operand.XmmMem.TheVariants as xmm_mem
-use Rattle.cax64_encoder.specs.Checked.{amode_met, checked_of, checked_roles, holds, with_checked, with_place}
+use Rattle.cax64_encoder.specs.Checked.{checked_of, checked_roles, holds, with_place}
 use Rattle.cax64_encoder.specs.Fault.{is_encodable}
-use Rattle.cax64_encoder.specs.Meant.{Meant, first, imm_in, low, meant_of, numbers_in, operands_meant, place_in, second}
-use Rattle.cax64_encoder.specs.Number.{is_real_number, number_value}
+use Rattle.cax64_encoder.specs.Meant.{Meant, imm_in, low, meant_of, numbers_in, operands_meant, place_in}
 use Rattle.cax64_encoder.specs.Numbered.{plain}
 use Rattle.cax64_encoder.specs.Place.{displacement_in, gpr_mem_place, memory_in, place_read, xmm_mem_place}
-use Rattle.cax64_encoder.specs.Role.{number, role_of, roles_of}
+use Rattle.cax64_encoder.specs.Role.{number, roles_of}
 use Rattle.cax64_encoder.specs.Visits.{place_visits, visits_of}
 use Rattle.cax64_encoder.specs.declared.checked.Checked.{Checked}
 use Rattle.cax64_encoder.specs.declared.fault.Visited.{Visited}
-use Rattle.cax64_encoder.specs.declared.fault.Visited.TheVariants.{Plain, Index, Fixed}
 use Rattle.cax64_encoder.specs.declared.number.Number.{Number}
 use Rattle.cax64_encoder.specs.declared.number.Number.TheVariants.{Settled}
 use Rattle.cax64_encoder.specs.declared.role.PlaceOperand.{PlaceOperand}
 use Rattle.cax64_encoder.specs.declared.role.PlaceOperand.TheVariants as place
 use Rattle.cax64_encoder.specs.declared.role.Role.{Role}
 use Rattle.cax64_encoder.proofs.Checks.{holds_is}
-use Rattle.cax64_machine_code.specs.Reading.{Parts}
-use Rattle.cax64_machine_code.specs.declared.reading.Place.{Place}
-use Rattle.cax64_machine_code.specs.declared.reading.RegView.{RegView}
 use Rattle.cax64_machine_code.specs.declared.row.Row.{Row}
 use Rattle.cax64_operand.specs.Family.{Family, Numbering}
-use Rattle.cax64_operand.specs.Immediate.{imm_size, imm_value}
+use Rattle.cax64_operand.specs.Immediate.{imm_size}
 use Rattle.cax64_operand.specs.OperandList.{list_of}
-use Rattle.cax64_operand.specs.declared.immediate.ImmOperand.{ImmOperand}
 use Rattle.cax64_operand.specs.declared.instruction.Numbers.{Numbers}
 use Rattle.cax64_operand.specs.declared.operand.Operand.{Operand}
 use Rattle.cax64_operand.specs.declared.operand.Operand.TheVariants as operand
 use Rattle.cax64_operand.specs.declared.operand.Operands.{Operands}
 use Rattle.cax64_operand.specs.declared.operand.Operands.TheVariants as operands
-use Rattle.cax64_inst_data.specs.Numbered.{all_settled, numbered_amode, numbered_gpr_mem, numbered_operand, numbered_operands, numbered_xmm_mem, settled_amode, settled_gpr_mem, settled_operand, settled_operands, settled_xmm_mem}
+use Rattle.cax64_inst_data.specs.Numbered.{all_settled, numbered_amode, numbered_gpr_mem, numbered_operands, numbered_xmm_mem, settled_amode, settled_gpr_mem, settled_operand, settled_operands, settled_xmm_mem}
 use Rattle.cax64_inst_data.proofs.Families.{list_same, numbered_list}
 use Rattle.cax64_inst_data.proofs.Filled.{numbers}
 use Rattle.cax64_inst_data.proofs.Filling.{same_list}

@@ -1,4 +1,4 @@
-use Rattle.std.proofs.Common.{◌≡◌, ℕ, zero, suc, ◌+◌, ◌*◌, ◌^◌, ◌<◌, ◌/◌, arith, refl, ap, sym, Bool, true, false, Option, Some, None, List, [], ◌∷◌, ℤ, pos, ◌*ℤ◌}
+use Rattle.std.proofs.Common.{◌≡◌, ℕ, zero, suc, ◌+◌, ◌*◌, ◌^◌, ◌<◌, arith, refl, ap, Bool, true, false, Option, Some, None, List, [], ◌∷◌, ℤ, pos, ◌*ℤ◌}
 use Rattle.std.specs.Prelude.{◌==◌, ◌&&◌, not, nat_lt, if◌then◌else◌, option_map}
 use Rattle.std.proofs.Math.Nat.{pow-succ'}
 use Rattle.std.proofs.lemmas.Bool.Decides.{nat_tests}
@@ -11,7 +11,7 @@ use Rattle.cax64_machine_code.specs.declared.reading.Place.TheVariants.{Reg, Mem
 use Rattle.cax64_machine_code.specs.declared.reading.RegView.TheVariants.{Low}
 use Rattle.cax64_machine_code.proofs.Forms.{first_byte, later_bytes}
 use Rattle.cax64_machine_code.proofs.NoShorter.{displaced_is}
-use Rattle.cax64_inst_data.specs.OfReading.{index_given, is_factor, lacks_base, operand_given, place_is_high}
+use Rattle.cax64_inst_data.specs.OfReading.{index_given, is_factor, lacks_base, operand_given, place_is_high_byte}
 use Rattle.cax64_inst_data.proofs.PrefixBytes.{choose}
 
 -- The numbers of a tail that is read from bytes.
@@ -86,7 +86,7 @@ index_is x sib hx hs = by_index ((index_of sib == 4) && (x == 0)) x sib hx hs re
 pub record Given (t : Tail) : Type 0 where
   pub reg : t.reg < 8
   pub place : operand_given RegisterOrMemory t.place ≡ not (lacks_base (Some t.place))
-  pub low : place_is_high (Some t.place) ≡ false
+  pub low : place_is_high_byte (Some t.place) ≡ false
   pub bytes : IsBytes t.rest
 
 register_given : (modrm b : ℕ) (bytes : List ℕ) (t : Tail) → b < 2 → IsBytes bytes → ◌≡◌ {A = Option Tail} (Some (record { reg = reg_of modrm; place = Reg (Low (rm_of modrm + 8 * b)); rest = bytes })) (Some t) → Given t
@@ -94,7 +94,7 @@ register_given modrm b bytes t k hb h =
     let e : record { reg = reg_of modrm; place = Reg (Low (rm_of modrm + 8 * b)); rest = bytes } ≡ t = same_Some _ _ h in
     rw (← e) (record { reg = omega arith; place = low_below (rm_of modrm) b (omega arith) k; low = refl; bytes = hb })
 
-displaced_given : (modrm : ℕ) (place : ℤ → Place) (o : Option (ℤ × List ℕ)) (t : Tail) → ((disp : ℤ) → operand_given RegisterOrMemory (place disp) ≡ not (lacks_base (Some (place disp)))) → ((disp : ℤ) → place_is_high (Some (place disp)) ≡ false) → ((d : ℤ × List ℕ) → o ≡ Some d → IsBytes d.1) → displaced (reg_of modrm) place o ≡ Some t → Given t
+displaced_given : (modrm : ℕ) (place : ℤ → Place) (o : Option (ℤ × List ℕ)) (t : Tail) → ((disp : ℤ) → operand_given RegisterOrMemory (place disp) ≡ not (lacks_base (Some (place disp)))) → ((disp : ℤ) → place_is_high_byte (Some (place disp)) ≡ false) → ((d : ℤ × List ℕ) → o ≡ Some d → IsBytes d.1) → displaced (reg_of modrm) place o ≡ Some t → Given t
 displaced_given modrm place o t given low kept h =
     let d = displaced_is (reg_of modrm) place o t h in
     rw d.tail (record { reg = omega arith; place = given d.disp; low = low d.disp; bytes = kept (d.disp, d.rest) d.found })

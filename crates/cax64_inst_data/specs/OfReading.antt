@@ -107,14 +107,14 @@ is_data r = if is_nop_row r.row then is_some (nop_for r) else operands_given (li
 
 -- Why there is no data of a reading that bytes have.
 
-abbrev pub is_high : Option RegView → Bool
-is_high None = false
-is_high (Some (Low number)) = false
-is_high (Some (High number)) = true
+abbrev pub is_high_byte : Option RegView → Bool
+is_high_byte None = false
+is_high_byte (Some (Low number)) = false
+is_high_byte (Some (High number)) = true
 
-abbrev pub place_is_high : Option Place → Bool
-place_is_high (Some (Reg view)) = is_high (Some view)
-place_is_high _ = false
+abbrev pub place_is_high_byte : Option Place → Bool
+place_is_high_byte (Some (Reg view)) = is_high_byte (Some view)
+place_is_high_byte _ = false
 
 -- relative to the end, or a displacement and an index alone
 abbrev pub lacks_base : Option Place → Bool
@@ -127,4 +127,4 @@ abbrev pub is_other_nop : Reading → Bool
 is_other_nop r = is_nop_row r.row && is_none (nop_at r.row r.place r.length)
 
 abbrev pub is_left_out : Reading → Bool
-is_left_out r = is_high r.reg || (place_is_high r.place || (lacks_base r.place || is_other_nop r))
+is_left_out r = is_high_byte r.reg || (place_is_high_byte r.place || (lacks_base r.place || is_other_nop r))

@@ -1,15 +1,18 @@
 //! Laws of the items here. The functions do nothing: their clauses are the laws.
 
-ghost use Rattle.std.specs.Prelude.{◌≡◌, ℕ, ℤ, true, not, List, Option, Some, option_map};
+ghost use Rattle.std.specs.Prelude.{◌≡◌, ◌≤◌, ◌⊎◌, ℕ, ℤ, true, not, List, length, Option, Some, option_map};
 ghost use Rattle.cax64_encoder.specs.Fault.{is_encodable};
 ghost use Rattle.cax64_encoder.specs.Meant.{meant_of};
+ghost use Rattle.cax64_encoder.specs.Nop.{nop_bytes, nop_place};
 ghost use Rattle.cax64_machine_code.specs.Fields.{IsBytes};
 ghost use Rattle.cax64_machine_code.specs.Reading.{read};
 ghost use Rattle.cax64_machine_code.specs.declared.reading.Reading.{Reading};
 ghost use Rattle.cax64_machine_code.specs.declared.row.Row.{Row};
+ghost use Rattle.cax64_operand.specs.NopRow.{nop_row};
+ghost use Rattle.cax64_operand.specs.declared.nop.Nop.{Nop};
 ghost use Rattle.cax64_operand.specs.declared.operand.Operands.{Operands};
 ghost use Rattle.cax64_inst_data.specs.Numbered.{numbered_amode, numbered_operands, settled_operands};
-ghost use Rattle.cax64_inst_data.specs.OfReading.{is_data, is_left_out};
+ghost use Rattle.cax64_inst_data.specs.OfReading.{is_data, is_left_out, nop_for};
 
 use cax64_machine_code::reading::Reading;
 use cax64_operand::{Numbers, RegisterFamily};
@@ -36,4 +39,13 @@ pub fn numbers_mean_the_same<R: Registers>()
 /// without a base, and a no-operation with a place that none of the nine has.
 pub fn what_bytes_have_is_data(reading: Reading)
     ensures { (bytes : List ℕ) → IsBytes bytes → read bytes ≡ Some reading → is_data reading ≡ not (is_left_out reading) }
+{}
+
+/// The no-operation of a reading is the one of its length, where there is one with its row and its place; else none of
+/// these is shorter.
+pub fn the_length_tells_a_no_operation()
+    ensures own { (reading : Reading) (nop other : Nop) → nop_for reading ≡ Some nop → nop_row other ≡ reading.row → nop_place other ≡ reading.place
+        → length (nop_bytes other) ≡ reading.length → nop ≡ other }
+    ensures shortest { (reading : Reading) (nop other : Nop) → nop_for reading ≡ Some nop → nop_row other ≡ reading.row → nop_place other ≡ reading.place
+        → (length (nop_bytes nop) ≡ reading.length) ⊎ (length (nop_bytes nop) ≤ length (nop_bytes other)) }
 {}

@@ -7,7 +7,7 @@ mod encode;
 pub mod laws;
 mod listing;
 mod make;
-pub mod numbered;
+mod numbered;
 pub mod operand;
 pub mod operands;
 pub mod place;
@@ -15,6 +15,7 @@ mod reading;
 mod short;
 mod text;
 mod visit;
+pub mod worked;
 
 pub use data::InstData;
 pub use operand::{DataError, DataOperand};

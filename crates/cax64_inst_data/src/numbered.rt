@@ -337,8 +337,8 @@ impl<R: Registers> Task<R, ()> for Gathered {
 }
 
 impl InstData {
-    /// Data of an instruction of any register types, by the numbers of its registers: of each that is settled, whether
-    /// an instruction can hold it or not. There is none where a register is virtual.
+    /// Data of an instruction of any register types, each register by its hardware number, whether an instruction can
+    /// hold that or not. There is none where a register is still virtual, which has no number.
     #[inline(always)]
     pub fn of<I: RowAndOperands>(instruction: &I) -> Option<InstData>
         ensures some { is_some result ≡ settled_operands ⟦<I::Family as RegisterFamily>⟧.family (I.operands_of instruction.now) }

@@ -1,18 +1,22 @@
 //! Data of instructions and of what was read.
 
+use cax64_inst_data::laws::{
+    numbers_mean_the_same, the_length_tells_a_no_operation, what_bytes_have_is_data,
+};
 use cax64_inst_data::{DataOperand, InstData};
 use cax64_machine_code::reading::{Place, Reading, RegView};
 use cax64_machine_code::row::Row;
 use cax64_operand::Nop;
 use cax64_test_support::{All, Virtual};
-use cranelift_assembler_x64::reader::read_inst;
 use cranelift_assembler_x64::inst::{
-    andb_i, andps_a, lock_addl_mr, lock_cmpxchg16b_m, lock_xaddl_mr, mulxl_rvm, nop_7b,
+    andb_i, andps_a, callq_m, lock_addl_mr, lock_cmpxchg16b_m, lock_xaddl_mr, mulxl_rvm, nop_7b,
 };
+use cranelift_assembler_x64::reader::read_inst;
 use cranelift_assembler_x64::{
-    Amode, AmodeOffset, AmodeOffsetPlusKnownOffset, Fixed, FixedSink, Gpr, GprMem, Imm8,
-    Instruction, NonRspGpr, Scale, Xmm, XmmMem,
+    Amode, AmodeOffset, AmodeOffsetPlusKnownOffset, DeferredTarget, Fixed, FixedSink, Gpr, GprMem,
+    Imm8, Instruction, Label, NonRspGpr, Scale, TrapCode, Xmm, XmmMem,
 };
+use std::num::NonZeroU8;
 
 type Before = All<Virtual>;
 
@@ -30,11 +34,19 @@ fn indexed(base: u32, index: u32) -> Amode<Virtual> {
     }
 }
 
+/// A displacement with a late offset.
+fn late() -> AmodeOffsetPlusKnownOffset {
+    AmodeOffsetPlusKnownOffset {
+        simm32: AmodeOffset::new(9),
+        offset: Some(5),
+    }
+}
+
 fn based(base: u32) -> Amode<Virtual> {
     Amode::ImmReg {
         base: Virtual(base),
-        simm32: AmodeOffsetPlusKnownOffset::ZERO,
-        trap: None,
+        simm32: late(),
+        trap: Some(TrapCode(NonZeroU8::MIN)),
     }
 }
 
@@ -51,8 +63,8 @@ fn plain_indexed(base: u8, index: u8) -> Amode<u8> {
 fn plain_based(base: u8) -> Amode<u8> {
     Amode::ImmReg {
         base,
-        simm32: AmodeOffsetPlusKnownOffset::ZERO,
-        trap: None,
+        simm32: late(),
+        trap: Some(TrapCode(NonZeroU8::MIN)),
     }
 }
 
@@ -66,6 +78,7 @@ fn addition(base: u32, index: u32, register: u32) -> lock_addl_mr<Before> {
 
 #[test]
 fn an_instruction_is_data_by_its_numbers(rt: HostRuntime) {
+    numbers_mean_the_same::<Before>();
     let sum = [
         DataOperand::Memory(plain_indexed(13, 9)),
         DataOperand::Register(8),
@@ -113,6 +126,23 @@ fn an_instruction_is_data_by_its_numbers(rt: HostRuntime) {
 }
 
 #[test]
+fn memory_that_is_settled_later_is_kept(rt: HostRuntime) {
+    let target = DeferredTarget::Label(Label(7));
+    let call = callq_m::<Before>::new(GprMem::Mem(Amode::RipRelative { target }));
+    let operands = [DataOperand::Memory(Amode::RipRelative { target })];
+    assert!(rt; InstData::of(&call) == made(Row::callq_m, &operands));
+    let call = callq_m::<Before>::new(GprMem::Mem(based(13)));
+    let operands = [DataOperand::Memory(plain_based(13))];
+    assert!(rt; InstData::of(&call) == made(Row::callq_m, &operands));
+    let and = andps_a::<Before>::new(Xmm::new(Virtual(12)), XmmMem::Mem(indexed(13, 9)));
+    let operands = [
+        DataOperand::Register(12),
+        DataOperand::Memory(plain_indexed(13, 9)),
+    ];
+    assert!(rt; InstData::of(&and) == made(Row::andps_a, &operands));
+}
+
+#[test]
 fn an_instruction_with_a_virtual_register_is_no_data(rt: HostRuntime) {
     assert!(rt; InstData::of(&addition(13, 9, 20)).is_none());
     assert!(rt; InstData::of(&addition(13, 20, 8)).is_none());
@@ -124,7 +154,9 @@ fn an_instruction_with_a_virtual_register_is_no_data(rt: HostRuntime) {
 }
 
 fn read(bytes: &[u8]) -> Option<InstData> {
-    InstData::of_reading(&read_inst(bytes)?)
+    let reading = read_inst(bytes)?;
+    what_bytes_have_is_data(reading);
+    InstData::of_reading(&reading)
 }
 
 /// Whether what is read of these bytes is data that has the same bytes.
@@ -159,6 +191,7 @@ fn what_is_read_comes_back(rt: HostRuntime) {
 
 #[test]
 fn the_no_operations_come_back(rt: HostRuntime) {
+    the_length_tells_a_no_operation();
     assert!(rt; read(&[0x90]) == Some(InstData::nop(Nop::One)));
     assert!(rt; read(&[0x66, 0x90]) == Some(InstData::nop(Nop::Two)));
     assert!(rt; read(&[0x0F, 0x1F, 0x00]) == Some(InstData::nop(Nop::Three)));

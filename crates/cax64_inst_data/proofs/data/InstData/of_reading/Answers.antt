@@ -1,4 +1,4 @@
-use Rattle.std.proofs.Common.{◌≡◌, ◌∙◌, sym}
+use Rattle.std.proofs.Common.{◌∙◌, sym}
 use Rattle.cax64_inst_data.proofs.Content.{none_listed}
 use Rattle.cax64_inst_data.proofs.ReadAgain.{fits_by, means_by, sized_by}
 use Rattle.cax64_inst_data.proofs.ReadNops.{no_nop, nop_means}
