@@ -1,8 +1,8 @@
 //! What data says of itself, and its operands one by one.
 
-use cax64_inst_data::{DataError, DataOperands, InstData};
+use cax64_inst_data::{DataError, InstData};
 use cax64_machine_code::row::Row;
-use cax64_operand::{Nop, Operand};
+use cax64_operand::{Nop, Numbers, Operand};
 use cranelift_assembler_x64::{
     Amode, AmodeOffset, AmodeOffsetPlusKnownOffset, AvailableFeatures, GprMem, InstructionText,
     NonRspGpr, Scale, XmmMem,
@@ -147,18 +147,27 @@ fn data_asks_for_features(rt: HostRuntime) -> Result<(), AllocError> {
     Ok(())
 }
 
-/// The registers among operands, one by one: 100 for what is none.
-fn registers_of(operands: DataOperands) -> [u8; 5] {
-    let mut found = [0; 5];
-    for (place, operand) in found.iter_mut().zip(operands) {
-        *place = match operand {
-            Operand::ReadGpr(reg, _) => reg,
-            Operand::FixedReadGpr(reg, _, _) => reg,
-            Operand::FixedReadWriteGpr(reg, _, _) => reg,
-            _ => 100,
-        };
+/// The register of an operand: 100 of what is none, and 200 behind the last.
+fn register_of(operand: Option<Operand<Numbers>>) -> u8 {
+    match operand {
+        Some(Operand::ReadGpr(reg, _)) => reg,
+        Some(Operand::FixedReadGpr(reg, _, _)) => reg,
+        Some(Operand::FixedReadWriteGpr(reg, _, _)) => reg,
+        Some(_) => 100,
+        None => 200,
     }
-    found
+}
+
+/// The registers of the operands, one by one.
+fn registers_of(data: &InstData) -> [u8; 6] {
+    let mut operands = data.iter();
+    let first = register_of(operands.next());
+    let second = register_of(operands.next());
+    let third = register_of(operands.next());
+    let fourth = register_of(operands.next());
+    let fifth = register_of(operands.next());
+    let sixth = register_of(operands.next());
+    [first, second, third, fourth, fifth, sixth]
 }
 
 #[test]
@@ -166,9 +175,9 @@ fn operands_come_in_the_order_of_visits(rt: HostRuntime) {
     let pair = InstData::of_mem_four_fixed(Row::lock_cmpxchg16b_m, base(6, 0), 10, 12, 11, 13);
     let pair = pair.expect(&rt, "an exchange");
     assert!(rt; pair.iter().len() == 5);
-    assert!(rt; registers_of(pair.iter()) == [100, 10, 12, 11, 13]);
+    assert!(rt; registers_of(&pair) == [100, 10, 12, 11, 13, 200]);
     let sum = InstData::of_mem_reg(Row::lock_addl_mr, base(6, 0), 9).expect(&rt, "a sum");
-    assert!(rt; registers_of(sum.iter()) == [100, 9, 0, 0, 0]);
+    assert!(rt; registers_of(&sum) == [100, 9, 200, 200, 200, 200]);
     let mut operands = sum.iter();
     assert!(rt; operands.next().is_some() && operands.len() == 1);
     assert!(rt; operands.next().is_some() && operands.next().is_none());
