@@ -7,13 +7,13 @@ ghost use Rattle.cax64_operand.specs.NopRow.{nop_row};
 ghost use Rattle.cax64_inst_data.specs.Fits.{expected_of, fits};
 ghost use Rattle.cax64_operand.specs.Signature.{signature_of};
 ghost use Rattle.cax64_inst_data.specs.Encodable.{four};
-ghost use Rattle.cax64_inst_data.specs.Homes.{fixed_count, home_if};
+ghost use Rattle.cax64_inst_data.specs.Homes.{fixed_count, four_homes};
 ghost use Rattle.cax64_inst_data.specs.When.{when};
 
 use crate::listing::listed;
 use crate::make::fill;
 use crate::operand::{DataError, DataOperand, absent};
-use crate::place::{DataPlace, home};
+use crate::place::{DataPlace, home_if};
 use crate::visit::visit_kinds;
 use cax64_encoder::content::Content;
 use cax64_encoder::numbered::NumberedForm;
@@ -208,8 +208,6 @@ impl InstData {
         if self.nop.is_none() {
             let mut place = self.place;
             place.rename(homes);
-            let [a, b, c, d] = self.fixed;
-            let count = fixed_count(self.row);
             *self = InstData {
                 place,
                 imm: self.imm,
@@ -217,12 +215,7 @@ impl InstData {
                 nop: None,
                 reg: home_if(numbers::has_register(self.row), homes, self.reg),
                 vvvv: home_if(numbers::has_vvvv(self.row), homes, self.vvvv),
-                fixed: [
-                    home_if(0 < count, homes, a),
-                    home_if(1 < count, homes, b),
-                    home_if(2 < count, homes, c),
-                    home_if(3 < count, homes, d),
-                ],
+                fixed: fixed_homes(self.row, homes, self.fixed),
             };
         }
     }
@@ -270,12 +263,30 @@ fn fixed_count(row: Row) -> usize
     }
 }
 
-/// The number that a table gives for a register, where there is one.
+/// The numbers that a table gives for the registers that a row fixes, which few rows do.
 #[inline(always)]
-fn home_if(present: bool, homes: &[u8; 256], reg: u8) -> u8
-    ensures { result ≡ home_if present homes.now reg }
+fn fixed_homes(row: Row, homes: &[u8; 256], fixed: [u8; 4]) -> [u8; 4]
+    ensures { result ≡ four_homes homes.now (fixed_count row) fixed }
 {
-    if present { home(homes, reg) } else { reg }
+    let count = fixed_count(row);
+    if count == 0 {
+        return fixed;
+    }
+    counted_homes(count, homes, fixed)
+}
+
+/// The numbers that a table gives for so many first registers.
+#[inline(never)]
+fn counted_homes(count: usize, homes: &[u8; 256], fixed: [u8; 4]) -> [u8; 4]
+    ensures { result ≡ four_homes homes.now count fixed }
+{
+    let [a, b, c, d] = fixed;
+    [
+        home_if(0 < count, homes, a),
+        home_if(1 < count, homes, b),
+        home_if(2 < count, homes, c),
+        home_if(3 < count, homes, d),
+    ]
 }
 
 /// Whether a row is one that no-operations have.
