@@ -13,3 +13,4 @@ pub mod Give
 pub mod Filling
 pub mod Finished
 pub mod Renames
+pub mod HeadTable

@@ -13,3 +13,4 @@ pub mod Given
 pub mod Refusal
 pub mod Message
 pub mod Homes
+pub mod Head

@@ -1,6 +1,6 @@
 //! The type of an instruction as data.
 
-ghost use Rattle.std.specs.Prelude.{◌≡◌, true, None, Some, IfErr, IfOk, OnOk};
+ghost use Rattle.std.specs.Prelude.{◌≡◌, nat_lt, true, None, Some, IfErr, IfOk, OnOk};
 ghost use Rattle.cax64_operand.specs.declared.operand.Operands.TheVariants as operands;
 ghost use Rattle.cax64_inst_data.specs.Refusal.{is_nop_row};
 ghost use Rattle.cax64_operand.specs.NopRow.{nop_row};
@@ -268,11 +268,28 @@ fn fixed_count(row: Row) -> usize
 fn fixed_homes(row: Row, homes: &[u8; 256], fixed: [u8; 4]) -> [u8; 4]
     ensures { result ≡ four_homes homes.now (fixed_count row) fixed }
 {
-    let count = fixed_count(row);
-    if count == 0 {
-        return fixed;
+    if has_fixed(row) {
+        return counted_homes(fixed_count(row), homes, fixed);
     }
-    counted_homes(count, homes, fixed)
+    fixed
+}
+
+/// Whether a row fixes a register. It's tested apart, since the compiler makes a jump of the number of them.
+#[inline(always)]
+fn has_fixed(row: Row) -> bool
+    ensures { result ≡ nat_lt 0 (fixed_count row) }
+{
+    matches!(
+        row,
+        Row::lock_cmpxchg16b_m
+            | Row::lock_cmpxchgb_mr
+            | Row::lock_cmpxchgw_mr
+            | Row::lock_cmpxchgl_mr
+            | Row::lock_cmpxchgq_mr
+            | Row::andb_i
+            | Row::mulxl_rvm
+            | Row::mulxq_rvm
+    )
 }
 
 /// The numbers that a table gives for so many first registers.

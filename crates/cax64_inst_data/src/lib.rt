@@ -3,6 +3,7 @@
 
 pub mod data;
 mod encode;
+mod heads;
 mod listing;
 mod make;
 pub mod operand;

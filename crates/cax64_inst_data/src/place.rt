@@ -171,11 +171,12 @@ impl PlaceKind {
     }
 }
 
-/// The number that a table gives for a register, where there is one. It's looked up in any case: a branch would cost more.
+/// The number that a table gives for a register, where there is one. It's looked up in any case, and nothing is tested: a
+/// branch would cost more.
 #[inline(always)]
 pub(crate) fn home_if(present: bool, homes: &[u8; 256], reg: u8) -> u8
     ensures { result ≡ home_if present homes.now reg }
 {
     let home = homes[usize::from(reg)];
-    if present { home } else { reg }
+    home * u8::from(present) + reg * u8::from(!present)
 }
