@@ -14,3 +14,5 @@ pub mod Filling
 pub mod Finished
 pub mod Renames
 pub mod HeadTable
+pub mod TailTable
+pub mod Tailed

@@ -14,3 +14,5 @@ pub mod Refusal
 pub mod Message
 pub mod Homes
 pub mod Head
+pub mod Tail
+pub mod TailPart

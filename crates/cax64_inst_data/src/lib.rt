@@ -8,6 +8,7 @@ mod listing;
 mod make;
 pub mod operand;
 pub mod place;
+mod tails;
 mod visit;
 
 pub use data::InstData;

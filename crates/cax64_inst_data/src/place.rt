@@ -57,7 +57,7 @@ impl DataPlace {
 
     /// The target of a place relative to the end.
     #[inline(always)]
-    fn relative(&self) -> Option<DeferredTarget>
+    pub(crate) fn relative(&self) -> Option<DeferredTarget>
         ensures { result ≡ relative_by self.now.kind self.now.target }
     {
         match self.kind {
@@ -135,7 +135,7 @@ impl DataPlace {
 }
 
 impl PlaceKind {
-    ghost use Rattle.cax64_inst_data.specs.Placed.{has_base, has_index};
+    ghost use Rattle.cax64_inst_data.specs.Placed.{has_base, has_index, is_relative};
     ghost use Rattle.cax64_inst_data.specs.Fits.{is_present};
     ghost use Rattle.cax64_inst_data.specs.Operands.{is_register};
 
@@ -144,6 +144,16 @@ impl PlaceKind {
         ensures { result ≡ is_register self }
     {
         matches!(self, PlaceKind::Register)
+    }
+
+    #[inline(always)]
+    pub(crate) fn is_relative(self) -> bool
+        ensures { result ≡ is_relative self }
+    {
+        matches!(
+            self,
+            PlaceKind::Label | PlaceKind::Constant | PlaceKind::NoTarget
+        )
     }
 
     #[inline(always)]
