@@ -3,6 +3,7 @@
 ghost use Rattle.std.specs.Prelude.{◌≡◌, ◌≢◌, ◌<◌, ◌≤◌, false, true, length};
 ghost use Rattle.cax64_encoder.specs.Code.{tail_actions};
 ghost use Rattle.cax64_inst_data.specs.Fits.{is_present};
+ghost use Rattle.cax64_inst_data.specs.Form.{place_operand};
 ghost use Rattle.cax64_inst_data.specs.Placed.{has_index, is_relative};
 ghost use Rattle.cax64_inst_data.specs.Tail.{class_of, front_of, kind_number, long_of, special_of, tail_entry};
 ghost use Rattle.cax64_inst_data.specs.TailPart.{IsTailPart};
@@ -325,7 +326,7 @@ pub(crate) fn tail_part(place: &DataPlace, reg: u8, displacement: i32, bytes_at_
     requires index { place.now.index < 16 }
     requires non_rsp { has_index place.now.kind ≡ true → place.now.index ≢ 4 }
     requires bare { is_present place.now.kind ≡ false → reg ≡ 0 }
-    ensures tail { IsTailPart place.now displacement bytes_at_end reg (tail_actions result) }
+    ensures tail { IsTailPart (place_operand place.now) displacement bytes_at_end reg (tail_actions result) }
     ensures few { length result.front ≤ 3 }
 {
     let word = displacement.cast_unsigned();
