@@ -16,3 +16,4 @@ pub mod Renames
 pub mod HeadTable
 pub mod TailTable
 pub mod Tailed
+pub mod HeadParts

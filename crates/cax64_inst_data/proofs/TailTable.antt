@@ -12,7 +12,7 @@ by_three P a b c (suc zero) l = b
 by_three P a b c (suc (suc zero)) l = c
 by_three P a b c (suc (suc (suc n))) l = absurd (omega (arith, l))
 
-by_eight : (P : ℕ → Type 0) → P 0 → P 1 → P 2 → P 3 → P 4 → P 5 → P 6 → P 7 → (n : ℕ) → n < 8 → P n
+pub by_eight : (P : ℕ → Type 0) → P 0 → P 1 → P 2 → P 3 → P 4 → P 5 → P 6 → P 7 → (n : ℕ) → n < 8 → P n
 by_eight P a b c d e f g h zero l = a
 by_eight P a b c d e f g h (suc zero) l = b
 by_eight P a b c d e f g h (suc (suc zero)) l = c

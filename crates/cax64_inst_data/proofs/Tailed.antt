@@ -158,6 +158,7 @@ part_when Base p reg word sib at_end v h n hi hr hc ha f w es =
     low_with : (four : Bool) (low : ℕ) → (low == 4) ≡ four → low ≡ (if four then 4 else low)
     low_with true low e = is_value low 4 e
     low_with false low e = refl
+
     low_is : (low : ℕ) → low ≡ (if low == 4 then 4 else low)
     low_is low = low_with (low == 4) low refl
 part_when BaseAndIndex p reg word sib at_end v h n hi hr hc ha f w es =

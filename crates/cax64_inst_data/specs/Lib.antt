@@ -16,3 +16,4 @@ pub mod Homes
 pub mod Head
 pub mod Tail
 pub mod TailPart
+pub mod Code

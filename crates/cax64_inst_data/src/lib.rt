@@ -1,6 +1,7 @@
 //! Instructions as data: a row and operands by their numbers, in one type of 32 bytes.
 #![tactic(auto)]
 
+mod code;
 pub mod data;
 mod encode;
 mod heads;
