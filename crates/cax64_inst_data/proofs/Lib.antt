@@ -17,3 +17,4 @@ pub mod HeadTable
 pub mod TailTable
 pub mod Tailed
 pub mod HeadParts
+pub mod CodeParts
