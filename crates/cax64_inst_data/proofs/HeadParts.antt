@@ -154,7 +154,7 @@ legacy_is_head line p reg vvvv special bits bytes hl none hr real hv bare es eb 
     let rex_is : rex_for line bits ≡ rex = same_rex w u bit_r bit_s bit_x bit_b in
     let wanted : Bool = is_special_if_8bit reg || is_special_if_8bit (placed p).register in
     let special_is : nat_le 8 reg ≡ false → nat_le 8 p.base ≡ false → s ≡ wanted = λ er ebase.
-        both_are (low_special reg (not_high reg er)) (ap (λ (k : ℕ). k == 1) es ∙ special_when p.kind p (not_high p.base ebase)) in
+    both_are (low_special reg (not_high reg er)) (ap (λ (k : ℕ). k == 1) es ∙ special_when p.kind p (not_high p.base ebase)) in
     let held : (IsSome rex ↔ IsTrue (w || (nat_le 8 reg || ((nat_le 8 p.index || nat_le 8 p.base) || (u && s))))) = rex_stands_when _ _ in
     let chain : (w || (nat_le 8 reg || ((nat_le 8 p.index || nat_le 8 p.base) || (u && s)))) ≡ rex_stands plain.enc w u reg named = same_stands w u (nat_le 8 reg) (nat_le 8 p.index) (nat_le 8 p.base) s wanted special_is ∙ rw (n.high, n.special) refl in
     let stands : (IsSome rex ↔ IsTrue (rex_stands plain.enc w u reg named)) = (λ h. sym chain ∙ held.0 h, λ h. held.1 (chain ∙ h)) in

@@ -18,3 +18,4 @@ pub mod TailTable
 pub mod Tailed
 pub mod HeadParts
 pub mod CodeParts
+pub mod Coded

@@ -10,16 +10,23 @@ ghost use Rattle.cax64_inst_data.specs.Encodable.{four};
 ghost use Rattle.cax64_inst_data.specs.Homes.{fixed_count, four_homes};
 ghost use Rattle.cax64_inst_data.specs.When.{when};
 
+use crate::code::code_of;
 use crate::listing::listed;
 use crate::make::fill;
 use crate::operand::{DataError, DataOperand, absent};
 use crate::place::{DataPlace, home_if};
 use crate::visit::visit_kinds;
+use cax64_address::offset::AmodeOffsetPlusKnownOffset;
+use cax64_encoder::code::Code;
 use cax64_encoder::content::Content;
+use cax64_encoder::nop::nop_code;
 use cax64_encoder::numbered::NumberedForm;
 use cax64_machine_code::row::Row;
-use cax64_operand::{FromOperands, Nop, Numbers, Operands, RegisterVisitor, signature};
+use cax64_operand::{
+    FromOperands, Nop, Numbers, Operands, RegisterFamily, RegisterVisitor, signature,
+};
 use cax64_register::gpr;
+use cax64_sink::CodeSink;
 use cax64_table::numbers;
 
 /// An instruction: a row of the table, and operands by their numbers.
@@ -46,6 +53,10 @@ impl InstData {
     ghost use Rattle.cax64_inst_data.specs.Data.{data_operands, data_row};
     ghost use Rattle.cax64_inst_data.specs.Form.{data_content, data_form};
     ghost use Rattle.cax64_inst_data.specs.Registers.{registers_met};
+    ghost use Rattle.cax64_encoder.specs.Code.{IsCode, code_actions};
+    ghost use Rattle.cax64_encoder.specs.Encodes.{EncodesAs};
+    ghost use Rattle.cax64_encoder.specs.Fault.{is_encodable};
+    ghost use Rattle.cax64_encoder.specs.Meant.{meant_of};
 
     /// Data of a row and its operands in the order of its signature.
     ///
@@ -131,6 +142,32 @@ impl InstData {
                 nop: None,
                 form: self.form(),
             },
+        }
+    }
+
+    /// The sink calls that write it.
+    #[inline(always)]
+    pub(crate) fn code<S: CodeSink>(&self, sink: &S) -> Code
+        requires { is_encodable (S.state sink.now).offsets (meant_of ⟦<Numbers as RegisterFamily>⟧.family (data_row self.now) (data_operands self.now) (S.state sink.now).offsets) ≡ true }
+        ensures encodes { EncodesAs (meant_of ⟦<Numbers as RegisterFamily>⟧.family (data_row self.now) (data_operands self.now) (S.state sink.now).offsets) (code_actions result) }
+        ensures is { IsCode result }
+    {
+        match self.nop {
+            Some(nop) => nop_code(nop),
+            None => {
+                let displacement = AmodeOffsetPlusKnownOffset {
+                    simm32: self.place.displacement,
+                    offset: self.place.offset,
+                };
+                code_of(
+                    self.row,
+                    self.reg,
+                    self.vvvv,
+                    &self.place,
+                    self.imm,
+                    displacement.value(sink),
+                )
+            }
         }
     }
 

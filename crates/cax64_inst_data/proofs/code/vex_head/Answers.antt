@@ -37,5 +37,5 @@ returns c =
       pre = vex_bytes c.three_op-prefix.result;
       is = rw (c.append.ensures.bytes, c.vex.ensures, c.of_word.ensures.bytes, c.opcode-opcode.ensures.bytes) refl;
       prefix = vex_for plain.enc line c.args.reg _ (place_named (placed c.args.place.now)) c.pp.result c.map.result c.l.result vex.field c.w.result c.args.vvvv (Some c.args.place.now.base, Some c.args.place.now.index) c.three_op-prefix.result c.three_op-prefix.ensures.bytes
-      vex.is (row_is_line c.args.row) c.requires.vvvv_fits matches (vvvv_number (has_vvvv line.prefix) c.args.vvvv c.requires.absent) place.b place.x c.w.ensures c.three_op-prefix.ensures.reads c.three_op-prefix.ensures.two_bytes;
+          vex.is (row_is_line c.args.row) c.requires.vvvv_fits matches (vvvv_number (has_vvvv line.prefix) c.args.vvvv c.requires.absent) place.b place.x c.w.ensures c.three_op-prefix.ensures.reads c.three_op-prefix.ensures.two_bytes;
     }
