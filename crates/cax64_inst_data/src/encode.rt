@@ -71,7 +71,7 @@ impl Instruction for InstData {
 
     #[inline(always)]
     fn encode<S: CodeSink>(&self, sink: &mut S) -> Result<(), SinkError> {
-        <Content as Task<Numbers, S>>::take(self.content(), self.its_row(), sink)
+        self.code(&*sink).put(sink)
     }
 
     // As the trait has it, but no call: what the test has loaded then stays in registers.
