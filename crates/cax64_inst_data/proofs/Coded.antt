@@ -113,6 +113,7 @@ module _ (d : InstData) (e : d.nop ≡ None) where
   module _ (offsets : ℕ → Option ℤ) (h : is_encodable offsets (meant_of (numbers ◌==◌) (data_row d) (data_operands d) offsets) ≡ true) where
     can : is_encodable offsets (meant_of (numbers ◌==◌) d.row own_operands offsets) ≡ true
     can = subst (λ (row : Row). is_encodable offsets (meant_of (numbers ◌==◌) row own_operands offsets) ≡ true) row_is h
+
     real : definitions.form_is_real plain.settled plain.enc the_form ≡ true
     real = is_real (numbers ◌==◌) d.row own_operands none (λ a b same. place.is_value a b same) offsets can
 

@@ -2872,6 +2872,7 @@ pub(crate) fn legacy_head(row: Row, bits: u8) -> Short
     requires { bits < 16 }
     ensures { result ≡ head_of (line_of row) bits }
 {
-    let entry = HEADS[number(row)][usize::from(bits)];
+    let heads = &HEADS[number(row)];
+    let entry = heads[usize::from(bits)];
     Short::of_word(entry % 0x100_0000_0000_0000, (entry >> 56) as u8)
 }

@@ -266,7 +266,8 @@ fn entry(kind: PlaceKind, class: u8, low: u8) -> [u32; 6]
     requires low { low < 8 }
     ensures { result ≡ tail_entry kind class low }
 {
-    TAILS[kind_number(kind) * 32 + usize::from(class) * 8 + usize::from(low)]
+    let entry = &TAILS[kind_number(kind) * 32 + usize::from(class) * 8 + usize::from(low)];
+    *entry
 }
 
 /// The class of a displacement: 0, one byte, or four bytes.
