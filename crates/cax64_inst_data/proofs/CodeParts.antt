@@ -1,16 +1,14 @@
-use Rattle.std.proofs.Common.{◌≡◌, ◌≢◌, ℕ, ◌+◌, ◌%◌, ◌<◌, refl, ap, sym, arith, Bool, true, false, Option, Some, None, ℤ, List, ◌++◌, ◌∙◌, length}
-use Rattle.std.specs.Prelude.{◌==◌, ◌&&◌, nat_lt, not, option_map, unwrap_or}
+use Rattle.std.proofs.Common.{◌≡◌, ◌≢◌, ℕ, ◌+◌, ◌%◌, ◌<◌, refl, ap, arith, Bool, true, false, Option, ℤ, List, ◌++◌, ◌∙◌, length}
+use Rattle.std.specs.Prelude.{◌==◌, nat_lt, not, option_map}
 use Rattle.std.proofs.lemmas.List.{length-append}
 use Rattle.std.proofs.lemmas.Bool.{and_parts}
 use Rattle.std.proofs.lemmas.Bool.Decides.{nat_tests}
-use Rattle.cax64_machine_code.specs.declared.line.Line.{Line}
 use Rattle.cax64_machine_code.specs.declared.line.TailField.{TailField}
 use Rattle.cax64_machine_code.specs.declared.line.TailField.TheVariants.{NoTail, Modrm}
 use Rattle.cax64_sink.specs.Call.{Action}
 use Rattle.cax64_table.specs.Numbers.{digit_of, has_register}
 use Rattle.cax64_encoder.specs.Encodes.{TailPartOf}
-use Rattle.cax64_encoder.specs.Form.{fits, is_no_place, place_fits, reg_fits, tail_fits}
-use Rattle.cax64_encoder.specs.Number.{number_value}
+use Rattle.cax64_encoder.specs.Form.{is_no_place, reg_fits, tail_fits}
 use Rattle.cax64_encoder.specs.Numbered.{plain, form_is_real, place_is_real, place_named}
 use Rattle.cax64_encoder.specs.Prefix.{register_number}
 use Rattle.cax64_encoder.specs.Real.{is_absent_or_real}

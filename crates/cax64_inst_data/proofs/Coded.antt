@@ -1,5 +1,5 @@
-use Rattle.std.proofs.Common.{◌≡◌, ℕ, zero, suc, refl, ◌∙◌, ap, sym, subst, arith, Bool, true, false, Option, Some, None, ℤ, List, [], ◌∷◌, length}
-use Rattle.std.specs.Prelude.{◌==◌, ◌&&◌, drop, nat_le}
+use Rattle.std.proofs.Common.{◌≡◌, ℕ, zero, suc, refl, ◌∙◌, ap, sym, subst, arith, true, false, Option, Some, None, ℤ, List, [], ◌∷◌, length}
+use Rattle.std.specs.Prelude.{◌==◌, drop, nat_le}
 use Rattle.std.proofs.lemmas.Bool.{and_parts}
 use Rattle.std.proofs.lemmas.Bool.Decides.{nat_tests}
 use Rattle.cax64_address.specs.Offset.{sum_fits, sum_of}
@@ -34,8 +34,7 @@ use Rattle.cax64_encoder.proofs.Numbers.{fits_of, imm_of, displacement_of, real_
 use Rattle.cax64_inst_data.specs.Code.{placed_form}
 use Rattle.cax64_inst_data.specs.Data.{row_by, operands_by, data_row, data_operands}
 use Rattle.cax64_inst_data.specs.Fits.{all_zero, fits as kept_fits, kinds_fit}
-use Rattle.cax64_inst_data.specs.Form.{content_by, data_content, data_form, place_operand}
-use Rattle.cax64_inst_data.specs.When.{when}
+use Rattle.cax64_inst_data.specs.Form.{content_by}
 use Rattle.cax64_inst_data.specs.declared.data.InstData.{InstData}
 use Rattle.cax64_inst_data.proofs.Conditions.{encodable_is, fitted_parts}
 use Rattle.cax64_inst_data.proofs.Content.{content_is, register_in_row, vvvv_in_row}

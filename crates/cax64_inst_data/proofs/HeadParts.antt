@@ -1,25 +1,22 @@
-use Rattle.std.proofs.Common.{◌≡◌, ℕ, zero, suc, ◌+◌, ◌*◌, ◌/◌, ◌%◌, ◌<◌, ◌≤◌, refl, ◌∙◌, ap, sym, subst, arith, Bool, true, false, Option, Some, None, List, ◌++◌, length, append_assoc}
-use Rattle.std.specs.Prelude.{◌==◌, ◌&&◌, ◌||◌, ◌↔◌, nat_le, nat_lt, if◌then◌else◌, bit_or, IsSome, IsTrue, option_map, unwrap_or}
+use Rattle.std.proofs.Common.{◌≡◌, ℕ, zero, suc, ◌+◌, ◌*◌, ◌/◌, ◌%◌, ◌<◌, refl, ◌∙◌, ap, sym, arith, Bool, true, false, Option, Some, None, List, ◌++◌, append_assoc}
+use Rattle.std.specs.Prelude.{◌==◌, ◌&&◌, ◌||◌, ◌↔◌, nat_le, if◌then◌else◌, bit_or, IsSome, IsTrue}
 use Rattle.std.specs.Int.{from_bool}
 use Rattle.std.proofs.lemmas.Bool.Decides.{nat_tests}
 use Rattle.cax64_machine_code.specs.Len.{is_w1}
 use Rattle.cax64_machine_code.specs.Line.{opcode_bytes}
 use Rattle.cax64_machine_code.specs.Prefix.{Rex, rex_bits}
-use Rattle.cax64_machine_code.specs.Rows.{line_of}
 use Rattle.cax64_machine_code.specs.declared.line.Line.{Line}
-use Rattle.cax64_machine_code.specs.declared.row.Row.{Row}
 use Rattle.cax64_prefix.specs.Rex.{is_special_if_8bit, rex_bytes}
 use Rattle.cax64_prefix.proofs.Prefixes.{legacy_bytes}
 use Rattle.cax64_table.specs.Numbers.{has_8bit, is_vex}
 use Rattle.cax64_encoder.specs.Form.{is_no_place, vvvv_fits}
 use Rattle.cax64_encoder.specs.Line.{has_tail, is_line}
 use Rattle.cax64_encoder.specs.Numbered.{IsNumbered, plain, numbered_place, place_is_real, place_named}
-use Rattle.cax64_encoder.specs.Prefix.{rex_stands, place_high, place_special}
+use Rattle.cax64_encoder.specs.Prefix.{rex_stands}
 use Rattle.cax64_encoder.specs.declared.number.Number.{Number}
-use Rattle.cax64_encoder.specs.declared.numbered.NumberedPlace.{NumberedPlace}
 use Rattle.cax64_encoder.specs.declared.role.PlaceOperand.{PlaceOperand}
 use Rattle.cax64_encoder.proofs.Lines.{line_facts, w_fits, w_zero}
-use Rattle.cax64_encoder.proofs.Numbers.{Numbers, numbers_are, numbers_below}
+use Rattle.cax64_encoder.proofs.Numbers.{numbers_are, numbers_below}
 use Rattle.cax64_encoder.proofs.PrefixParts.{LegacyIs, legacy_is, legacy_for}
 use Rattle.cax64_inst_data.specs.Code.{IsHead}
 use Rattle.cax64_inst_data.specs.Form.{operand_by, place_operand}

@@ -1,4 +1,4 @@
-use Rattle.std.proofs.Common.{◌≡◌, ℕ, zero, suc, [], slice_index_or, ◌<◌, ◌/◌, ◌%◌, ◌^◌, refl, arith, List, take}
+use Rattle.std.proofs.Common.{◌≡◌, ℕ, zero, suc, [], slice_index_or, ◌<◌, ◌/◌, ◌%◌, ◌^◌, refl, arith, take}
 use Rattle.std.specs.Prelude.{true, nat_le, nat_lt}
 use Rattle.std.specs.Int.{to_le_bytes, w64}
 use Rattle.cax64_machine_code.specs.Rows.{line_of}

@@ -1,4 +1,4 @@
-use Rattle.std.proofs.Common.{◌≡◌, ◌≢◌, ℕ, ◌+◌, ◌*◌, ◌/◌, ◌%◌, ◌^◌, ◌<◌, ◌≤◌, refl, ◌∙◌, ap, sym, subst, arith, Bool, true, false, List, [], ◌∷◌, ◌++◌, ℤ, pos, Some, length, Option}
+use Rattle.std.proofs.Common.{◌≡◌, ◌≢◌, ℕ, ◌+◌, ◌*◌, ◌/◌, ◌%◌, ◌^◌, ◌<◌, ◌≤◌, refl, ◌∙◌, sym, arith, Bool, true, false, List, [], ◌∷◌, ◌++◌, ℤ, pos, Some, length, Option}
 use Rattle.std.specs.Prelude as std
 use Rattle.std.specs.Prelude.{◌==◌, ◌&&◌, ◌||◌, not, nat_lt, if◌then◌else◌, ◌-ℤ◌}
 use Rattle.std.specs.Int.{from_bool, cast_unsigned, w32, to_le_bytes}
@@ -14,13 +14,12 @@ use Rattle.cax64_sink.specs.Run.{all_bytes}
 use Rattle.cax64_address.specs.Emitted.{TailOf, byte_actions}
 use Rattle.cax64_address.specs.Memory.{option_when}
 use Rattle.cax64_address.specs.declared.tail.TailCode.{TailCode}
-use Rattle.cax64_address.proofs.MemoryTails.{Displaced, Tailed, short, long, tailed}
+use Rattle.cax64_address.proofs.MemoryTails.{Displaced, short, long, tailed}
 use Rattle.cax64_encoder.proofs.Fronts.{tail_puts}
 use Rattle.cax64_machine_code.specs.declared.reading.Place.{Place}
 use Rattle.cax64_address.specs.Address.{scale_number}
 use Rattle.cax64_address.specs.Emitted.{target_actions}
 use Rattle.cax64_address.specs.Emitted as address
-use Rattle.cax64_address.specs.declared.amode.Scale.{Scale}
 use Rattle.cax64_address.proofs.Emits.{emits_relative}
 use Rattle.cax64_address.proofs.TailBytes.{relative_bytes}
 use Rattle.cax64_address.proofs.TailLengths.{alone_length}
@@ -30,9 +29,8 @@ use Rattle.cax64_sink.specs.Puts.{puts}
 use Rattle.cax64_sink.specs.declared.DeferredTarget.{DeferredTarget}
 use Rattle.cax64_sink.specs.declared.DeferredTarget.TheVariants as deferred
 use Rattle.cax64_sink.specs.declared.Notice.TheVariants.{Target}
-use Rattle.cax64_inst_data.specs.Fits.{is_present}
 use Rattle.cax64_inst_data.specs.Form.{operand_by, place_operand}
-use Rattle.cax64_inst_data.specs.Place.{is_one, is_plain}
+use Rattle.cax64_inst_data.specs.Place.{is_plain}
 use Rattle.cax64_inst_data.specs.Placed.{has_index, relative_by}
 use Rattle.cax64_inst_data.specs.Tail.{class_with, class_of, mode_of, front_of, long_of, relative_word}
 use Rattle.cax64_inst_data.specs.TailPart.{IsTailPart}

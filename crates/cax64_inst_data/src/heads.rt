@@ -11,6 +11,7 @@ use cax64_machine_code::row::Row;
 /// For each row, named beside its numbers, and for each four bits: the bytes, the first one the lowest, and in the highest
 /// byte how many they are. The bits are, from the highest one: R; whether a register of number 4 to 7 stands where it may be
 /// one of 8 bits; X; B.
+// table/write.py: heads
 const HEADS: [[u64; 16]; 158] = [
     [
         0x0200_0000_0000_80f0,
@@ -2857,7 +2858,9 @@ const HEADS: [[u64; 16]; 158] = [
         0x0400_0000_1f0f_4766,
     ], // nopw_rm
 ];
+// table/write.py: end
 
+// table/write.py: number
 #[inline(always)]
 fn number(row: Row) -> usize
     ensures is { result ≡ number_of row }
@@ -2865,6 +2868,7 @@ fn number(row: Row) -> usize
 {
     row as usize
 }
+// table/write.py: end
 
 /// The legacy prefixes of a row, REX if it stands, and the opcode.
 #[inline(always)]

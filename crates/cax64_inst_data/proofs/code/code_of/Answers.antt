@@ -1,7 +1,6 @@
-use Rattle.std.proofs.Common.{◌≡◌, ℕ, ◌+◌, ◌∙◌, ◌<◌, ap, refl, sym, length, w32, arith, List}
+use Rattle.std.proofs.Common.{◌≡◌, ℕ, ◌+◌, ◌∙◌, ap, refl, length, w32, arith, List}
 use Rattle.std.proofs.lemmas.Bool.{and_parts}
 use Rattle.std.proofs.lemmas.Int.{to_z-of_z}
-use Rattle.std.specs.Prelude.{option_map}
 use Rattle.cax64_address.specs.Emitted.{target_actions}
 use Rattle.cax64_machine_code.specs.Len.{tail_len}
 use Rattle.cax64_machine_code.specs.Line.{imm_bytes, opcode_bytes}
@@ -17,20 +16,17 @@ use Rattle.cax64_encoder.specs.Code.{tail_actions}
 use Rattle.cax64_encoder.specs.Encodes.{TailPartOf}
 use Rattle.cax64_encoder.specs.Form.{tail_fits}
 use Rattle.cax64_encoder.specs.ImmActions.{optional_imm_actions}
-use Rattle.cax64_encoder.specs.Numbered.{plain, form_named, place_named}
+use Rattle.cax64_encoder.specs.Numbered.{plain, form_named}
 use Rattle.cax64_encoder.specs.Place.{place_read}
 use Rattle.cax64_encoder.specs.Prefix.{reg_number, register_number, PrefixFor}
 use Rattle.cax64_encoder.specs.Real.{trap_in}
-use Rattle.cax64_encoder.specs.declared.number.Number.TheVariants.{Settled}
 use Rattle.cax64_encoder.proofs.Fronts.{code_is, encodes_same, front_few, opcode_some}
 use Rattle.cax64_encoder.proofs.Lengths.{length_is}
 use Rattle.cax64_encoder.proofs.Numbers.{numbers_are, numbers_below, imm_put, imm_fit}
 use Rattle.cax64_encoder.proofs.Table.{row_imm_len, row_is_line}
 use Rattle.cax64_encoder.proofs.Whole.{bare_is, vvvv_fit, digit_or_register, imm_sized_as, line_encodes}
-use Rattle.cax64_inst_data.specs.Code.{placed_form, vvvv_in}
+use Rattle.cax64_inst_data.specs.Code.{placed_form}
 use Rattle.cax64_inst_data.specs.Placed.{placed}
-use Rattle.cax64_inst_data.specs.TailPart.{IsTailPart}
-use Rattle.cax64_inst_data.specs.When.{when}
 use Rattle.cax64_inst_data.proofs.CodeParts.{head_length, number_when, real_when, real_parts, index_not_four, bare_reg, low_reg}
 use Rattle.cax64_inst_data.proofs.HeadParts.{is_numbered, named_is}
 use Rattle.cax64_inst_data.proofs.code.code_of.Goals as goal

@@ -1,10 +1,10 @@
-use Rattle.std.proofs.Common.{◌≡◌, ◌∙◌, ◌++◌, ap, refl, sym, true, false, Bool, ℕ, Some}
+use Rattle.std.proofs.Common.{◌≡◌, refl, true, false, Bool, ℕ, Some}
 use Rattle.std.specs.Int.{from_bool}
 use Rattle.std.specs.Prelude.{option_map, unwrap_or}
-use Rattle.cax64_machine_code.specs.Line.{opcode_bytes, w_matches}
+use Rattle.cax64_machine_code.specs.Line.{w_matches}
 use Rattle.cax64_machine_code.specs.Rows.{line_of}
 use Rattle.cax64_prefix.specs.Vex.{vex_bytes}
-use Rattle.cax64_table.specs.Numbers.{has_vvvv, is_vex}
+use Rattle.cax64_table.specs.Numbers.{has_vvvv}
 use Rattle.cax64_encoder.specs.Number.{number_value}
 use Rattle.cax64_encoder.specs.Numbered.{plain, place_named}
 use Rattle.cax64_encoder.specs.declared.number.Number.TheVariants.{Settled}
@@ -12,7 +12,6 @@ use Rattle.cax64_encoder.proofs.Lines.{line_facts, w_fits}
 use Rattle.cax64_encoder.proofs.Numbers.{numbers_are}
 use Rattle.cax64_encoder.proofs.PrefixParts.{VexIs, vex_is, vex_for}
 use Rattle.cax64_encoder.proofs.Table.{row_is_line}
-use Rattle.cax64_inst_data.specs.Code.{vvvv_in}
 use Rattle.cax64_inst_data.specs.Placed.{placed}
 use Rattle.cax64_inst_data.specs.When.{when}
 use Rattle.cax64_inst_data.proofs.HeadParts.{is_numbered}
