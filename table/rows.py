@@ -1,4 +1,4 @@
-"""The rows: their enumeration and names, their places, and the packed table."""
+"""The rows: their enumeration and names, their places, the packed table, and the heads of data."""
 
 PLACE_MEMORY, PLACE_REGISTER, PLACE_REGISTER_8 = range(3)
 TAIL_NONE, TAIL_DIGIT, TAIL_REGISTER_8, TAIL_REGISTER = range(4)
@@ -65,6 +65,24 @@ def packed_table(rows):
             "];"]
 
 
+def head(row, bits):
+    """What stands in front of the tail beside these bits; the layout stands above `HEADS` in heads.rt. A row with VEX has the
+    numbers of one without, which nobody asks for."""
+    code = row.code
+    legacy = [] if code.vex else code.legacy_bytes
+    is_special = uses_8bit(row) and bits & 0b0100
+    rex = 0x40 | (code.w == 1) << 3 | bits >> 1 & 0b0100 | bits & 0b0011
+    held = [*legacy, *([rex] if rex != 0x40 or is_special else []), *code.opcode_bytes]
+    return int.from_bytes(held, "little") | len(held) << 56
+
+
+def head_table(rows):
+    lines = [f"const HEADS: [[u64; 16]; {len(rows)}] = ["]
+    for row in rows:
+        lines += ["    [", *(f"        {hexadecimal(head(row, bits))}," for bits in range(16)), f"    ], // {row.name}"]
+    return [*lines, "];"]
+
+
 def number_function(count):
     """The place of a row, with its bound."""
     return [
@@ -102,3 +120,6 @@ def write(table, sources):
     sources.part("crates/cax64_table/src/packed.rt", "table", packed_table(table.rows))
     sources.part("crates/cax64_table/src/packed.rt", "number", number_function(len(names)))
     sources.part("crates/cax64_table/proofs/Table.antt", "number", number_lemmas(table.rows))
+    heads = "crates/cax64_inst_data/src/heads.rt"
+    sources.part(heads, "heads", head_table(table.rows))
+    sources.part(heads, "number", number_function(len(names)))

@@ -22,3 +22,9 @@ pub mod OfClass
 pub mod PrefixBytes
 pub mod TailBytes
 pub mod BytesGiven
+pub mod HeadTable
+pub mod TailTable
+pub mod Tailed
+pub mod HeadParts
+pub mod CodeParts
+pub mod Coded

@@ -1,4 +1,4 @@
-use Rattle.std.proofs.Common.{◌≡◌, ℕ, zero, suc, ◌+◌, ◌<◌, ◌≤◌, refl, ◌∙◌, ap, sym, arith, Bool, true, false, None, List, [], ◌∷◌, length, drop, slice_index_or}
+use Rattle.std.proofs.Common.{◌≡◌, ℕ, zero, suc, ◌+◌, ◌<◌, ◌≤◌, refl, ◌∙◌, ap, sym, arith, Bool, true, false, None, List, [], ◌∷◌, length, drop}
 use Rattle.std.specs.Prelude.{nat_le, nat_lt, slice_index}
 use Rattle.std.proofs.lemmas.Bool.Decides.{nat_tests}
 use Rattle.std.proofs.lemmas.List.{drop-drop}
@@ -20,7 +20,7 @@ use Rattle.cax64_renaming.specs.Renamed.{renamed, renamed_amode, renamed_gpr_mem
 use Rattle.cax64_table.specs.Numbers.{has_register, has_vvvv}
 use Rattle.cax64_inst_data.specs.Data.{kept_of, data_operands}
 use Rattle.cax64_inst_data.specs.Fits.{all_zero, fits, fixed_in, kinds_fit, is_memory, is_present, place_fits}
-use Rattle.cax64_inst_data.specs.Homes.{by_table, fixed_count, home_if}
+use Rattle.cax64_inst_data.specs.Homes.{by_table, fixed_count, four_homes, home_if}
 use Rattle.cax64_inst_data.specs.Operands.{Kept, amode_of, filled, gpr_mem_of, head, listed, operand_by, tail, xmm_mem_of}
 use Rattle.cax64_inst_data.specs.Own.{is_place, no_place, own_fixed, own_registers}
 use Rattle.cax64_inst_data.specs.declared.data.InstData.{InstData}
@@ -146,9 +146,6 @@ listed_renamed homes (a ∷ b ∷ c ∷ d ∷ e ∷ later) = refl
 abbrev pub two_homes : List ℕ → Bool → Bool → ℕ → ℕ → List ℕ
 two_homes homes ba bb a b = home_if ba homes a ∷ home_if bb homes b ∷ []
 
-abbrev pub four_homes : List ℕ → ℕ → List ℕ → List ℕ
-four_homes homes n fs = home_if (nat_lt 0 n) homes (slice_index_or fs 0 0) ∷ home_if (nat_lt 1 n) homes (slice_index_or fs 1 0) ∷ home_if (nat_lt 2 n) homes (slice_index_or fs 2 0) ∷ home_if (nat_lt 3 n) homes (slice_index_or fs 3 0) ∷ []
-
 when_there : (b : Bool) (homes : List ℕ) (a : ℕ) → b ≡ true → home_if b homes a ≡ slice_index homes a
 when_there b homes a e = rw e refl
 
@@ -227,23 +224,20 @@ unfolding signature_of
 count_is lock_addb_mi = refl
 count_is _ = refl
 
-pub counted : (row : Row) (n : ℕ) → n ≡ fixed_count row → n ≡ fixed_in (signature_of row)
-counted row n e = e ∙ count_is row
-
--- the same of numbers that were found one by one
-pub found_fits : (d : InstData) (homes : List ℕ) (q : DataPlace) (n reg vvvv a b c e : ℕ) → d.nop ≡ None → q.kind ≡ d.place.kind → n ≡ fixed_count d.row
+-- the same of numbers that were found
+pub found_fits : (d : InstData) (homes : List ℕ) (q : DataPlace) (reg vvvv : ℕ) (fs : List ℕ) → d.nop ≡ None → q.kind ≡ d.place.kind
     → reg ≡ home_if (has_register (line_of d.row).tail) homes d.reg → vvvv ≡ home_if (has_vvvv (line_of d.row).prefix) homes d.vvvv
-    → a ≡ home_if (nat_lt 0 n) homes (slice_index_or d.fixed 0 0) → b ≡ home_if (nat_lt 1 n) homes (slice_index_or d.fixed 1 0) → c ≡ home_if (nat_lt 2 n) homes (slice_index_or d.fixed 2 0) → e ≡ home_if (nat_lt 3 n) homes (slice_index_or d.fixed 3 0)
-    → kinds_fit (signature_of d.row) reg vvvv (a ∷ b ∷ c ∷ e ∷ []) q.kind d.imm ≡ true
-found_fits d homes q n reg vvvv a b c e none same count r v ra rb rc re =
-    rw (r, v, ra, rb, rc, re, counted d.row n count) (renamed_fits d homes none q same)
+    → fs ≡ four_homes homes (fixed_count d.row) d.fixed
+    → kinds_fit (signature_of d.row) reg vvvv fs q.kind d.imm ≡ true
+found_fits d homes q reg vvvv fs none same r v f =
+    rw (r, v, f, count_is d.row) (renamed_fits d homes none q same)
 
-pub found_are : (d : InstData) (homes : List ℕ) (q : DataPlace) (n reg vvvv a b c e : ℕ) → d.nop ≡ None → n ≡ fixed_count d.row
+pub found_are : (d : InstData) (homes : List ℕ) (q : DataPlace) (reg vvvv : ℕ) (fs : List ℕ) → d.nop ≡ None
     → reg ≡ home_if (has_register (line_of d.row).tail) homes d.reg → vvvv ≡ home_if (has_vvvv (line_of d.row).prefix) homes d.vvvv
-    → a ≡ home_if (nat_lt 0 n) homes (slice_index_or d.fixed 0 0) → b ≡ home_if (nat_lt 1 n) homes (slice_index_or d.fixed 1 0) → c ≡ home_if (nat_lt 2 n) homes (slice_index_or d.fixed 2 0) → e ≡ home_if (nat_lt 3 n) homes (slice_index_or d.fixed 3 0)
+    → fs ≡ four_homes homes (fixed_count d.row) d.fixed
     → (is_present d.place.kind ≡ true → amode_of q ≡ renamed_amode (slice_index homes) (amode_of d.place))
     → (is_present d.place.kind ≡ true → gpr_mem_of q ≡ renamed_gpr_mem (slice_index homes) (slice_index homes) (gpr_mem_of d.place))
     → (is_present d.place.kind ≡ true → xmm_mem_of q ≡ renamed_xmm_mem (slice_index homes) (slice_index homes) (xmm_mem_of d.place))
-    → listed (filled (signature_of d.row) q (record { registers = reg ∷ vvvv ∷ []; fixed = a ∷ b ∷ c ∷ e ∷ []; imm = d.imm })) ≡ renamed_operands (by_table homes) (data_operands d)
-found_are d homes q n reg vvvv a b c e none count r v ra rb rc re amode general vector =
-    rw (r, v, ra, rb, rc, re, counted d.row n count) (renamed_are d homes none q (λ h. record { amode = amode h; general = general h; vector = vector h }))
+    → listed (filled (signature_of d.row) q (record { registers = reg ∷ vvvv ∷ []; fixed = fs; imm = d.imm })) ≡ renamed_operands (by_table homes) (data_operands d)
+found_are d homes q reg vvvv fs none r v f amode general vector =
+    rw (r, v, f, count_is d.row) (renamed_are d homes none q (λ h. record { amode = amode h; general = general h; vector = vector h }))

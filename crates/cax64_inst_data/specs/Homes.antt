@@ -1,4 +1,4 @@
-use Rattle.std.specs.Prelude.{ℕ, Bool, List, if◌then◌else◌, slice_index}
+use Rattle.std.specs.Prelude.{ℕ, nat_lt, Bool, List, [], ◌∷◌, if◌then◌else◌, slice_index, slice_index_or}
 use Rattle.cax64_machine_code.specs.declared.row.Row.{Row}
 use Rattle.cax64_machine_code.specs.declared.row.Row.TheVariants.{andb_i, lock_cmpxchg16b_m, lock_cmpxchgb_mr, lock_cmpxchgw_mr, lock_cmpxchgl_mr, lock_cmpxchgq_mr, mulxl_rvm, mulxq_rvm}
 use Rattle.cax64_renaming.specs.Renamed.{Renaming}
@@ -23,3 +23,7 @@ fixed_count andb_i = 1
 fixed_count mulxl_rvm = 1
 fixed_count mulxq_rvm = 1
 fixed_count _ = 0
+
+-- of four fixed registers so many are there
+abbrev pub four_homes : List ℕ → ℕ → List ℕ → List ℕ
+four_homes homes n fs = home_if (nat_lt 0 n) homes (slice_index_or fs 0 0) ∷ home_if (nat_lt 1 n) homes (slice_index_or fs 1 0) ∷ home_if (nat_lt 2 n) homes (slice_index_or fs 2 0) ∷ home_if (nat_lt 3 n) homes (slice_index_or fs 3 0) ∷ []

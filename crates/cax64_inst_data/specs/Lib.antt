@@ -19,3 +19,7 @@ pub mod Gathered
 pub mod ReadOperands
 pub mod Made
 pub mod Class
+pub mod Head
+pub mod Tail
+pub mod TailPart
+pub mod Code

@@ -19,6 +19,25 @@ has_index Label = false
 has_index Constant = false
 has_index NoTarget = false
 
+-- whether the base is a number of a register
+abbrev pub has_base : PlaceKind → Bool
+has_base Absent = false
+has_base Register = true
+has_base Base = true
+has_base BaseAndIndex = true
+has_base Label = false
+has_base Constant = false
+has_base NoTarget = false
+
+abbrev pub is_relative : PlaceKind → Bool
+is_relative Absent = false
+is_relative Register = false
+is_relative Base = false
+is_relative BaseAndIndex = false
+is_relative Label = true
+is_relative Constant = true
+is_relative NoTarget = true
+
 abbrev pub relative_by : PlaceKind → ℕ → Option DeferredTarget
 relative_by Absent number = None
 relative_by Register number = None

@@ -1,25 +1,32 @@
 //! The type of an instruction as data.
 
-ghost use Rattle.std.specs.Prelude.{◌≡◌, true, None, Some, IfErr, IfOk, OnOk};
+ghost use Rattle.std.specs.Prelude.{◌≡◌, nat_lt, true, None, Some, IfErr, IfOk, OnOk};
 ghost use Rattle.cax64_operand.specs.declared.operand.Operands.TheVariants as operands;
 ghost use Rattle.cax64_inst_data.specs.Refusal.{is_nop_row};
 ghost use Rattle.cax64_operand.specs.NopRow.{nop_row};
 ghost use Rattle.cax64_inst_data.specs.Fits.{expected_of, fits};
 ghost use Rattle.cax64_operand.specs.Signature.{signature_of};
 ghost use Rattle.cax64_inst_data.specs.Encodable.{four};
-ghost use Rattle.cax64_inst_data.specs.Homes.{fixed_count, home_if};
+ghost use Rattle.cax64_inst_data.specs.Homes.{fixed_count, four_homes};
 ghost use Rattle.cax64_inst_data.specs.When.{when};
 
+use crate::code::code_of;
 use crate::listing::listed;
 use crate::make::fill;
 use crate::operand::{DataError, DataOperand, absent};
-use crate::place::{DataPlace, home};
+use crate::place::{DataPlace, home_if};
 use crate::visit::visit_kinds;
+use cax64_address::offset::AmodeOffsetPlusKnownOffset;
+use cax64_encoder::code::Code;
 use cax64_encoder::content::Content;
+use cax64_encoder::nop::nop_code;
 use cax64_encoder::numbered::NumberedForm;
 use cax64_machine_code::row::Row;
-use cax64_operand::{FromOperands, Nop, Numbers, Operands, RegisterVisitor, signature};
+use cax64_operand::{
+    FromOperands, Nop, Numbers, Operands, RegisterFamily, RegisterVisitor, signature,
+};
 use cax64_register::gpr;
+use cax64_sink::CodeSink;
 use cax64_table::numbers;
 
 /// An instruction: a row of the table, and operands by their numbers.
@@ -46,6 +53,10 @@ impl InstData {
     ghost use Rattle.cax64_inst_data.specs.Data.{data_operands, data_row};
     ghost use Rattle.cax64_inst_data.specs.Form.{data_content, data_form};
     ghost use Rattle.cax64_inst_data.specs.Registers.{registers_met};
+    ghost use Rattle.cax64_encoder.specs.Code.{IsCode, code_actions};
+    ghost use Rattle.cax64_encoder.specs.Encodes.{EncodesAs};
+    ghost use Rattle.cax64_encoder.specs.Fault.{is_encodable};
+    ghost use Rattle.cax64_encoder.specs.Meant.{meant_of};
 
     /// Data of a row and its operands in the order of its signature.
     ///
@@ -134,6 +145,32 @@ impl InstData {
         }
     }
 
+    /// The sink calls that write it.
+    #[inline(always)]
+    pub(crate) fn code<S: CodeSink>(&self, sink: &S) -> Code
+        requires { is_encodable (S.state sink.now).offsets (meant_of ⟦<Numbers as RegisterFamily>⟧.family (data_row self.now) (data_operands self.now) (S.state sink.now).offsets) ≡ true }
+        ensures encodes { EncodesAs (meant_of ⟦<Numbers as RegisterFamily>⟧.family (data_row self.now) (data_operands self.now) (S.state sink.now).offsets) (code_actions result) }
+        ensures is { IsCode result }
+    {
+        match self.nop {
+            Some(nop) => nop_code(nop),
+            None => {
+                let displacement = AmodeOffsetPlusKnownOffset {
+                    simm32: self.place.displacement,
+                    offset: self.place.offset,
+                };
+                code_of(
+                    self.row,
+                    self.reg,
+                    self.vvvv,
+                    &self.place,
+                    self.imm,
+                    displacement.value(sink),
+                )
+            }
+        }
+    }
+
     /// The place.
     #[inline(always)]
     pub(crate) fn place(&self) -> &DataPlace
@@ -208,8 +245,6 @@ impl InstData {
         if self.nop.is_none() {
             let mut place = self.place;
             place.rename(homes);
-            let [a, b, c, d] = self.fixed;
-            let count = fixed_count(self.row);
             *self = InstData {
                 place,
                 imm: self.imm,
@@ -217,12 +252,7 @@ impl InstData {
                 nop: None,
                 reg: home_if(numbers::has_register(self.row), homes, self.reg),
                 vvvv: home_if(numbers::has_vvvv(self.row), homes, self.vvvv),
-                fixed: [
-                    home_if(0 < count, homes, a),
-                    home_if(1 < count, homes, b),
-                    home_if(2 < count, homes, c),
-                    home_if(3 < count, homes, d),
-                ],
+                fixed: fixed_homes(self.row, homes, self.fixed),
             };
         }
     }
@@ -270,12 +300,47 @@ fn fixed_count(row: Row) -> usize
     }
 }
 
-/// The number that a table gives for a register, where there is one.
+/// The numbers that a table gives for the registers that a row fixes, which few rows do.
 #[inline(always)]
-fn home_if(present: bool, homes: &[u8; 256], reg: u8) -> u8
-    ensures { result ≡ home_if present homes.now reg }
+fn fixed_homes(row: Row, homes: &[u8; 256], fixed: [u8; 4]) -> [u8; 4]
+    ensures { result ≡ four_homes homes.now (fixed_count row) fixed }
 {
-    if present { home(homes, reg) } else { reg }
+    if has_fixed(row) {
+        return counted_homes(fixed_count(row), homes, fixed);
+    }
+    fixed
+}
+
+/// Whether a row fixes a register. It's tested apart, since the compiler makes a jump of the number of them.
+#[inline(always)]
+fn has_fixed(row: Row) -> bool
+    ensures { result ≡ nat_lt 0 (fixed_count row) }
+{
+    matches!(
+        row,
+        Row::lock_cmpxchg16b_m
+            | Row::lock_cmpxchgb_mr
+            | Row::lock_cmpxchgw_mr
+            | Row::lock_cmpxchgl_mr
+            | Row::lock_cmpxchgq_mr
+            | Row::andb_i
+            | Row::mulxl_rvm
+            | Row::mulxq_rvm
+    )
+}
+
+/// The numbers that a table gives for so many first registers.
+#[inline(never)]
+fn counted_homes(count: usize, homes: &[u8; 256], fixed: [u8; 4]) -> [u8; 4]
+    ensures { result ≡ four_homes homes.now count fixed }
+{
+    let [a, b, c, d] = fixed;
+    [
+        home_if(0 < count, homes, a),
+        home_if(1 < count, homes, b),
+        home_if(2 < count, homes, c),
+        home_if(3 < count, homes, d),
+    ]
 }
 
 /// Whether a row is one that no-operations have.

@@ -6,7 +6,7 @@ use crate::data::InstData;
 use cax64_encoder::content::Content;
 use cax64_encoder::fault::first_fault;
 use cax64_encoder::room::{Measuring, RoomNeeded};
-use cax64_encoder::{Fault, Instruction};
+use cax64_encoder::{EncodeError, Fault, Instruction};
 use cax64_machine_code::row::Row;
 use cax64_operand::{HasOperands, Numbers, RegisterFamily, RegisterVisitor, Task};
 use cax64_sink::{CodeSink, SinkError};
@@ -71,7 +71,19 @@ impl Instruction for InstData {
 
     #[inline(always)]
     fn encode<S: CodeSink>(&self, sink: &mut S) -> Result<(), SinkError> {
-        <Content as Task<Numbers, S>>::take(self.content(), self.its_row(), sink)
+        self.code(&*sink).put(sink)
+    }
+
+    // As the trait has it, but no call: what the test has loaded then stays in registers.
+    #[inline(always)]
+    fn encode_checked<S: CodeSink>(&self, sink: &mut S) -> Result<(), EncodeError> {
+        if let Some(fault) = self.first_fault(&*sink) {
+            return Err(EncodeError::Fault(fault));
+        }
+        match self.encode(sink) {
+            Ok(()) => Ok(()),
+            Err(error) => Err(EncodeError::Sink(error)),
+        }
     }
 }
 

@@ -2,8 +2,10 @@
 #![tactic(auto)]
 
 mod class;
+mod code;
 pub mod data;
 mod encode;
+mod heads;
 pub mod laws;
 mod listing;
 mod make;
@@ -13,6 +15,7 @@ pub mod operands;
 pub mod place;
 mod reading;
 mod short;
+mod tails;
 mod text;
 mod visit;
 pub mod worked;

@@ -1,6 +1,7 @@
 //! The place of an instruction as data: a register, memory, or nothing.
 
 ghost use Rattle.std.specs.Prelude.{◌≡◌, true, slice_index};
+ghost use Rattle.cax64_inst_data.specs.Homes.{home_if};
 ghost use Rattle.cax64_inst_data.specs.Place.{is_plain};
 
 use cax64_address::amode::Scale;
@@ -56,7 +57,7 @@ impl DataPlace {
 
     /// The target of a place relative to the end.
     #[inline(always)]
-    fn relative(&self) -> Option<DeferredTarget>
+    pub(crate) fn relative(&self) -> Option<DeferredTarget>
         ensures { result ≡ relative_by self.now.kind self.now.target }
     {
         match self.kind {
@@ -119,14 +120,8 @@ impl DataPlace {
         ensures vector { is_present self.old.kind ≡ true → xmm_mem_of self.new ≡ renamed_xmm_mem (slice_index homes.now) (slice_index homes.now) (xmm_mem_of self.old) }
         ensures kind { self.new.kind ≡ self.old.kind }
     {
-        match self.kind {
-            PlaceKind::Register | PlaceKind::Base => self.base = home(homes, self.base),
-            PlaceKind::BaseAndIndex => {
-                self.base = home(homes, self.base);
-                self.index = home(homes, self.index);
-            }
-            PlaceKind::Absent | PlaceKind::Label | PlaceKind::Constant | PlaceKind::NoTarget => {}
-        }
+        self.base = home_if(self.kind.has_base(), homes, self.base);
+        self.index = home_if(self.kind.has_index(), homes, self.index);
     }
 
     /// The numbers of the place that this stands for.
@@ -140,7 +135,7 @@ impl DataPlace {
 }
 
 impl PlaceKind {
-    ghost use Rattle.cax64_inst_data.specs.Placed.{has_index};
+    ghost use Rattle.cax64_inst_data.specs.Placed.{has_base, has_index, is_relative};
     ghost use Rattle.cax64_inst_data.specs.Fits.{is_present};
     ghost use Rattle.cax64_inst_data.specs.Operands.{is_register};
 
@@ -152,10 +147,30 @@ impl PlaceKind {
     }
 
     #[inline(always)]
+    pub(crate) fn is_relative(self) -> bool
+        ensures { result ≡ is_relative self }
+    {
+        matches!(
+            self,
+            PlaceKind::Label | PlaceKind::Constant | PlaceKind::NoTarget
+        )
+    }
+
+    #[inline(always)]
     fn is_present(self) -> bool
         ensures { result ≡ is_present self }
     {
         !matches!(self, PlaceKind::Absent)
+    }
+
+    #[inline(always)]
+    fn has_base(self) -> bool
+        ensures { result ≡ has_base self }
+    {
+        matches!(
+            self,
+            PlaceKind::Register | PlaceKind::Base | PlaceKind::BaseAndIndex
+        )
     }
 
     #[inline(always)]
@@ -166,10 +181,12 @@ impl PlaceKind {
     }
 }
 
-/// The number that a table gives for a register.
+/// The number that a table gives for a register, where there is one. It's looked up in any case, and nothing is tested: a
+/// branch would cost more.
 #[inline(always)]
-pub(crate) fn home(homes: &[u8; 256], reg: u8) -> u8
-    ensures { result ≡ slice_index homes.now reg }
+pub(crate) fn home_if(present: bool, homes: &[u8; 256], reg: u8) -> u8
+    ensures { result ≡ home_if present homes.now reg }
 {
-    homes[usize::from(reg)]
+    let home = homes[usize::from(reg)];
+    home * u8::from(present) + reg * u8::from(!present)
 }
