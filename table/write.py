@@ -11,6 +11,7 @@ from pathlib import Path
 import classes
 import enumeration
 import facade
+import fixed
 import index
 import parts
 import rows
@@ -41,6 +42,7 @@ def sources_of(table):
     texts.write(table, sources)
     signatures.write(table, sources)
     classes.write(table, sources, parts.current(ROOT / classes.SOURCE))
+    fixed.write(table, sources)
     facade.write(table, sources)
     return sources
 

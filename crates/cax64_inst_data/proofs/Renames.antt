@@ -20,7 +20,7 @@ use Rattle.cax64_renaming.specs.Renamed.{renamed, renamed_amode, renamed_gpr_mem
 use Rattle.cax64_table.specs.Numbers.{has_register, has_vvvv}
 use Rattle.cax64_inst_data.specs.Data.{kept_of, data_operands}
 use Rattle.cax64_inst_data.specs.Fits.{all_zero, fits, fixed_in, kinds_fit, is_memory, is_present, place_fits}
-use Rattle.cax64_inst_data.specs.Homes.{by_table, fixed_count, four_homes, home_if}
+use Rattle.cax64_inst_data.specs.Homes.{by_table, four_homes, home_if}
 use Rattle.cax64_inst_data.specs.Operands.{Kept, amode_of, filled, gpr_mem_of, head, listed, operand_by, tail, xmm_mem_of}
 use Rattle.cax64_inst_data.specs.Own.{is_place, no_place, own_fixed, own_registers}
 use Rattle.cax64_inst_data.specs.declared.data.InstData.{InstData}
@@ -219,25 +219,20 @@ module _ (d : InstData) (homes : List ℕ) (none : d.nop ≡ None) where
       ∙ listed_renamed homes (filled kinds d.place (kept_of d))
       ∙ ap (λ (o : Operands Numbers ℕ ℕ ℕ ℕ ℕ ℕ). renamed_operands (by_table homes) o) (sym (data_listed d none))
 
-count_is : (row : Row) → fixed_count row ≡ fixed_in (signature_of row)
-unfolding signature_of
-count_is lock_addb_mi = refl
-count_is _ = refl
-
 -- the same of numbers that were found
 pub found_fits : (d : InstData) (homes : List ℕ) (q : DataPlace) (reg vvvv : ℕ) (fs : List ℕ) → d.nop ≡ None → q.kind ≡ d.place.kind
     → reg ≡ home_if (has_register (line_of d.row).tail) homes d.reg → vvvv ≡ home_if (has_vvvv (line_of d.row).prefix) homes d.vvvv
-    → fs ≡ four_homes homes (fixed_count d.row) d.fixed
+    → fs ≡ four_homes homes (fixed_in (signature_of d.row)) d.fixed
     → kinds_fit (signature_of d.row) reg vvvv fs q.kind d.imm ≡ true
 found_fits d homes q reg vvvv fs none same r v f =
-    rw (r, v, f, count_is d.row) (renamed_fits d homes none q same)
+    rw (r, v, f) (renamed_fits d homes none q same)
 
 pub found_are : (d : InstData) (homes : List ℕ) (q : DataPlace) (reg vvvv : ℕ) (fs : List ℕ) → d.nop ≡ None
     → reg ≡ home_if (has_register (line_of d.row).tail) homes d.reg → vvvv ≡ home_if (has_vvvv (line_of d.row).prefix) homes d.vvvv
-    → fs ≡ four_homes homes (fixed_count d.row) d.fixed
+    → fs ≡ four_homes homes (fixed_in (signature_of d.row)) d.fixed
     → (is_present d.place.kind ≡ true → amode_of q ≡ renamed_amode (slice_index homes) (amode_of d.place))
     → (is_present d.place.kind ≡ true → gpr_mem_of q ≡ renamed_gpr_mem (slice_index homes) (slice_index homes) (gpr_mem_of d.place))
     → (is_present d.place.kind ≡ true → xmm_mem_of q ≡ renamed_xmm_mem (slice_index homes) (slice_index homes) (xmm_mem_of d.place))
     → listed (filled (signature_of d.row) q (record { registers = reg ∷ vvvv ∷ []; fixed = fs; imm = d.imm })) ≡ renamed_operands (by_table homes) (data_operands d)
 found_are d homes q reg vvvv fs none r v f amode general vector =
-    rw (r, v, f, count_is d.row) (renamed_are d homes none q (λ h. record { amode = amode h; general = general h; vector = vector h }))
+    rw (r, v, f) (renamed_are d homes none q (λ h. record { amode = amode h; general = general h; vector = vector h }))

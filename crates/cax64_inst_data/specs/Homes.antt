@@ -1,6 +1,4 @@
 use Rattle.std.specs.Prelude.{ℕ, nat_lt, Bool, List, [], ◌∷◌, if◌then◌else◌, slice_index, slice_index_or}
-use Rattle.cax64_machine_code.specs.declared.row.Row.{Row}
-use Rattle.cax64_machine_code.specs.declared.row.Row.TheVariants.{andb_i, lock_cmpxchg16b_m, lock_cmpxchgb_mr, lock_cmpxchgw_mr, lock_cmpxchgl_mr, lock_cmpxchgq_mr, mulxl_rvm, mulxq_rvm}
 use Rattle.cax64_renaming.specs.Renamed.{Renaming}
 
 -- The renaming that a table of 256 numbers is: each register by its number, whatever is done with it.
@@ -11,18 +9,6 @@ by_table homes = record { read_gpr = slice_index homes; read_write_gpr = slice_i
 -- a number where it stands for something
 abbrev pub home_if : Bool → List ℕ → ℕ → ℕ
 home_if present homes reg = if present then slice_index homes reg else reg
-
--- how many registers a row fixes
-abbrev pub fixed_count : Row → ℕ
-fixed_count lock_cmpxchg16b_m = 4
-fixed_count lock_cmpxchgb_mr = 1
-fixed_count lock_cmpxchgw_mr = 1
-fixed_count lock_cmpxchgl_mr = 1
-fixed_count lock_cmpxchgq_mr = 1
-fixed_count andb_i = 1
-fixed_count mulxl_rvm = 1
-fixed_count mulxq_rvm = 1
-fixed_count _ = 0
 
 -- of four fixed registers so many are there
 abbrev pub four_homes : List ℕ → ℕ → List ℕ → List ℕ

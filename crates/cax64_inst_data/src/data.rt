@@ -1,17 +1,15 @@
 //! The type of an instruction as data.
 
-ghost use Rattle.std.specs.Prelude.{◌≡◌, nat_lt, true, None, Some, IfErr, IfOk, OnOk};
+ghost use Rattle.std.specs.Prelude.{◌≡◌, true, None, Some, IfErr, IfOk, OnOk};
 ghost use Rattle.cax64_operand.specs.declared.operand.Operands.TheVariants as operands;
 ghost use Rattle.cax64_inst_data.specs.Refusal.{is_nop_row};
 ghost use Rattle.cax64_operand.specs.NopRow.{nop_row};
-ghost use Rattle.cax64_inst_data.specs.Fits.{expected_of, fits};
-ghost use Rattle.cax64_operand.specs.Signature.{signature_of};
-ghost use Rattle.cax64_inst_data.specs.Encodable.{four};
-ghost use Rattle.cax64_inst_data.specs.Homes.{fixed_count, four_homes};
+ghost use Rattle.cax64_inst_data.specs.Fits.{fits};
 ghost use Rattle.cax64_inst_data.specs.When.{when};
 
 use crate::code::code_of;
 use crate::listing::listed;
+use crate::fixed::{expected, fixed_homes};
 use crate::make::fill;
 use crate::operand::{DataError, DataOperand, absent};
 use crate::place::{DataPlace, home_if};
@@ -25,7 +23,6 @@ use cax64_machine_code::row::Row;
 use cax64_operand::{
     FromOperands, Nop, Numbers, Operands, RegisterFamily, RegisterVisitor, signature,
 };
-use cax64_register::gpr;
 use cax64_sink::CodeSink;
 use cax64_table::numbers;
 
@@ -267,80 +264,6 @@ impl InstData {
             None => self.row,
         }
     }
-}
-
-/// The numbers that the fixed registers of a row have to hold, in the order of visits, and 0 behind them.
-#[tactic(auto, unfolding(cax64_operand::specs::Signature::signature_of))]
-#[inline(always)]
-pub(crate) fn expected(row: Row) -> [u8; 4]
-    ensures { result ≡ four (expected_of (signature_of row)) }
-{
-    match row {
-        Row::lock_cmpxchg16b_m => [gpr::enc::RAX, gpr::enc::RDX, gpr::enc::RCX, gpr::enc::RBX],
-        Row::mulxl_rvm | Row::mulxq_rvm => [gpr::enc::RDX, 0, 0, 0],
-        _ => [0; 4],
-    }
-}
-
-/// How many registers a row fixes.
-#[inline(always)]
-fn fixed_count(row: Row) -> usize
-    ensures { result ≡ fixed_count row }
-{
-    match row {
-        Row::lock_cmpxchg16b_m => 4,
-        Row::lock_cmpxchgb_mr
-        | Row::lock_cmpxchgw_mr
-        | Row::lock_cmpxchgl_mr
-        | Row::lock_cmpxchgq_mr
-        | Row::andb_i
-        | Row::mulxl_rvm
-        | Row::mulxq_rvm => 1,
-        _ => 0,
-    }
-}
-
-/// The numbers that a table gives for the registers that a row fixes, which few rows do.
-#[inline(always)]
-fn fixed_homes(row: Row, homes: &[u8; 256], fixed: [u8; 4]) -> [u8; 4]
-    ensures { result ≡ four_homes homes.now (fixed_count row) fixed }
-{
-    if has_fixed(row) {
-        return counted_homes(fixed_count(row), homes, fixed);
-    }
-    fixed
-}
-
-/// Whether a row fixes a register. It's tested apart, since the compiler makes a jump of the number of them.
-#[inline(always)]
-fn has_fixed(row: Row) -> bool
-    ensures { result ≡ nat_lt 0 (fixed_count row) }
-{
-    matches!(
-        row,
-        Row::lock_cmpxchg16b_m
-            | Row::lock_cmpxchgb_mr
-            | Row::lock_cmpxchgw_mr
-            | Row::lock_cmpxchgl_mr
-            | Row::lock_cmpxchgq_mr
-            | Row::andb_i
-            | Row::mulxl_rvm
-            | Row::mulxq_rvm
-    )
-}
-
-/// The numbers that a table gives for so many first registers.
-#[inline(never)]
-fn counted_homes(count: usize, homes: &[u8; 256], fixed: [u8; 4]) -> [u8; 4]
-    ensures { result ≡ four_homes homes.now count fixed }
-{
-    let [a, b, c, d] = fixed;
-    [
-        home_if(0 < count, homes, a),
-        home_if(1 < count, homes, b),
-        home_if(2 < count, homes, c),
-        home_if(3 < count, homes, d),
-    ]
 }
 
 /// Whether a row is one that no-operations have.

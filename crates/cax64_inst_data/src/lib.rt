@@ -5,6 +5,7 @@ mod class;
 mod code;
 pub mod data;
 mod encode;
+mod fixed;
 mod heads;
 pub mod laws;
 mod listing;

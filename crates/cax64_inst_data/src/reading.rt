@@ -19,7 +19,8 @@ ghost use Rattle.cax64_inst_data.specs.OfReading.{imm_given, index_given, is_dat
 ghost use Rattle.cax64_inst_data.specs.ReadOperands.{PlaceOf, Reads, ReadsMemory, has_size, rest_of};
 ghost use Rattle.cax64_inst_data.specs.When.{when};
 
-use crate::data::{InstData, expected, is_nop_row};
+use crate::data::{InstData, is_nop_row};
+use crate::fixed::expected;
 use crate::numbered::placed;
 use crate::operand::word_of;
 use crate::place::DataPlace;

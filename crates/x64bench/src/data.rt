@@ -1,8 +1,12 @@
 //! The same of instructions as data, and what only data has.
 
 use crate::timing::{ROUNDS, time_if};
-use cranelift_assembler_x64::{InstData, Instruction, encode_each_checked};
+use cranelift_assembler_x64::{
+    Amode, InstData, Instruction, Operand, Operands, Row, encode_each_checked,
+};
+use std::alloc::Global;
 use std::io;
+use std::io::ErrorKind;
 use std::time::{Duration, Instant};
 
 /// What is timed of data.
@@ -27,6 +31,61 @@ impl DataCall {
             DataCall::EncodeChecked => "encode_checked",
         }
     }
+}
+
+/// What `of_mem_reg` makes data of.
+#[derive(Clone, Copy)]
+pub(crate) struct MemReg {
+    row: Row,
+    amode: Amode<u8>,
+    reg: u8,
+}
+
+/// The instructions of a list that are memory and a register, by their fields.
+pub(crate) fn memory_and_register(alloc: Global, insts: &[InstData]) -> io::Result<Vec<MemReg>> {
+    let mut found = Vec::new(alloc);
+    for inst in insts {
+        if let Operands::Two(Operand::ReadAmode(amode), Operand::ReadGpr(reg, _)) = &inst.operands()
+        {
+            let fields = MemReg {
+                row: inst.row(),
+                amode: *amode,
+                reg: *reg,
+            };
+            found
+                .push(fields)
+                .map_err(|_| io::Error::from(ErrorKind::OutOfMemory))?;
+        }
+    }
+    Ok(found)
+}
+
+/// Makes data of each, in place of what was made before. Whether all is made.
+fn make_all(fields: &[MemReg], made: &mut Vec<InstData>) -> bool {
+    made.clear();
+    for MemReg { row, amode, reg } in fields {
+        match InstData::of_mem_reg(*row, *amode, *reg) {
+            Ok(data) => {
+                if made.push(data).is_err() {
+                    return false;
+                }
+            }
+            Err(_) => return false,
+        }
+    }
+    true
+}
+
+/// The best time of all rounds of making data at once.
+pub(crate) fn best_time_of_making(rt: &HostRuntime, fields: &[MemReg]) -> io::Result<Duration> {
+    let mut made = Vec::new(rt.alloc());
+    let mut best = Duration::MAX;
+    for _ in 0..ROUNDS {
+        let start = Instant::now(rt)?;
+        let is_done = make_all(fields, &mut made);
+        best = best.min(time_if(rt, start, is_done)?);
+    }
+    Ok(best)
 }
 
 /// A home for each register: itself, so that all stays encodable.

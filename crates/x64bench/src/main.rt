@@ -7,7 +7,7 @@
 mod data;
 mod timing;
 
-use crate::data::{DATA_CALLS, best_time_of_data};
+use crate::data::{DATA_CALLS, best_time_of_data, best_time_of_making, memory_and_register};
 use crate::timing::{CALLS, best_time, first_unfit};
 use cranelift_assembler_x64::{InstData, Instruction, InstructionText, Numbers, RowAndOperands};
 use named_instructions::fields::Fault;
@@ -70,7 +70,9 @@ fn time_data(rt: &HostRuntime, data: &mut [InstData], code: &mut Vec<u8>) -> io:
         let best = best_time_of_data(rt, call, data, code)?;
         print_time(rt, "data_", call.name(), best, data.len())?;
     }
-    Ok(())
+    let fields = memory_and_register(rt.alloc(), data)?;
+    let best = best_time_of_making(rt, fields.as_slice())?;
+    print_time(rt, "data_", "of_mem_reg", best, fields.len())
 }
 
 fn time_list<I: RowAndOperands<Family = Numbers>>(
