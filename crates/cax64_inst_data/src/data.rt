@@ -8,8 +8,8 @@ ghost use Rattle.cax64_inst_data.specs.Fits.{fits};
 ghost use Rattle.cax64_inst_data.specs.When.{when};
 
 use crate::code::code_of;
-use crate::listing::listed;
 use crate::fixed::{expected, fixed_homes};
+use crate::listing::listed;
 use crate::make::fill;
 use crate::operand::{DataError, DataOperand, absent};
 use crate::place::{DataPlace, home_if};

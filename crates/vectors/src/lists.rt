@@ -8,8 +8,8 @@ use cranelift_assembler_x64::{
     CodeSink, FixedSink, Instruction, Numbers, Recorder, SinkError, all_encodable, encode_each,
     encode_each_whole,
 };
-use named_instructions::fields::{Fault, Fields, parsed};
 use named_instructions::Form;
+use named_instructions::fields::{Fault, Fields, parsed};
 use std::alloc::Global;
 
 /// The size of the fixed sink.

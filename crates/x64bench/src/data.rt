@@ -45,7 +45,10 @@ pub(crate) struct MemReg {
 pub(crate) fn memory_and_register(alloc: Global, insts: &[InstData]) -> io::Result<Vec<MemReg>> {
     let mut found = Vec::new(alloc);
     for inst in insts {
-        if let Operands::Two(Operand::ReadAmode(amode), Operand::ReadGpr(reg, _)) = &inst.operands()
+        if let Operands::Two(
+            Operand::ReadAmode(amode),
+            Operand::ReadGpr(reg, _),
+        ) = &inst.operands()
         {
             let fields = MemReg {
                 row: inst.row(),

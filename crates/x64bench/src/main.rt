@@ -96,7 +96,8 @@ fn time_list<I: RowAndOperands<Family = Numbers>>(
     for inst in insts {
         // Plain numbers are settled.
         if let Some(inst) = InstData::of(inst) {
-            data.push(inst).map_err(|_| io::Error::from(ErrorKind::OutOfMemory))?;
+            data.push(inst)
+                .map_err(|_| io::Error::from(ErrorKind::OutOfMemory))?;
         }
     }
     time_data(rt, data.as_mut_slice(), &mut code)?;

@@ -6,9 +6,7 @@ ghost use Rattle.cranelift_assembler_x64.specs.Text.{nameable};
 ghost use Rattle.cranelift_assembler_x64.specs.Vec.{vec_state};
 
 use cranelift_assembler_x64::reader::read_inst;
-use cranelift_assembler_x64::{
-    Instruction, InstructionText, all_encodable, encode_each,
-};
+use cranelift_assembler_x64::{Instruction, InstructionText, all_encodable, encode_each};
 use std::alloc::{AllocError, Global};
 use std::io;
 use std::io::ErrorKind;

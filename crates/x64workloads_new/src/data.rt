@@ -2,9 +2,7 @@
 //! registers, and a copy of it is renamed by a table of homes, tested and put.
 
 use crate::kinds::{FIRST_FIXED, make};
-use cranelift_assembler_x64::{
-    CodeSink, Constant, Fault, InstData, Instruction, Label, SinkError,
-};
+use cranelift_assembler_x64::{CodeSink, Constant, Fault, InstData, Instruction, Label, SinkError};
 use std::alloc::Global;
 use workload_source::digest::Digest;
 use workload_source::maker::{Maker, OFFSETS};
@@ -247,11 +245,7 @@ fn make_function(
 }
 
 /// So many functions of 20 to 2,000 instructions, with a label for every five to eight of them, and a digest of all code.
-pub(crate) fn functions_of_data(
-    alloc: Global,
-    count: u32,
-    seed: u64,
-) -> Result<Digest, SinkError> {
+pub(crate) fn functions_of_data(alloc: Global, count: u32, seed: u64) -> Result<Digest, SinkError> {
     let mut maker = Maker::of_virtual(seed, 1);
     let mut digest = Digest::new();
     let mut insts = Vec::new(alloc);

@@ -66,8 +66,7 @@ fn job_of(name: &str) -> Option<Job> {
 }
 
 fn run_words(rt: &HostRuntime, job: &str, count: &str, seed: &str) -> io::Result<ExitCode> {
-    let (Some(job), Ok(count), Ok(seed)) =
-        (job_of(job), count.parse::<u32>(), seed.parse::<u64>())
+    let (Some(job), Ok(count), Ok(seed)) = (job_of(job), count.parse::<u32>(), seed.parse::<u64>())
     else {
         println!(rt; "usage: x64workloads_new [JOB COUNT SEED]")?;
         return Ok(ExitCode::from(2));
