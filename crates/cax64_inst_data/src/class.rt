@@ -45,7 +45,7 @@ pub(crate) enum Class {
     RegisterRegisterXmmMemImm8,
 }
 
-/// The class of a row. It is looked up in a table.
+/// The class of a row.
 #[tactic(auto, unfolding(cax64_operand::specs::Signature::signature_of))]
 #[inline(always)]
 pub(crate) fn class_of(row: Row) -> Class
