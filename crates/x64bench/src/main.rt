@@ -8,7 +8,7 @@ mod data;
 mod timing;
 
 use crate::data::{DATA_CALLS, best_time_of_data, best_time_of_making, memory_and_register};
-use crate::timing::{CALLS, best_time, first_unfit};
+use crate::timing::{CALLS, Call, best_time, first_unfit};
 use cranelift_assembler_x64::{InstData, Instruction, InstructionText, Numbers, RowAndOperands};
 use named_instructions::fields::Fault;
 use named_instructions::{Form, Refusal, TakesList, take_list};
@@ -92,6 +92,8 @@ fn time_list<I: RowAndOperands<Family = Numbers>>(
         return refuse(rt, Refusal { number, fault });
     }
     time_calls(rt, "", insts, &mut code)?;
+    let best = best_time(rt, Call::ReadInst, insts, &mut code)?;
+    print_time(rt, "", Call::ReadInst.name(), best, count)?;
     let mut data = Vec::new(rt.alloc());
     for inst in insts {
         // Plain numbers are settled.

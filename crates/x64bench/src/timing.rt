@@ -25,14 +25,13 @@ pub(crate) enum Call {
     ReadInst,
 }
 
-/// In an order in which there is code before it is measured or read.
-pub(crate) const CALLS: [Call; 6] = [
+/// What is timed of each type of instruction, in an order in which there is code before it is measured.
+pub(crate) const CALLS: [Call; 5] = [
     Call::EncodeAll,
     Call::IsEncodable,
     Call::IsEncodableAndEncode,
     Call::EncodedLen,
     Call::ToString,
-    Call::ReadInst,
 ];
 
 impl Call {
