@@ -2,7 +2,8 @@
 
 use crate::timing::{ROUNDS, time_if};
 use cranelift_assembler_x64::{
-    Amode, InstData, Instruction, Operand, Operands, Row, encode_each_checked,
+    Amode, InstData, Instruction, Numbers, Operand, Operands, Row, RowAndOperands,
+    encode_each_checked,
 };
 use std::alloc::Global;
 use std::io;
@@ -31,6 +32,37 @@ impl DataCall {
             DataCall::EncodeChecked => "encode_checked",
         }
     }
+}
+
+/// Makes data of each instruction, in place of what was made before. Whether all is made.
+fn take_all<I: RowAndOperands<Family = Numbers>>(insts: &[I], made: &mut Vec<InstData>) -> bool {
+    made.clear();
+    for inst in insts {
+        match InstData::of(inst) {
+            Some(data) => {
+                if made.push(data).is_err() {
+                    return false;
+                }
+            }
+            None => return false,
+        }
+    }
+    true
+}
+
+/// The best time of all rounds of making data of instructions.
+pub(crate) fn best_time_of_taking<I: RowAndOperands<Family = Numbers>>(
+    rt: &HostRuntime,
+    insts: &[I],
+    made: &mut Vec<InstData>,
+) -> io::Result<Duration> {
+    let mut best = Duration::MAX;
+    for _ in 0..ROUNDS {
+        let start = Instant::now(rt)?;
+        let is_done = take_all(insts, made);
+        best = best.min(time_if(rt, start, is_done)?);
+    }
+    Ok(best)
 }
 
 /// What `of_mem_reg` makes data of.

@@ -7,7 +7,9 @@
 mod data;
 mod timing;
 
-use crate::data::{DATA_CALLS, best_time_of_data, best_time_of_making, memory_and_register};
+use crate::data::{
+    DATA_CALLS, best_time_of_data, best_time_of_making, best_time_of_taking, memory_and_register,
+};
 use crate::timing::{CALLS, Call, best_time, first_unfit};
 use cranelift_assembler_x64::{InstData, Instruction, InstructionText, Numbers, RowAndOperands};
 use named_instructions::fields::Fault;
@@ -95,13 +97,8 @@ fn time_list<I: RowAndOperands<Family = Numbers>>(
     let best = best_time(rt, Call::ReadInst, insts, &mut code)?;
     print_time(rt, "", Call::ReadInst.name(), best, count)?;
     let mut data = Vec::new(rt.alloc());
-    for inst in insts {
-        // Plain numbers are settled.
-        if let Some(inst) = InstData::of(inst) {
-            data.push(inst)
-                .map_err(|_| io::Error::from(ErrorKind::OutOfMemory))?;
-        }
-    }
+    let best = best_time_of_taking(rt, insts, &mut data)?;
+    print_time(rt, "data_", "of", best, count)?;
     time_data(rt, data.as_mut_slice(), &mut code)?;
     Ok(ExitCode::SUCCESS)
 }
