@@ -252,11 +252,15 @@ pub mod evex {
 }
 
 /// Laws: over a sink of fixed size calls succeed exactly where their bytes fit; no string of bytes that is read as an
-/// instruction is shorter than it; operands print alike exactly where their numbers agree.
+/// instruction is shorter than it; operands print alike exactly where their numbers agree; data means the same as the
+/// instruction or the reading that it's made of.
 pub mod laws {
     pub use cax64_address::laws::emit_to_fixed_sink;
     pub use cax64_encode_all::encode_all_to_fixed_sink;
     pub use cax64_encoder::laws::encode_to_fixed_sink;
+    pub use cax64_inst_data::laws::{
+        numbers_mean_the_same, the_length_tells_a_no_operation, what_bytes_have_is_data,
+    };
     pub use cax64_sequence::laws::{encode_each_to_fixed_sink, first_of_a_list};
     pub use cax64_shortest::laws::{len_is_least, whole_instruction_is_shortest};
     pub use cax64_text::laws::laws_of_texts;
