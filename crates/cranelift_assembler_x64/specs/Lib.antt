@@ -76,7 +76,7 @@ pub use Rattle.cax64_inst_data.specs.Operands as DataOperands
 pub use Rattle.cax64_inst_data.specs.Data
 pub use Rattle.cax64_inst_data.specs.Given
 pub use Rattle.cax64_inst_data.specs.Refusal
-pub use Rattle.cax64_inst_data.specs.Made
+pub use Rattle.cax64_inst_data.specs.Made as DataMade
 pub use Rattle.cax64_inst_data.specs.Homes
 pub use Rattle.cax64_inst_data.specs.Numbered
 pub use Rattle.cax64_inst_data.specs.OfReading
