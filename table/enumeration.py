@@ -225,7 +225,9 @@ def proof(struct, number):
     kinds = f"(kinds.ps {GIVEN})"
     at = f"(loose_at N.parts ll {number}) (at N {number}) (making.pays N {number}) (making.tags N {number})"
     late = f"(making.late {VARIANTS - number} tt)"
-    laws = f"making.moved 7 struct N ll tt {number} _ {late} tt {at} (making.the_one {kinds} tt).laws"
+    # A struct without a field is passed as a copy; what its lemma takes besides is found from the parameter's kind.
+    lemma, besides = ("copied", " _ _ _") if struct.nop else ("moved", "")
+    laws = f"making.{lemma} 7 struct N ll tt {number} _ {late} tt {at}{besides} (making.the_one {kinds} tt).laws"
     return [
         f"-- the {number}th variant, which the borrow checker does not cover: Making.antt has the proof",
         *uses_of_proof(struct, within),
