@@ -74,10 +74,12 @@ fn a_selector_makes_data(rt: HostRuntime) {
 
 #[test]
 fn operands_that_a_row_does_not_take_are_refused(rt: HostRuntime) {
-    let register = DataOperand::Register(1);
-    let made = InstData::new(Row::lock_addl_mr, &[register, register]);
+    let made = InstData::new(
+        Row::lock_addl_mr,
+        &[DataOperand::Register(3), DataOperand::Register(1)],
+    );
     assert_eq!(rt; made, Err(DataError::Kind(0)));
-    let made = InstData::new(Row::lock_addl_mr, &[register]);
+    let made = InstData::new(Row::lock_addl_mr, &[DataOperand::Register(1)]);
     assert_eq!(rt; made, Err(DataError::Count(2)));
     let made = InstData::new(Row::jmp_d8, &[DataOperand::Immediate(128)]);
     assert_eq!(rt; made, Err(DataError::Range(0)));
