@@ -77,9 +77,12 @@ def head(row, bits):
 
 
 def head_table(rows):
-    lines = [f"const HEADS: [[u64; 16]; {len(rows)}] = ["]
+    """Four numbers a line, which the formatter would put one by one."""
+    lines = ["#[rattlefmt::skip]", f"const HEADS: [[u64; 16]; {len(rows)}] = ["]
     for row in rows:
-        lines += ["    [", *(f"        {hexadecimal(head(row, bits))}," for bits in range(16)), f"    ], // {row.name}"]
+        numbers = [hexadecimal(head(row, bits)) for bits in range(16)]
+        first, *others, last = [", ".join(numbers[place:place + 4]) for place in range(0, 16, 4)]
+        lines += [f"    [{first}, // {row.name}", *(f"     {four}," for four in others), f"     {last}],"]
     return [*lines, "];"]
 
 

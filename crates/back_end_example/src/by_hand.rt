@@ -1,9 +1,9 @@
 //! Relative fields, patched by hand.
 
-use crate::checked::put_if_encodable;
-use crate::notices::distance;
-use crate::places::at;
-use crate::registers::Regs;
+use client::encode_if_encodable;
+use client::notices::distance;
+use client::places::at;
+use client::registers::Regs;
 use cranelift_assembler_x64::inst::lock_addl_mi_sxb;
 use cranelift_assembler_x64::{DeferredTarget, Label, Notice, Recorder, Simm8};
 use std::alloc::Allocator;
@@ -39,7 +39,7 @@ fn a_field_is_patched_by_hand(rt: HostRuntime) {
     let target = DeferredTarget::Label(label);
     let count: lock_addl_mi_sxb<Regs> = lock_addl_mi_sxb::new(at(target), Simm8::new(-1));
     let mut code = Recorder::new(rt.alloc());
-    assert_eq!(rt; put_if_encodable(&count, &mut code), Ok(true));
+    assert_eq!(rt; encode_if_encodable(&count, &mut code), Ok(true));
     assert_eq!(rt; code.notices(), [Notice::Target(3, target)].as_slice());
     assert_eq!(rt;
         code.bytes(),

@@ -1,7 +1,7 @@
 //! A loop, with a word in front of it, a word behind it and a pool of constants.
 
-use crate::places::at;
-use crate::registers::{Reg, Regs};
+use client::places::at;
+use client::registers::{Reg, Regs};
 use cranelift_assembler_x64::inst::{andps_a, jne_d8, lock_addl_mi_sxb, lock_addl_mr};
 use cranelift_assembler_x64::reader::{Place, read_inst};
 use cranelift_assembler_x64::{

@@ -1,9 +1,9 @@
 //! Instructions, and the bytes that they are encoded as.
 
-use crate::assignment::{Function, Homes};
-use crate::checked::{put_each_if_encodable, put_if_encodable, put_or_tell};
-use crate::places::{FRAME, argument, behind, element};
-use crate::registers::{Reg, Regs};
+use client::assignment::{Function, Homes};
+use client::places::{FRAME, argument, behind, element};
+use client::registers::{Reg, Regs};
+use client::{encode_each_if_encodable, encode_if_encodable, encode_or_tell};
 use cranelift_assembler_x64::inst::{andb_i, lock_addl_mr, lock_cmpxchgl_mr};
 use cranelift_assembler_x64::{
     Amode, Fault, Fixed, FixedSink, Gpr, Imm8, Instruction, Numbers, Recorder, Refused, SinkError,
@@ -49,16 +49,16 @@ fn names_of_registers(rt: HostRuntime) -> Result<(), Fail> {
 fn places_in_memory(rt: HostRuntime) {
     let mut sink = Recorder::new(rt.alloc());
     assert_eq!(rt;
-        put_or_tell(&add(behind(Reg(12), -128), Reg(9)), &mut sink),
+        encode_or_tell(&add(behind(Reg(12), -128), Reg(9)), &mut sink),
         Ok(None)
     );
     assert_eq!(rt;
-        put_or_tell(&add(element(Reg(3), Reg(1)), Reg(2)), &mut sink),
+        encode_or_tell(&add(element(Reg(3), Reg(1)), Reg(2)), &mut sink),
         Ok(None)
     );
     let bytes = [0xF0, 0x45, 0x01, 0x4C, 0x24, 0x80, 0xF0, 0x01, 0x14, 0x8B];
     assert_eq!(rt; sink.bytes(), bytes.as_slice());
-    let fault = put_or_tell(&add(element(Reg(3), Reg(4)), Reg(2)), &mut sink);
+    let fault = encode_or_tell(&add(element(Reg(3), Reg(4)), Reg(2)), &mut sink);
     assert_eq!(rt; fault, Ok(Some(Fault::Index(1))));
 }
 
@@ -67,13 +67,13 @@ fn the_frame_is_known_late(rt: HostRuntime) {
     let count = add(argument(8), Reg(2));
     let mut sink = Recorder::new(rt.alloc());
     assert_eq!(rt;
-        put_or_tell(&count, &mut sink),
+        encode_or_tell(&count, &mut sink),
         Ok(Some(Fault::Unknown(FRAME)))
     );
     sink.set_offset(FRAME, 0x7FFF_FFFF);
-    assert_eq!(rt; put_or_tell(&count, &mut sink), Ok(Some(Fault::Range)));
+    assert_eq!(rt; encode_or_tell(&count, &mut sink), Ok(Some(Fault::Range)));
     sink.set_offset(FRAME, 32);
-    assert_eq!(rt; put_or_tell(&count, &mut sink), Ok(None));
+    assert_eq!(rt; encode_or_tell(&count, &mut sink), Ok(None));
     assert_eq!(rt; sink.bytes(), [0xF0, 0x01, 0x54, 0x24, 0x28].as_slice());
 }
 
@@ -81,9 +81,12 @@ fn the_frame_is_known_late(rt: HostRuntime) {
 fn a_fixed_register_holds_its_number(rt: HostRuntime) {
     let mut sink = Recorder::new(rt.alloc());
     let other = take(behind(Reg(3), 0), Reg(2), Reg(5));
-    assert_eq!(rt; put_or_tell(&other, &mut sink), Ok(Some(Fault::Fixed(2))));
+    assert_eq!(rt;
+        encode_or_tell(&other, &mut sink),
+        Ok(Some(Fault::Fixed(2)))
+    );
     let fixed = take(behind(Reg(3), 0), Reg(2), Reg(0));
-    assert_eq!(rt; put_or_tell(&fixed, &mut sink), Ok(None));
+    assert_eq!(rt; encode_or_tell(&fixed, &mut sink), Ok(None));
     assert_eq!(rt; sink.bytes(), [0xF0, 0x0F, 0xB1, 0x13].as_slice());
 }
 
@@ -101,8 +104,8 @@ fn virtual_registers_get_homes(rt: HostRuntime) {
     let mut sink = Recorder::new(rt.alloc());
     assert_eq!(rt; function.count.first_fault(&sink), Some(Fault::Register(0)));
     function.visit(&mut Homes([Reg(3), Reg(1), Reg(0)]));
-    assert_eq!(rt; put_if_encodable(&function.count, &mut sink), Ok(true));
-    assert_eq!(rt; put_if_encodable(&function.take, &mut sink), Ok(true));
+    assert_eq!(rt; encode_if_encodable(&function.count, &mut sink), Ok(true));
+    assert_eq!(rt; encode_if_encodable(&function.take, &mut sink), Ok(true));
     let bytes = [0xF0, 0x01, 0x0B, 0xF0, 0x0F, 0xB1, 0x4B, 0x04];
     assert_eq!(rt; sink.bytes(), bytes.as_slice());
 }
@@ -130,11 +133,11 @@ fn a_full_sink_holds_whole_instructions(rt: HostRuntime) {
         whole: 2,
         error: SinkError::Full,
     };
-    assert_eq!(rt; put_each_if_encodable(&counts, &mut small), Err(refused));
+    assert_eq!(rt; encode_each_if_encodable(&counts, &mut small), Err(refused));
     assert_eq!(rt;
         small.bytes(),
         [0xF0, 0x01, 0x43, 0x04, 0xF0, 0x01, 0x4B, 0x08].as_slice()
     );
     let mut large = FixedSink::<12>::new();
-    assert_eq!(rt; put_each_if_encodable(&counts, &mut large), Ok(true));
+    assert_eq!(rt; encode_each_if_encodable(&counts, &mut large), Ok(true));
 }

@@ -1,6 +1,6 @@
 //! A sink that keeps bytes and notices.
 
-ghost use Rattle.std.specs.Prelude.{◌≡◌, ◌≤◌, ◌+◌, ℕ, [], length, OnOk, IfErr, IsOk};
+ghost use Rattle.std.specs.Prelude.{◌≡◌, ◌≤◌, ◌+◌, ℕ, [], length, OnOk, IfErr, IsOk, IsTrue};
 ghost use Rattle.std.specs.Int.{to_le_bytes, w32};
 ghost use Rattle.cax64_sink.specs.Room.{HasRoom, FallsBy, count};
 
@@ -64,6 +64,17 @@ impl<A: Allocator> Recorder<A> {
         ensures { result.now ≡ (recorder_state self.now).notices }
     {
         self.told.as_slice()
+    }
+
+    /// Whether there is room for so many more bytes and notices: then [`reserve`](Self::reserve) has nothing to do.
+    #[inline(always)]
+    pub fn has_room(&self, bytes: usize, notices: usize) -> bool
+        ensures bytes { IsTrue result → HasRoom (recorder_state self.now).byte_room bytes }
+        ensures notices { IsTrue result → HasRoom (recorder_state self.now).notice_room notices }
+        ensures both { HasRoom (recorder_state self.now).byte_room bytes → HasRoom (recorder_state self.now).notice_room notices → IsTrue result }
+    {
+        bytes <= self.code.capacity() - self.code.len()
+            && notices <= self.told.capacity() - self.told.len()
     }
 
     /// Makes room for so many more bytes and notices.

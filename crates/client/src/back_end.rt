@@ -1,6 +1,6 @@
 //! The calls that a back end makes, which meet the conditions of `encode` by a test at run time.
 
-ghost use Rattle.std.specs.Prelude.{◌≡◌, IfOk};
+ghost use Rattle.std.specs.Prelude.{◌≡◌, ◌↔◌, All, IfOk, IsTrue};
 ghost use Rattle.cranelift_assembler_x64.specs.Instruction.{can_encode_in, fault_in};
 
 use cranelift_assembler_x64::{
@@ -49,11 +49,15 @@ pub fn encode_all_if_encodable<S: CodeSink>(
     }
 }
 
-/// The same of instructions of any one type, and so of an [`Inst`] over any family of registers.
+/// The same of instructions of any one type, and so of an [`Inst`] over any family of registers. A refusal says how many
+/// are whole.
 pub fn encode_each_if_encodable<I: Instruction, S: CodeSink>(
     insts: &[I],
     sink: &mut S,
-) -> Result<bool, Refused> {
+) -> Result<bool, Refused>
+    ensures { IfOk result (λ done.
+        IsTrue done ↔ All (λ i. IsTrue (can_encode_in (S.state sink.old) (I.meant i))) insts.now) }
+{
     if all_encodable(insts, &*sink) {
         encode_each(insts, sink)?;
         Ok(true)

@@ -1,8 +1,13 @@
-//! What can be proved over the assembler by those who stand on it: each proof here cites public clauses alone.
+//! What can be proved over the assembler by those who stand on it: each proof here cites public clauses alone. With it a back
+//! end in small, through which `docs/BACK_END.md` goes: registers, places, an assignment, checked calls.
 #![tactic(auto)]
 
+pub mod assignment;
 mod back_end;
+pub mod notices;
+pub mod places;
 mod read_back;
+pub mod registers;
 mod renaming;
 mod reserved;
 

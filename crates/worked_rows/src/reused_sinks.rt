@@ -28,3 +28,13 @@ fn a_fixed_sink_is_used_again(rt: HostRuntime) {
     assert!(rt; sink.put2(0x0304) == Ok(()));
     assert!(rt; sink.bytes() == [4, 3].as_slice());
 }
+
+#[test]
+fn a_recorder_has_the_room_that_it_reserved(rt: HostRuntime) {
+    let mut sink = Recorder::new(rt.alloc());
+    assert!(rt; sink.has_room(0, 0) && !sink.has_room(1, 0) && !sink.has_room(0, 1));
+    assert!(rt; sink.reserve(13, 1) == Ok(()) && sink.has_room(13, 1));
+    sink.clear();
+    assert!(rt; sink.has_room(13, 1) && !sink.has_room(usize::MAX, 1));
+    assert!(rt; !sink.has_room(13, usize::MAX));
+}

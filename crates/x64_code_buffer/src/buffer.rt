@@ -19,7 +19,7 @@ ghost use Rattle.x64_code_buffer.specs.declared.errors.BindError.{BindError};
 use crate::bindings::Bindings;
 use crate::errors::{BindError, FinishError};
 use crate::resolve::resolve_uses;
-use crate::room::make_first_room;
+use crate::room::make_room;
 use cax64_encoder::EncodeError;
 use cax64_encoder::instruction::Instruction;
 use cax64_sink::{
@@ -183,9 +183,7 @@ impl<A: Allocator> CodeBuffer<A> {
         ensures filled { let meant = (I.meant inst.now (buffer_state self.old).offsets).parts in (readings : List Reading) → Filled readings (length (buffer_state self.old).bytes) (buffer_state self.old) (places_of self.old) → OnOk result (FilledOn meant readings (buffer_state self.new) (places_of self.new)) }
         ensures refused { OnErr result (StaysFilled self.old self.new) }
     {
-        make_first_room(&mut self.recorder, self.is_fresh);
-        self.is_fresh = false;
-        self.recorder.reserve_ahead(13, 1)?;
+        make_room(&mut self.recorder, &mut self.is_fresh)?;
         inst.encode(&mut self.recorder)
     }
 

@@ -1,10 +1,10 @@
 use Rattle.std.proofs.Common.{◌≡◌, refl, ◌∙◌, ap, sym, List, [], ◌++◌, append-nil, Result, Ok, Err, Some, ℕ}
 use Rattle.std.specs.Prelude.{OnOk, IsSome}
-use Rattle.cranelift_assembler_x64.specs.Instruction.{AddsInstruction}
-use Rattle.cranelift_assembler_x64.specs.Meant.{Meant}
-use Rattle.cranelift_assembler_x64.specs.Reading.{read}
-use Rattle.cranelift_assembler_x64.specs.Sink.{State}
-use Rattle.cranelift_assembler_x64.specs.declared.SinkError.{SinkError}
+use Rattle.cax64_encoder.specs.Instruction.{AddsInstruction}
+use Rattle.cax64_encoder.specs.Meant.{Meant}
+use Rattle.cax64_machine_code.specs.Reading.{read}
+use Rattle.cax64_sink.specs.Sink.{State}
+use Rattle.cax64_sink.specs.declared.SinkError.{SinkError}
 
 -- what an empty sink has got of an instruction has a reading
 pub read_whole : {M : Type 0} (m : Meant M) (s t : State) (r : Result (Unit {0}) SinkError) (u : Unit {0}) → r ≡ Ok u → s.bytes ≡ [] → OnOk r (AddsInstruction m s t) → IsSome (read t.bytes)

@@ -1,12 +1,17 @@
 //! The command `buffer`.
 
 ghost use Rattle.std.specs.Prelude.{◌≢◌, ℕ, ℤ, Option, IsTrue, IfErr};
-ghost use Rattle.cranelift_assembler_x64.specs.Fault.{is_encodable};
+ghost use Rattle.cax64_encoder.specs.Fault.{is_encodable};
 
-use cranelift_assembler_x64::inst::{callq_m, cmpps_a};
-use cranelift_assembler_x64::{
-    Amode, DeferredTarget, GprMem, Imm8, Instruction, Label, Numbers, Xmm, XmmMem,
-};
+use cax64_address::amode::Amode;
+use cax64_address::operand::{GprMem, XmmMem};
+use cax64_encoder::Instruction;
+use cax64_immediate::Imm8;
+use cax64_operand::Numbers;
+use cax64_register::Xmm;
+use cax64_sink::{DeferredTarget, Label};
+use jump::callq_m;
+use simd::cmpps_a;
 use std::alloc::Allocator;
 use x64_code_buffer::CodeBuffer;
 use x64rows_command::Fault;

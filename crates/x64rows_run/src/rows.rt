@@ -1,19 +1,25 @@
 //! The command `rows`.
 
 ghost use Rattle.std.specs.Prelude.{ℕ, ℤ, Option, IsTrue};
-ghost use Rattle.cranelift_assembler_x64.specs.Fault.{is_encodable};
-ghost use Rattle.cranelift_assembler_x64.specs.Text.{nameable};
+ghost use Rattle.cax64_encoder.specs.Fault.{is_encodable};
+ghost use Rattle.cax64_text.specs.Text.{nameable};
 
 use crate::line::push_bytes;
-use cranelift_assembler_x64::inst::{
-    andb_i, andps_a, cmpps_a, je_d32, jmp_d8, lock_addb_mr, lock_addl_mr, lock_addq_mi_sxl,
-    lock_cmpxchg16b_m, mulxq_rvm, nop_9b, shlb_m1, vcmpps_b, vcvtpd2ps_a,
-};
-use cranelift_assembler_x64::reader::read_inst;
-use cranelift_assembler_x64::{
-    Amode, Constant, DeferredTarget, Fixed, FixedSink, Gpr, GprMem, Imm8, Instruction,
-    InstructionText, Numbers, RowAndOperands, Scale, Simm8, Simm32, Xmm, XmmMem,
-};
+use arith::{andb_i, mulxq_rvm, shlb_m1};
+use cax64_address::amode::{Amode, Scale};
+use cax64_address::operand::{GprMem, XmmMem};
+use cax64_encoder::Instruction;
+use cax64_immediate::{Imm8, Simm8, Simm32};
+use cax64_operand::{Numbers, RowAndOperands};
+use cax64_reader::read_inst;
+use cax64_register::{Fixed, Gpr, Xmm};
+use cax64_sink::{Constant, DeferredTarget, FixedSink};
+use cax64_text::InstructionText;
+use jump::{je_d32, jmp_d8};
+use lock_a::{lock_addb_mr, lock_addl_mr, lock_addq_mi_sxl};
+use lock_x::lock_cmpxchg16b_m;
+use nop::nop_9b;
+use simd::{andps_a, cmpps_a, vcmpps_b, vcvtpd2ps_a};
 use std::alloc::{AllocError, Allocator};
 use x64rows_command::{base_and_displacement, base_and_index};
 

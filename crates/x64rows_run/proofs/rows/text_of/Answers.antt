@@ -1,4 +1,4 @@
-use Rattle.cranelift_assembler_x64.specs.FixedSink.{fixed_sink_state}
+use Rattle.cax64_sink.specs.FixedSink.{fixed_sink_state}
 use Rattle.x64rows_run.proofs.Readings.{read_whole}
 use Rattle.x64rows_run.proofs.rows.text_of.Goals as goal
 

@@ -1,4 +1,4 @@
-use Rattle.std.proofs.Common.{refl, subst, ◌≡◌, ◌∙◌, ℕ, ℤ, Option}
+use Rattle.std.proofs.Common.{refl, subst, ◌≡◌, ℕ, ℤ, Option}
 use Rattle.std.specs.Prelude.{OnOk}
 use Rattle.cax64_encoder.specs.Instruction.{AddsInstruction}
 use Rattle.cax64_encoder.specs.Meant.{Meant, len}
@@ -10,19 +10,19 @@ use Rattle.x64_code_buffer.specs.Buffer.{places_of}
 use Rattle.x64_code_buffer.proofs.Filling.{stays_as, adds_from, falls_after_none, if_ok, on_err, pushed}
 use Rattle.x64_code_buffer.proofs.buffer.CodeBuffer.push.Goals as goal
 
-pub returns-in_err-reserve_ahead-clause-refused : goal.returns-in_err-reserve_ahead-clause-refused
-returns-in_err-reserve_ahead-clause-refused g c = on_err c.from_residual.result (λ readings n h.
+pub returns-in_err-make_room-clause-refused : goal.returns-in_err-make_room-clause-refused
+returns-in_err-make_room-clause-refused g c = on_err c.from_residual.result (λ readings n h.
     let places = places_of c.args.self.now in
-    stays_as readings n (recorder_state c.args.self.now.recorder) (recorder_state c.reserve_ahead.new.self) places places (c.reserve_ahead.ensures.bytes ∙ c.make_first_room.ensures.bytes) (c.reserve_ahead.ensures.notices ∙ c.make_first_room.ensures.notices) (λ target. refl) h)
+    stays_as readings n (recorder_state c.args.self.now.recorder) (recorder_state c.make_room.new.recorder) places places c.make_room.ensures.as_before.bytes c.make_room.ensures.as_before.notices (λ target. refl) h)
 
 pub returns-clause-adds : goal.returns-clause-adds
 returns-clause-adds g c =
     let s = recorder_state c.args.self.now.recorder in
-    let u = recorder_state c.reserve_ahead.new.self in
+    let u = recorder_state c.make_room.new.recorder in
     let t = recorder_state c.encode.new.sink in
-    let bytes : u.bytes ≡ s.bytes = c.reserve_ahead.ensures.bytes ∙ c.make_first_room.ensures.bytes in
-    let notices : u.notices ≡ s.notices = c.reserve_ahead.ensures.notices ∙ c.make_first_room.ensures.notices in
-    let offsets : u.offsets ≡ s.offsets = c.reserve_ahead.ensures.offsets ∙ c.make_first_room.ensures.offsets in
+    let bytes : u.bytes ≡ s.bytes = c.make_room.ensures.as_before.bytes in
+    let notices : u.notices ≡ s.notices = c.make_room.ensures.as_before.notices in
+    let offsets : u.offsets ≡ s.offsets = c.make_room.ensures.as_before.offsets in
     let m : Meant g.row.I-Family-ReadGpr.Denot = g.I.Instruction.meant c.args.inst.now s.offsets in
     let adds : OnOk c.encode.result (AddsInstruction m u t) = subst (λ (o : ℕ → Option ℤ). OnOk c.encode.result (AddsInstruction (g.I.Instruction.meant c.args.inst.now o) u t)) offsets c.encode.ensures.adds in
     if_ok c.encode.result (adds_from {m = m} s u t bytes notices refl) adds
@@ -30,34 +30,32 @@ returns-clause-adds g c =
 pub returns-clause-byte_room : goal.returns-clause-byte_room
 returns-clause-byte_room g c =
     let s = recorder_state c.args.self.now.recorder in
-    let v = recorder_state c.make_first_room.new.recorder in
-    let u = recorder_state c.reserve_ahead.new.self in
+    let u = recorder_state c.make_room.new.recorder in
     let t = recorder_state c.encode.new.sink in
     let n = len (g.I.Instruction.meant c.args.inst.now s.offsets) in
-    let offsets : u.offsets ≡ s.offsets = c.reserve_ahead.ensures.offsets ∙ c.make_first_room.ensures.offsets in
+    let offsets : u.offsets ≡ s.offsets = c.make_room.ensures.as_before.offsets in
     let fall : FallsBy u.byte_room t.byte_room n = subst (λ (o : ℕ → Option ℤ). FallsBy u.byte_room t.byte_room (len (g.I.Instruction.meant c.args.inst.now o))) offsets c.encode.ensures.byte_room in
-    falls_after_none s.byte_room v.byte_room t.byte_room n c.make_first_room.ensures.byte_room (falls_after_none v.byte_room u.byte_room t.byte_room n c.reserve_ahead.ensures.byte_room_stays fall)
+    falls_after_none s.byte_room u.byte_room t.byte_room n c.make_room.ensures.as_before.byte_room fall
 
 pub returns-clause-notice_room : goal.returns-clause-notice_room
 returns-clause-notice_room g c =
     let s = recorder_state c.args.self.now.recorder in
-    let v = recorder_state c.make_first_room.new.recorder in
-    let u = recorder_state c.reserve_ahead.new.self in
+    let u = recorder_state c.make_room.new.recorder in
     let t = recorder_state c.encode.new.sink in
     let n = notice_count (g.I.Instruction.meant c.args.inst.now s.offsets) in
-    let offsets : u.offsets ≡ s.offsets = c.reserve_ahead.ensures.offsets ∙ c.make_first_room.ensures.offsets in
+    let offsets : u.offsets ≡ s.offsets = c.make_room.ensures.as_before.offsets in
     let fall : FallsBy u.notice_room t.notice_room n = subst (λ (o : ℕ → Option ℤ). FallsBy u.notice_room t.notice_room (notice_count (g.I.Instruction.meant c.args.inst.now o))) offsets c.encode.ensures.notice_room in
-    falls_after_none s.notice_room v.notice_room t.notice_room n c.make_first_room.ensures.notice_room (falls_after_none v.notice_room u.notice_room t.notice_room n c.reserve_ahead.ensures.notice_room_stays fall)
+    falls_after_none s.notice_room u.notice_room t.notice_room n c.make_room.ensures.as_before.notice_room fall
 
 pub returns-clause-filled : goal.returns-clause-filled
 returns-clause-filled g c readings h =
     let s = recorder_state c.args.self.now.recorder in
-    let u = recorder_state c.reserve_ahead.new.self in
+    let u = recorder_state c.make_room.new.recorder in
     let t = recorder_state c.encode.new.sink in
     let places = places_of c.args.self.now in
-    let bytes : u.bytes ≡ s.bytes = c.reserve_ahead.ensures.bytes ∙ c.make_first_room.ensures.bytes in
-    let notices : u.notices ≡ s.notices = c.reserve_ahead.ensures.notices ∙ c.make_first_room.ensures.notices in
-    let offsets : u.offsets ≡ s.offsets = c.reserve_ahead.ensures.offsets ∙ c.make_first_room.ensures.offsets in
+    let bytes : u.bytes ≡ s.bytes = c.make_room.ensures.as_before.bytes in
+    let notices : u.notices ≡ s.notices = c.make_room.ensures.as_before.notices in
+    let offsets : u.offsets ≡ s.offsets = c.make_room.ensures.as_before.offsets in
     let m : Meant g.row.I-Family-ReadGpr.Denot = g.I.Instruction.meant c.args.inst.now s.offsets in
     let adds : OnOk c.encode.result (AddsInstruction m u t) = subst (λ (o : ℕ → Option ℤ). OnOk c.encode.result (AddsInstruction (g.I.Instruction.meant c.args.inst.now o) u t)) offsets c.encode.ensures.adds in
     let relative : ReadsRelative m = rw offsets at c.encode.ensures.relative in

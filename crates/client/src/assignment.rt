@@ -3,7 +3,7 @@
 ghost use Rattle.std.specs.Prelude.{◌≡◌};
 ghost use Rattle.cranelift_assembler_x64.specs.Visit.{OperandsRun};
 ghost use Rattle.cranelift_assembler_x64.specs.VisitSteps.{Then};
-ghost use Rattle.back_end_example.specs.Homes.{home_of};
+ghost use Rattle.client.specs.Homes.{home_of};
 
 use crate::registers::{Reg, Regs};
 use cranelift_assembler_x64::inst::{lock_addl_mr, lock_cmpxchgl_mr};
