@@ -45,24 +45,35 @@ fn all() -> [Inst<Numbers>; 8] {
     ]
 }
 
-/// Puts a list, which has to be encodable.
-fn put_all<S: CodeSink>(
-    rt: &impl Abort,
-    insts: &[Inst<Numbers>],
-    sink: &mut S,
-) -> Result<(), Refused> {
-    assert!(rt; all_encodable(insts, &*sink));
-    encode_all(insts, sink)
+/// A list that the calls for all kinds put. What is checked of it is written for any such list, and holds no `Inst`.
+trait List: Copy {
+    /// Puts it, which has to be encodable.
+    fn put<S: CodeSink>(self, rt: &impl Abort, sink: &mut S) -> Result<(), Refused>;
+
+    /// The same, all or nothing.
+    fn put_whole(self, rt: &impl Abort, sink: &mut Recorder<Global>) -> Result<(), SinkError>;
+
+    /// Some of it, from one place to before another.
+    fn part(self, rt: &impl Abort, from: usize, to: usize) -> Self;
 }
 
-/// The same, all or nothing.
-fn put_whole(
-    rt: &impl Abort,
-    insts: &[Inst<Numbers>],
-    sink: &mut Recorder<Global>,
-) -> Result<(), SinkError> {
-    assert!(rt; all_encodable(insts, &*sink) && insts.len() <= usize::MAX / 13);
-    encode_all_whole(insts, sink)
+#[derive(Clone, Copy)]
+struct Insts<'a>(&'a [Inst<Numbers>]);
+
+impl List for Insts<'_> {
+    fn put<S: CodeSink>(self, rt: &impl Abort, sink: &mut S) -> Result<(), Refused> {
+        assert!(rt; all_encodable(self.0, &*sink));
+        encode_all(self.0, sink)
+    }
+
+    fn put_whole(self, rt: &impl Abort, sink: &mut Recorder<Global>) -> Result<(), SinkError> {
+        assert!(rt; all_encodable(self.0, &*sink) && self.0.len() <= usize::MAX / 13);
+        encode_all_whole(self.0, sink)
+    }
+
+    fn part(self, rt: &impl Abort, from: usize, to: usize) -> Self {
+        Insts(self.0.get(from..to).expect(rt, "so many instructions"))
+    }
 }
 
 fn length_read(bytes: &[u8]) -> Option<u8> {
@@ -81,78 +92,71 @@ const NOP_AND_MASK: [u8; 11] = [
     0x66, 0x0F, 0x1F, 0x84, 0x00, 0x00, 0x00, 0x00, 0x00, 0x24, 0xAA,
 ];
 
-/// Some of the instructions, from one place to before another.
-fn part<'a>(
-    rt: &impl Abort,
-    insts: &'a [Inst<Numbers>],
-    from: usize,
-    to: usize,
-) -> &'a [Inst<Numbers>] {
-    insts.get(from..to).expect(rt, "so many instructions")
-}
-
 /// Into a vector they go as these bytes.
-fn are_put(rt: &impl Abort, alloc: Global, insts: &[Inst<Numbers>], wanted: &[u8]) {
+fn are_put<L: List>(rt: &impl Abort, alloc: Global, list: L, wanted: &[u8]) {
     let mut sink: Vec<u8> = Vec::new(alloc);
-    assert!(rt; put_all(rt, insts, &mut sink) == Ok(()));
+    assert!(rt; list.put(rt, &mut sink) == Ok(()));
     assert!(rt; sink.as_slice() == wanted);
 }
 
 /// Into a recorder they go whole, as these bytes and without a notice.
-fn are_put_whole(rt: &impl Abort, alloc: Global, insts: &[Inst<Numbers>], wanted: &[u8]) {
+fn are_put_whole<L: List>(rt: &impl Abort, alloc: Global, list: L, wanted: &[u8]) {
     let mut recorder = Recorder::new(alloc);
-    assert!(rt; put_whole(rt, insts, &mut recorder) == Ok(()));
+    assert!(rt; list.put_whole(rt, &mut recorder) == Ok(()));
     assert!(rt; recorder.bytes() == wanted);
     assert!(rt; recorder.notices().is_empty());
 }
 
 /// A sink of five bytes refuses the third, and keeps a front of it.
-fn fill_five(rt: &impl Abort, insts: &[Inst<Numbers>]) {
+fn fill_five<L: List>(rt: &impl Abort, list: L) {
     let full = Refused {
         whole: 2,
         error: SinkError::Full,
     };
     let mut sink = FixedSink::<5>::new();
-    assert!(rt; put_all(rt, insts, &mut sink) == Err(full));
+    assert!(rt; list.put(rt, &mut sink) == Err(full));
     assert!(rt; sink.bytes() == [0x24, 0xAA, 0x90, 0xFF, 0x15].as_slice());
 }
 
 /// A sink of no bytes takes no instruction.
-fn fill_none(rt: &impl Abort, insts: &[Inst<Numbers>]) {
+fn fill_none<L: List>(rt: &impl Abort, list: L) {
     let mut sink = FixedSink::<0>::new();
-    assert!(rt; put_all(rt, insts, &mut sink) == Ok(()));
+    assert!(rt; list.put(rt, &mut sink) == Ok(()));
     assert!(rt; sink.bytes().is_empty());
 }
 
 /// Where the third call of a sink is refused, the trap before it stays told.
-fn stop_behind_a_trap(rt: &impl Abort, alloc: Global, insts: &[Inst<Numbers>]) {
+fn stop_behind_a_trap<L: List>(rt: &impl Abort, alloc: Global, list: L) {
     let third = Refused {
         whole: 1,
         error: SinkError::NoMemory,
     };
     let mut sink = RefusingSink::new(Recorder::new(alloc), 3);
-    assert!(rt; put_all(rt, insts, &mut sink) == Err(third));
+    assert!(rt; list.put(rt, &mut sink) == Err(third));
     let recorder = sink.into_recorder();
     assert!(rt; recorder.bytes() == [0x90, 0xF0].as_slice());
     assert!(rt; tells_trap(recorder.notices(), 1, 5));
 }
 
+fn are_put_as_they_should<L: List>(rt: &impl Abort, alloc: Global, list: L) {
+    are_put(rt, alloc, list.part(rt, 0, 0), &[]);
+    are_put(rt, alloc, list.part(rt, 0, 2), &NOP_AND_MASK);
+    are_put(
+        rt,
+        alloc,
+        list.part(rt, 4, 6),
+        &[0x24, 0x00, 0xF0, 0x01, 0x0C, 0x24],
+    );
+    are_put_whole(rt, alloc, list.part(rt, 0, 2), &NOP_AND_MASK);
+    fill_five(rt, list.part(rt, 1, 4));
+    fill_none(rt, list.part(rt, 0, 0));
+    stop_behind_a_trap(rt, alloc, list.part(rt, 6, 8));
+}
+
 #[test]
 fn lists_of_several_kinds(rt: HostRuntime) {
     let kinds = all();
-    let insts = kinds.as_slice();
-    are_put(&rt, rt.alloc(), part(&rt, insts, 0, 0), &[]);
-    are_put(&rt, rt.alloc(), part(&rt, insts, 0, 2), &NOP_AND_MASK);
-    are_put(
-        &rt,
-        rt.alloc(),
-        part(&rt, insts, 4, 6),
-        &[0x24, 0x00, 0xF0, 0x01, 0x0C, 0x24],
-    );
-    are_put_whole(&rt, rt.alloc(), part(&rt, insts, 0, 2), &NOP_AND_MASK);
-    fill_five(&rt, part(&rt, insts, 1, 4));
-    fill_none(&rt, part(&rt, insts, 0, 0));
-    stop_behind_a_trap(&rt, rt.alloc(), part(&rt, insts, 6, 8));
+    are_put_as_they_should(&rt, rt.alloc(), Insts(kinds.as_slice()));
 }
 
 #[test]

@@ -21,22 +21,22 @@ const BYTES: [u8; 13] = [
     0x90, 0x66, 0x0F, 0x1F, 0x84, 0x00, 0x00, 0x00, 0x00, 0x00, 0xF0, 0x01, 0x08,
 ];
 
-fn put_if_encodable<A: Allocator>(
-    insts: &[Inst<Numbers>],
-    sink: &mut Recorder<A>,
-) -> Result<(), SinkError> {
-    if !all_encodable(insts, &*sink) || insts.len() > usize::MAX / 13 {
-        return Ok(());
-    }
-    encode_all_whole(insts, sink)
-}
-
 /// A no-operation, and an addition that may trap.
 pub(crate) fn two() -> [Inst<Numbers>; 2] {
     [
         Inst::nop_9b(nop_9b::new()),
         Inst::lock_addl_mr(lock_addl_mr::new(TRAPPING, Gpr::new(1))),
     ]
+}
+
+/// Puts both, where they are encodable. No other function of this file holds an `Inst`.
+fn put_two<A: Allocator>(sink: &mut Recorder<A>) -> Result<(), SinkError> {
+    let both = two();
+    let insts = both.as_slice();
+    if !all_encodable(insts, &*sink) || insts.len() > usize::MAX / 13 {
+        return Ok(());
+    }
+    encode_all_whole(insts, sink)
 }
 
 /// A list that is put whole, behind a byte.
@@ -50,11 +50,7 @@ impl Grows for Whole {
             return Outcome::Refused;
         }
         let told = [Notice::Trap(10, CODE)];
-        match (
-            put_if_encodable(&two(), &mut sink),
-            sink.bytes(),
-            sink.notices(),
-        ) {
+        match (put_two(&mut sink), sink.bytes(), sink.notices()) {
             (Ok(()), bytes, notices) if bytes == BYTES.as_slice() && notices == told.as_slice() => {
                 Outcome::Made
             }

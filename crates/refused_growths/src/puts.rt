@@ -7,9 +7,9 @@ use cranelift_assembler_x64::inst::cmpps_a;
 use cranelift_assembler_x64::rex::{Disp, RexPrefix};
 use cranelift_assembler_x64::vex::VexPrefix;
 use cranelift_assembler_x64::{
-    Amode, CodeSink, Constant, DeferredTarget, Imm8, Imm16, Imm64, Inst, Instruction, Label,
-    Notice, Numbers, Recorder, SinkError, TrapCode, Xmm, XmmMem, all_encodable,
-    emit_modrm_sib_disp, encode_all,
+    Amode, CodeSink, Constant, DeferredTarget, Imm8, Imm16, Imm64, Instruction, Label, Notice,
+    Numbers, Recorder, SinkError, TrapCode, Xmm, XmmMem, all_encodable, emit_modrm_sib_disp,
+    encode_all,
 };
 use std::alloc::Allocator;
 use std::num::NonZeroU8;
@@ -66,8 +66,10 @@ fn put_instruction<S: CodeSink>(sink: &mut S) -> Result<(), SinkError> {
     inst.encode(sink)
 }
 
-/// Puts a list, where each of it is encodable.
-fn put_all<S: CodeSink>(insts: &[Inst<Numbers>], sink: &mut S) -> Result<(), SinkError> {
+/// Puts a list of two, where each of it is encodable. No other function of this file holds an `Inst`.
+fn put_list<S: CodeSink>(sink: &mut S) -> Result<(), SinkError> {
+    let both = two();
+    let insts = both.as_slice();
     if !all_encodable(insts, sink) {
         return Ok(());
     }
@@ -89,7 +91,7 @@ impl Put {
             Put::Displacement => Disp::Imm32(128).emit(sink),
             Put::Tail => put_tail(sink),
             Put::Instruction => put_instruction(sink),
-            Put::List => put_all(&two(), sink),
+            Put::List => put_list(sink),
         }
     }
 }

@@ -50,7 +50,7 @@ fn trap_text<A: Allocator + Copy>(alloc: A) -> Result<String<A>, AllocError> {
     code.to_string(alloc)
 }
 
-fn addition() -> Inst<Numbers> {
+fn addition() -> lock_addl_mr<Numbers> {
     let place = Amode::ImmReg {
         base: 12,
         simm32: AmodeOffsetPlusKnownOffset {
@@ -59,27 +59,22 @@ fn addition() -> Inst<Numbers> {
         },
         trap: None,
     };
-    lock_addl_mr::new(place, Gpr::new(9)).into()
+    lock_addl_mr::new(place, Gpr::new(9))
 }
 
-fn shift() -> Inst<Numbers> {
-    shlb_m1::new(GprMem::Gpr(8)).into()
-}
-
-fn conjunction() -> Inst<Numbers> {
-    andps_a::new(Xmm::new(8), XmmMem::Xmm(1)).into()
-}
-
-fn inst_text<A: Allocator + Copy>(alloc: A, inst: &Inst<Numbers>) -> Result<String<A>, AllocError> {
+fn text_of<I: InstructionText, A: Allocator + Copy>(
+    alloc: A,
+    inst: &I,
+) -> Result<String<A>, AllocError> {
     if !inst.nameable() {
         return Ok(String::new(alloc));
     }
     inst.to_string(alloc)
 }
 
-fn inst_text_xed<A: Allocator + Copy>(
+fn text_xed_of<I: InstructionText, A: Allocator + Copy>(
     alloc: A,
-    inst: &Inst<Numbers>,
+    inst: &I,
 ) -> Result<String<A>, AllocError> {
     if !inst.nameable() {
         return Ok(String::new(alloc));
@@ -90,9 +85,34 @@ fn inst_text_xed<A: Allocator + Copy>(
     }
 }
 
-fn inst_term<A: Allocator + Copy>(alloc: A, inst: &Inst<Numbers>) -> Result<String<A>, AllocError> {
+fn term_of<I: InstructionText, A: Allocator + Copy>(
+    alloc: A,
+    inst: &I,
+) -> Result<String<A>, AllocError> {
     let term = inst.features(alloc)?;
     term.to_string(alloc)
+}
+
+/// What an instruction of any form has.
+#[derive(Clone, Copy, Debug)]
+enum Of {
+    Addition,
+    Shift,
+    Conjunction,
+}
+
+/// One function holds an `Inst`, for all three.
+fn made_of_inst<A: Allocator + Copy>(alloc: A, of: Of) -> Result<String<A>, AllocError> {
+    let inst: Inst<Numbers> = match of {
+        Of::Addition => Inst::lock_addl_mr(addition()),
+        Of::Shift => Inst::shlb_m1(shlb_m1::new(GprMem::Gpr(8))),
+        Of::Conjunction => Inst::andps_a(andps_a::new(Xmm::new(8), XmmMem::Xmm(1))),
+    };
+    match of {
+        Of::Addition => text_of(alloc, &inst),
+        Of::Shift => text_xed_of(alloc, &inst),
+        Of::Conjunction => term_of(alloc, &inst),
+    }
 }
 
 impl Text {
@@ -108,9 +128,9 @@ impl Text {
             Text::Few => Gpr::new(Few(13)).to_string(alloc, Size::Doubleword),
             Text::Named => Gpr::new(Named(130)).to_string(alloc, Size::Byte),
             Text::Trap => trap_text(alloc),
-            Text::Inst => inst_text(alloc, &addition()),
-            Text::InstXed => inst_text_xed(alloc, &shift()),
-            Text::InstTerm => inst_term(alloc, &conjunction()),
+            Text::Inst => made_of_inst(alloc, Of::Addition),
+            Text::InstXed => made_of_inst(alloc, Of::Shift),
+            Text::InstTerm => made_of_inst(alloc, Of::Conjunction),
         }
     }
 }

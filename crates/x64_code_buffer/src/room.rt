@@ -48,8 +48,13 @@ pub(crate) fn make_room<A: Allocator>(
     ensures succeeds { HasRoom (recorder_state recorder.old).byte_room 13 → HasRoom (recorder_state recorder.old).notice_room 1 → IsOk result }
     ensures no_memory { IfErr result (λ e. e ≡ SinkError.NoMemory) }
 {
-    if recorder.has_room(13, 1) {
-        return Ok(());
+    // With one test of both the compiler keeps what kind `push`'s instruction is in one more register, which is saved and
+    // restored in each push.
+    if !recorder.has_room(13, 0) {
+        grow(recorder, is_fresh)?;
     }
-    grow(recorder, is_fresh)
+    if !recorder.has_room(0, 1) {
+        grow(recorder, is_fresh)?;
+    }
+    Ok(())
 }
