@@ -312,3 +312,24 @@ impl Grows for Rooms {
 fn each_room_is_refused_in_turn(rt: HostRuntime) {
     assert!(rt; is_refused(rt.alloc(), &Rooms, 5));
 }
+
+/// How often a buffer with so many labels and instructions asks for memory.
+fn requests_of(alloc: Global, labels: u32, count: u32) -> Option<usize> {
+    let heap = TestHeap::refusing(alloc, 0);
+    let mut buffer = CodeBuffer::new(&heap);
+    for _ in 0..labels {
+        buffer.new_label().ok()?;
+    }
+    for _ in 0..count {
+        push(&mut buffer, &compare_with(POOL)).ok()?;
+    }
+    Some(heap.requests())
+}
+
+#[test]
+fn a_function_takes_few_blocks(rt: HostRuntime) {
+    // One for bytes, for notices and for labels.
+    assert_eq!(rt; requests_of(rt.alloc(), 1, 1), Some(3));
+    // Four of each: of 64, 224, 864 and 3,424 bytes, and of 4, 16, 64 and 256 notices and labels.
+    assert_eq!(rt; requests_of(rt.alloc(), 100, 200), Some(12));
+}

@@ -1,6 +1,6 @@
 //! What labels and constants are bound to.
 
-ghost use Rattle.std.specs.Prelude.{ℕ, ◌≡◌, ◌≢◌, ◌↔◌, ◌+◌, ◌^◌, ◌⊎◌, ◌<◌, ◌≤◌, Some, None, Ok, Err, IfOk, IfErr, OnOk, OnErr, IsOk, MatchOption, option_and_then, if◌then◌else◌, is_ok, length, nat_eq, vec_len};
+ghost use Rattle.std.specs.Prelude.{ℕ, ◌≡◌, ◌≢◌, ◌↔◌, ◌+◌, ◌^◌, ◌⊎◌, ◌<◌, ◌≤◌, Some, None, Ok, Err, IfOk, IfErr, OnOk, OnErr, IsOk, MatchOption, option_and_then, if◌then◌else◌, is_ok, length, nat_eq, vec_len, vec_capacity};
 ghost use Rattle.std.specs.HashMap.{get};
 ghost use Rattle.std.below.core.specs.declared.int.u32.TheConstants.{MAX};
 ghost use Rattle.x64_code_buffer.specs.declared.errors.BindError.{BindError};
@@ -20,6 +20,9 @@ type Places<A> = HashMap<u32, usize, BuildHasherDefault<FoldHasher>, A>;
 
 /// For how many labels a first block is, as `Vec::push` would ask for it.
 const FIRST_LABELS: usize = 4;
+
+/// Where there are fewer labels than this, room is made for three times as many more.
+const MANY_LABELS: usize = 64;
 
 /// The places of the labels that were given, by number, and of the constants that are bound.
 ///
@@ -112,10 +115,13 @@ impl<A: Allocator> Bindings<A> {
         if self.labels.len() == u32::MAX as usize {
             return Err(SinkError::Full);
         }
-        if self.labels.capacity() == 0 {
+        let room = self.labels.capacity();
+        if room == 0 {
             self.labels
                 .reserve_exact(FIRST_LABELS)
                 .map_err(|_| SinkError::NoMemory)?;
+        } else if self.labels.len() == room {
+            take_larger_block(&mut self.labels);
         }
         let label = Label(self.labels.len() as u32);
         self.labels.push(None).map_err(|_| SinkError::NoMemory)?;
@@ -216,6 +222,19 @@ impl<A: Allocator + Clone> Bindings<A> {
             return Ok(());
         }
         self.listed.resize(key + 1, None)
+    }
+}
+
+/// Makes room for three times as many labels as there are, where they are few. Where that is refused, there is as much room as
+/// before.
+#[inline(never)]
+fn take_larger_block<A: Allocator>(labels: &mut Vec<Option<usize>, A>)
+    ensures items { labels.new.items ≡ labels.old.items }
+    ensures capacity { vec_capacity labels.old ≤ vec_capacity labels.new }
+{
+    let count = labels.len();
+    if count < MANY_LABELS {
+        let _ = labels.reserve_exact(3 * count);
     }
 }
 
