@@ -23,9 +23,9 @@ def value(operand):
 def named_arm(struct):
     """The arm of a name: the instruction made of its values."""
     name = struct.name
-    if struct.nop:
-        return [f"        {struct.nop} => Some(Inst::{name}({name}::new())),"]
     # A struct without registers may be a late variant, which only its `From` makes.
+    if struct.nop:
+        return [f"        {struct.nop} => Some(Inst::from({name}::new())),"]
     made = f"Inst::{name}" if struct.has_registers else "Inst::from"
     values = [value(operand) for operand in struct.operands]
     begin = f'        "{name}" => Some({made}({name}::new('
