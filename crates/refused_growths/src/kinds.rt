@@ -1,12 +1,13 @@
 //! Lists of instructions of several kinds, put by the calls that are for them.
 
+use crate::lists::encode_whole_if_encodable;
 use cax64_test_support::RefusingSink;
+use client::encode_all_if_encodable;
 use cranelift_assembler_x64::inst::{andb_i, callq_m, lock_addl_mr, nop_1b, nop_9b};
 use cranelift_assembler_x64::reader::read_inst;
 use cranelift_assembler_x64::{
     Amode, AmodeOffsetPlusKnownOffset, CodeSink, DeferredTarget, Fixed, FixedSink, Gpr, GprMem,
-    Imm8, Inst, Instruction, Notice, Numbers, Recorder, Refused, SinkError, TrapCode,
-    all_encodable, encode_all, encode_all_whole,
+    Imm8, Inst, Notice, Numbers, Recorder, Refused, SinkError, TrapCode,
 };
 use std::alloc::Global;
 use std::num::NonZeroU8;
@@ -47,11 +48,11 @@ fn all() -> [Inst<Numbers>; 8] {
 
 /// A list that the calls for all kinds put. What is checked of it is written for any such list, and holds no `Inst`.
 trait List: Copy {
-    /// Puts it, which has to be encodable.
-    fn put<S: CodeSink>(self, rt: &impl Abort, sink: &mut S) -> Result<(), Refused>;
+    /// Puts it if each of it can be encoded, and says whether it did.
+    fn put<S: CodeSink>(self, sink: &mut S) -> Result<bool, Refused>;
 
     /// The same, all or nothing.
-    fn put_whole(self, rt: &impl Abort, sink: &mut Recorder<Global>) -> Result<(), SinkError>;
+    fn put_whole(self, sink: &mut Recorder<Global>) -> Result<bool, SinkError>;
 
     /// Some of it, from one place to before another.
     fn part(self, rt: &impl Abort, from: usize, to: usize) -> Self;
@@ -61,14 +62,12 @@ trait List: Copy {
 struct Insts<'a>(&'a [Inst<Numbers>]);
 
 impl List for Insts<'_> {
-    fn put<S: CodeSink>(self, rt: &impl Abort, sink: &mut S) -> Result<(), Refused> {
-        assert!(rt; all_encodable(self.0, &*sink));
-        encode_all(self.0, sink)
+    fn put<S: CodeSink>(self, sink: &mut S) -> Result<bool, Refused> {
+        encode_all_if_encodable(self.0, sink)
     }
 
-    fn put_whole(self, rt: &impl Abort, sink: &mut Recorder<Global>) -> Result<(), SinkError> {
-        assert!(rt; all_encodable(self.0, &*sink) && self.0.len() <= usize::MAX / 13);
-        encode_all_whole(self.0, sink)
+    fn put_whole(self, sink: &mut Recorder<Global>) -> Result<bool, SinkError> {
+        encode_whole_if_encodable(self.0, sink)
     }
 
     fn part(self, rt: &impl Abort, from: usize, to: usize) -> Self {
@@ -95,14 +94,14 @@ const NOP_AND_MASK: [u8; 11] = [
 /// Into a vector they go as these bytes.
 fn are_put<L: List>(rt: &impl Abort, alloc: Global, list: L, wanted: &[u8]) {
     let mut sink: Vec<u8> = Vec::new(alloc);
-    assert!(rt; list.put(rt, &mut sink) == Ok(()));
+    assert!(rt; list.put(&mut sink) == Ok(true));
     assert!(rt; sink.as_slice() == wanted);
 }
 
 /// Into a recorder they go whole, as these bytes and without a notice.
 fn are_put_whole<L: List>(rt: &impl Abort, alloc: Global, list: L, wanted: &[u8]) {
     let mut recorder = Recorder::new(alloc);
-    assert!(rt; list.put_whole(rt, &mut recorder) == Ok(()));
+    assert!(rt; list.put_whole(&mut recorder) == Ok(true));
     assert!(rt; recorder.bytes() == wanted);
     assert!(rt; recorder.notices().is_empty());
 }
@@ -114,14 +113,14 @@ fn fill_five<L: List>(rt: &impl Abort, list: L) {
         error: SinkError::Full,
     };
     let mut sink = FixedSink::<5>::new();
-    assert!(rt; list.put(rt, &mut sink) == Err(full));
+    assert!(rt; list.put(&mut sink) == Err(full));
     assert!(rt; sink.bytes() == [0x24, 0xAA, 0x90, 0xFF, 0x15].as_slice());
 }
 
 /// A sink of no bytes takes no instruction.
 fn fill_none<L: List>(rt: &impl Abort, list: L) {
     let mut sink = FixedSink::<0>::new();
-    assert!(rt; list.put(rt, &mut sink) == Ok(()));
+    assert!(rt; list.put(&mut sink) == Ok(true));
     assert!(rt; sink.bytes().is_empty());
 }
 
@@ -132,7 +131,7 @@ fn stop_behind_a_trap<L: List>(rt: &impl Abort, alloc: Global, list: L) {
         error: SinkError::NoMemory,
     };
     let mut sink = RefusingSink::new(Recorder::new(alloc), 3);
-    assert!(rt; list.put(rt, &mut sink) == Err(third));
+    assert!(rt; list.put(&mut sink) == Err(third));
     let recorder = sink.into_recorder();
     assert!(rt; recorder.bytes() == [0x90, 0xF0].as_slice());
     assert!(rt; tells_trap(recorder.notices(), 1, 5));

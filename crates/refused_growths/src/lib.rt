@@ -5,6 +5,7 @@
 
 #[cfg(test)]
 mod kinds;
+#[cfg(test)]
 mod lists;
 #[cfg(test)]
 mod process;

@@ -29,14 +29,23 @@ pub(crate) fn two() -> [Inst<Numbers>; 2] {
     ]
 }
 
-/// Puts both, where they are encodable. No other function of this file holds an `Inst`.
-fn put_two<A: Allocator>(sink: &mut Recorder<A>) -> Result<(), SinkError> {
-    let both = two();
-    let insts = both.as_slice();
-    if !all_encodable(insts, &*sink) || insts.len() > usize::MAX / 13 {
-        return Ok(());
+/// Encodes a list all or nothing, if each of it can be encoded and its bytes can be counted, and says whether it did.
+pub(crate) fn encode_whole_if_encodable<A: Allocator>(
+    insts: &[Inst<Numbers>],
+    sink: &mut Recorder<A>,
+) -> Result<bool, SinkError> {
+    if all_encodable(insts, &*sink) && insts.len() <= usize::MAX / 13 {
+        encode_all_whole(insts, sink)?;
+        Ok(true)
+    } else {
+        Ok(false)
     }
-    encode_all_whole(insts, sink)
+}
+
+/// Puts both. No other function of this file holds an `Inst`.
+fn put_two<A: Allocator>(sink: &mut Recorder<A>) -> Result<bool, SinkError> {
+    let both = two();
+    encode_whole_if_encodable(both.as_slice(), sink)
 }
 
 /// A list that is put whole, behind a byte.
@@ -51,9 +60,8 @@ impl Grows for Whole {
         }
         let told = [Notice::Trap(10, CODE)];
         match (put_two(&mut sink), sink.bytes(), sink.notices()) {
-            (Ok(()), bytes, notices) if bytes == BYTES.as_slice() && notices == told.as_slice() => {
-                Outcome::Made
-            }
+            (Ok(true), bytes, notices) if bytes == BYTES.as_slice() && notices == told.as_slice() =>
+                { Outcome::Made }
             (Err(SinkError::NoMemory), [0x90], []) => Outcome::Refused,
             _ => Outcome::Wrong,
         }

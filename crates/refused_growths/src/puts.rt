@@ -2,14 +2,14 @@
 
 use crate::lists::two;
 use cax64_test_support::growth::{Grows, Outcome, is_refused};
+use client::encode_all_if_encodable;
 use cranelift_assembler_x64::evex::EvexPrefix;
 use cranelift_assembler_x64::inst::cmpps_a;
 use cranelift_assembler_x64::rex::{Disp, RexPrefix};
 use cranelift_assembler_x64::vex::VexPrefix;
 use cranelift_assembler_x64::{
     Amode, CodeSink, Constant, DeferredTarget, Imm8, Imm16, Imm64, Instruction, Label, Notice,
-    Numbers, Recorder, SinkError, TrapCode, Xmm, XmmMem, all_encodable, emit_modrm_sib_disp,
-    encode_all,
+    Numbers, Recorder, SinkError, TrapCode, Xmm, XmmMem, emit_modrm_sib_disp,
 };
 use std::alloc::Allocator;
 use std::num::NonZeroU8;
@@ -66,15 +66,11 @@ fn put_instruction<S: CodeSink>(sink: &mut S) -> Result<(), SinkError> {
     inst.encode(sink)
 }
 
-/// Puts a list of two, where each of it is encodable. No other function of this file holds an `Inst`.
+/// Puts a list of two. No other function of this file holds an `Inst`.
 fn put_list<S: CodeSink>(sink: &mut S) -> Result<(), SinkError> {
     let both = two();
-    let insts = both.as_slice();
-    if !all_encodable(insts, sink) {
-        return Ok(());
-    }
-    match encode_all(insts, sink) {
-        Ok(()) => Ok(()),
+    match encode_all_if_encodable(both.as_slice(), sink) {
+        Ok(_) => Ok(()),
         Err(refused) => Err(refused.error),
     }
 }

@@ -1,28 +1,16 @@
 //! The README's example.
 
+use client::encode_all_if_encodable;
 use cranelift_assembler_x64::inst::{andb_i, lock_addl_mr};
 use cranelift_assembler_x64::reader::{RegView, read_inst};
 use cranelift_assembler_x64::{
-    Amode, AmodeOffset, AmodeOffsetPlusKnownOffset, CodeSink, Fixed, Gpr, Imm8, Inst, Instruction,
-    InstructionText, Notice, Numbers, Recorder, Refused, Row, TrapCode, encode_all,
+    Amode, AmodeOffset, AmodeOffsetPlusKnownOffset, Fixed, Gpr, Imm8, Inst, InstructionText,
+    Notice, Numbers, Recorder, Row, TrapCode,
 };
 use std::alloc::{AllocError, Global};
 use std::num::NonZeroU8;
 use std::process::Abort;
 use std::test::Fail;
-
-/// Encodes instructions if each of them can be encoded, and says whether it did.
-fn encode_all_if_encodable<S: CodeSink>(
-    insts: &[Inst<Numbers>],
-    sink: &mut S,
-) -> Result<bool, Refused> {
-    if insts.iter().all(|inst| inst.is_encodable(&*sink)) {
-        encode_all(insts, sink)?;
-        Ok(true)
-    } else {
-        Ok(false)
-    }
-}
 
 /// Whether an instruction has names for its registers, and this text.
 fn prints<I: InstructionText>(alloc: Global, inst: &I, text: &str) -> Result<bool, AllocError> {

@@ -27,6 +27,8 @@ mod registers;
 #[cfg(test)]
 mod reused_sinks;
 #[cfg(test)]
+mod shifts;
+#[cfg(test)]
 mod signatures;
 #[cfg(test)]
 mod sinks;
@@ -36,3 +38,5 @@ mod table;
 mod visits;
 #[cfg(test)]
 mod words;
+#[cfg(test)]
+mod wrapped;

@@ -1,13 +1,13 @@
 //! Texts of addresses, and of a register that an instruction fixes.
 
-use crate::parts::{base, indexed};
+use crate::parts::{base, indexed, is};
 use cax64_address::amode::{Amode, Scale};
 use cax64_address::offset::{AmodeOffset, AmodeOffsetPlusKnownOffset};
 use cax64_address::text::Dialect;
 use cax64_register::{AsReg, Fixed, Size};
 use cax64_test_support::Named;
 use cax64_text::laws::laws_of_texts;
-use std::alloc::{AllocError, Global};
+use std::alloc::Global;
 
 const LATE: Amode<u8> = Amode::ImmReg {
     base: 4,
@@ -18,63 +18,47 @@ const LATE: Amode<u8> = Amode::ImmReg {
     trap: None,
 };
 
-fn prints<R: AsReg>(
-    alloc: Global,
-    amode: Amode<R>,
-    att: &str,
-    xed: &str,
-) -> Result<bool, AllocError> {
-    if !amode.nameable() {
-        return Ok(false);
-    }
-    let first = amode.to_string_in(alloc, Dialect::Att)?;
-    let second = amode.to_string_in(alloc, Dialect::Xed)?;
-    Ok(first.as_str() == att && second.as_str() == xed)
+fn prints<R: AsReg>(alloc: Global, amode: Amode<R>, att: &str, xed: &str) -> bool {
+    amode.nameable()
+        && is(amode.to_string_in(alloc, Dialect::Att), att)
+        && is(amode.to_string_in(alloc, Dialect::Xed), xed)
 }
 
 #[test]
-fn addresses_print_in_both_dialects(rt: HostRuntime) -> Result<(), AllocError> {
+fn addresses_print_in_both_dialects(rt: HostRuntime) {
     let alloc = rt.alloc();
     let least = base(0u8, -2147483648);
-    assert!(rt; prints(alloc, least, "-0x80000000(%rax)", "-0x80000000(%rax)")?);
-    assert!(rt; prints(alloc, LATE, "<offset:7>+(%rsp)", "<offset:7>+(%rsp)")?);
+    assert!(rt; prints(alloc, least, "-0x80000000(%rax)", "-0x80000000(%rax)"));
+    assert!(rt; prints(alloc, LATE, "<offset:7>+(%rsp)", "<offset:7>+(%rsp)"));
     let plain = indexed(13, 9, Scale::One, 0);
-    assert!(rt; prints(alloc, plain, "(%r13, %r9)", "(%r13,%r9,1)")?);
-    assert!(rt; prints(alloc, base(Named(130), 8), "8(v130)", "0x8(v130)")?);
+    assert!(rt; prints(alloc, plain, "(%r13, %r9)", "(%r13,%r9,1)"));
+    assert!(rt; prints(alloc, base(Named(130), 8), "8(v130)", "0x8(v130)"));
     assert!(rt; !base(16u8, 0).nameable());
     laws_of_texts::<u8>();
-    Ok(())
 }
 
 #[test]
-fn displacements_print_in_both_dialects(rt: HostRuntime) -> Result<(), AllocError> {
+fn displacements_print_in_both_dialects(rt: HostRuntime) {
     let alloc = rt.alloc();
     let late = AmodeOffsetPlusKnownOffset {
         simm32: AmodeOffset::new(9),
         offset: Some(7),
     };
-    assert!(rt; late.to_string_in(alloc, Dialect::Att)?.as_str() == "<offset:7>+9");
-    assert!(rt; late.to_string_in(alloc, Dialect::Xed)?.as_str() == "<offset:7>+0x9");
+    assert!(rt; is(late.to_string_in(alloc, Dialect::Att), "<offset:7>+9"));
+    assert!(rt; is(late.to_string_in(alloc, Dialect::Xed), "<offset:7>+0x9"));
+    assert!(rt; is(AmodeOffset::ZERO.to_string_in(alloc, Dialect::Xed), ""));
     assert!(rt;
-        AmodeOffset::ZERO
-            .to_string_in(alloc, Dialect::Xed)?
-            .as_str()
-            == ""
+        is(
+            AmodeOffset::new(-10).to_string_in(alloc, Dialect::Att),
+            "-0xa"
+        )
     );
-    assert!(rt;
-        AmodeOffset::new(-10)
-            .to_string_in(alloc, Dialect::Att)?
-            .as_str()
-            == "-0xa"
-    );
-    Ok(())
 }
 
 #[test]
-fn a_fixed_register_prints_as_the_register_held(rt: HostRuntime) -> Result<(), AllocError> {
+fn a_fixed_register_prints_as_the_register_held(rt: HostRuntime) {
     let held = Fixed::<u8, 0>(9);
     assert!(rt; held.nameable());
-    assert!(rt; held.to_string(rt.alloc(), Some(Size::Word))?.as_str() == "%r9w");
-    assert!(rt; held.to_string(rt.alloc(), None)?.as_str() == "%xmm9");
-    Ok(())
+    assert!(rt; is(held.to_string(rt.alloc(), Some(Size::Word)), "%r9w"));
+    assert!(rt; is(held.to_string(rt.alloc(), None), "%xmm9"));
 }

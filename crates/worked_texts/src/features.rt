@@ -2,7 +2,7 @@
 
 ghost use Rattle.worked_texts.specs.Processor.{answer};
 
-use crate::parts::{Plain, base, gpr, xmm};
+use crate::parts::{Plain, base, gpr, is, xmm};
 use arith::{andb_i, mulxl_rvm, mulxq_rvm};
 use cax64_feature::AvailableFeatures;
 use cax64_immediate::{Imm8, Simm8};
@@ -54,9 +54,7 @@ impl AvailableFeatures for Processor {
 }
 
 fn asks<I: RowAndOperands>(alloc: Global, inst: &I, term: &str) -> Result<bool, AllocError> {
-    let features = inst.features(alloc)?;
-    let text = features.to_string(alloc)?;
-    Ok(text.as_str() == term)
+    Ok(is(inst.features(alloc)?.to_string(alloc), term))
 }
 
 fn product() -> mulxq_rvm<Plain> {

@@ -1,29 +1,36 @@
 //! Texts of immediates.
 
+use crate::parts::is;
 use cax64_immediate::{Extension, Imm8, Imm16, Imm32, Imm64, Simm8, Simm16, Simm32};
-use std::alloc::AllocError;
 
 #[test]
-fn unsigned_immediates_print(rt: HostRuntime) -> Result<(), AllocError> {
+fn unsigned_immediates_print(rt: HostRuntime) {
     let alloc = rt.alloc();
-    assert!(rt; Imm8::new(0xAA).to_string(alloc)?.as_str() == "$0xaa");
-    assert!(rt; Imm16::new(0).to_string(alloc)?.as_str() == "$0x0");
-    assert!(rt; Imm32::from(-1).to_string(alloc)?.as_str() == "$0xffffffff");
-    assert!(rt; Imm64::new(u64::MAX).to_string(alloc)?.as_str() == "$0xffffffffffffffff");
-    Ok(())
+    assert!(rt; is(Imm8::new(0xAA).to_string(alloc), "$0xaa"));
+    assert!(rt; is(Imm16::new(0).to_string(alloc), "$0x0"));
+    assert!(rt; is(Imm32::from(-1).to_string(alloc), "$0xffffffff"));
+    assert!(rt; is(Imm64::new(u64::MAX).to_string(alloc), "$0xffffffffffffffff"));
 }
 
 #[test]
-fn signed_immediates_print_extended(rt: HostRuntime) -> Result<(), AllocError> {
+fn signed_immediates_print_extended(rt: HostRuntime) {
     let alloc = rt.alloc();
     let (byte, word, long) = (Simm8::new(-2), Simm16::new(-2), Simm32::new(-2));
-    assert!(rt; byte.to_string(alloc, Extension::None)?.as_str() == "$0xfe");
-    assert!(rt; byte.to_string(alloc, Extension::SignExtendWord)?.as_str() == "$0xfffe");
-    assert!(rt; word.to_string(alloc, Extension::SignExtendLong)?.as_str() == "$0xfffffffe");
-    let quad = long.to_string(alloc, Extension::SignExtendQuad)?;
-    assert!(rt; quad.as_str() == "$0xfffffffffffffffe");
+    assert!(rt; is(byte.to_string(alloc, Extension::None), "$0xfe"));
+    assert!(rt; is(byte.to_string(alloc, Extension::SignExtendWord), "$0xfffe"));
+    assert!(rt;
+        is(
+            word.to_string(alloc, Extension::SignExtendLong),
+            "$0xfffffffe"
+        )
+    );
+    assert!(rt;
+        is(
+            long.to_string(alloc, Extension::SignExtendQuad),
+            "$0xfffffffffffffffe"
+        )
+    );
     assert!(rt; byte.fits_extension(Extension::SignExtendWord));
     assert!(rt; !word.fits_extension(Extension::SignExtendWord));
     assert!(rt; !long.fits_extension(Extension::SignExtendLong));
-    Ok(())
 }

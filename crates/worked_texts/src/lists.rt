@@ -36,37 +36,44 @@ impl List {
         Ok(List { text, forward })
     }
 
+    fn add_text(
+        self,
+        alloc: Global,
+        operand: Result<String, AllocError>,
+    ) -> Result<List, AllocError> {
+        let operand = operand?;
+        self.add(alloc, operand.as_str())
+    }
+
     fn add_register<R: AsReg>(
         self,
         alloc: Global,
         reg: R,
         size: Option<Size>,
     ) -> Result<List, AllocError> {
-        if !reg.nameable() {
-            return Ok(self);
+        if reg.nameable() {
+            self.add_text(alloc, reg.to_string(alloc, size))
+        } else {
+            Ok(self)
         }
-        let text = reg.to_string(alloc, size)?;
-        self.add(alloc, text.as_str())
     }
 
     fn add_address<R: AsReg>(self, alloc: Global, address: Amode<R>) -> Result<List, AllocError> {
-        if !address.nameable() {
-            return Ok(self);
+        if address.nameable() {
+            self.add_text(alloc, address.to_string_in(alloc, Dialect::Att))
+        } else {
+            Ok(self)
         }
-        let text = address.to_string_in(alloc, Dialect::Att)?;
-        self.add(alloc, text.as_str())
     }
 
     fn add_number(self, alloc: Global, number: u8) -> Result<List, AllocError> {
-        let text = format!(in alloc; "$0x{number:x}")?;
-        self.add(alloc, text.as_str())
+        self.add_text(alloc, format!(in alloc; "$0x{number:x}"))
     }
 
     /// Adds a target that is one digit: the distance from the end of a branch of two bytes.
     fn add_target(self, alloc: Global, distance: i8) -> Result<List, AllocError> {
         let target = i16::from(distance) + 2;
-        let text = format!(in alloc; "{target}")?;
-        self.add(alloc, text.as_str())
+        self.add_text(alloc, format!(in alloc; "{target}"))
     }
 
     fn add_imm(self, alloc: Global, imm: Immediate) -> Result<List, AllocError> {

@@ -6,25 +6,40 @@ use std::alloc::{AllocError, Global};
 /// Room for `0x` and the digits of any number.
 const ROOM: usize = 18;
 
-/// Whether a number prints as the formatting prints it: its digits, these behind `0x`, and as a short number.
-fn prints(alloc: Global, number: u64) -> Result<bool, AllocError> {
+/// Whether a number's digits are those that the formatting prints.
+fn digits_print(alloc: Global, number: u64) -> Result<bool, AllocError> {
     let mut digits = String::with_capacity(alloc, ROOM)?;
     push_hex_digits(&mut digits, number)?;
+    let want = format!(in alloc; "{number:x}")?;
+    Ok(digits.as_str() == want.as_str())
+}
+
+/// Whether they are so behind `0x`.
+fn hexadecimal_prints(alloc: Global, number: u64) -> Result<bool, AllocError> {
     let mut hexadecimal = String::with_capacity(alloc, ROOM)?;
     push_hexadecimal(&mut hexadecimal, number)?;
+    let want = format!(in alloc; "0x{number:x}")?;
+    Ok(hexadecimal.as_str() == want.as_str())
+}
+
+/// Whether it prints as the formatting prints a short number.
+fn short_prints(alloc: Global, number: u64) -> Result<bool, AllocError> {
     let mut short = String::with_capacity(alloc, ROOM)?;
     push_short_number(&mut short, number)?;
-    let want_digits = format!(in alloc; "{number:x}")?;
-    let want_hexadecimal = format!(in alloc; "0x{number:x}")?;
-    let want_short = if number < 10 {
+    let want = if number < 10 {
         format!(in alloc; "{number}")?
     } else {
         format!(in alloc; "0x{number:x}")?
     };
+    Ok(short.as_str() == want.as_str())
+}
+
+/// Whether a number prints as the formatting prints it in each of the three ways.
+fn prints(alloc: Global, number: u64) -> Result<bool, AllocError> {
     Ok(
-        digits.as_str() == want_digits.as_str()
-            && hexadecimal.as_str() == want_hexadecimal.as_str()
-            && short.as_str() == want_short.as_str(),
+        digits_print(alloc, number)?
+            && hexadecimal_prints(alloc, number)?
+            && short_prints(alloc, number)?,
     )
 }
 

@@ -51,20 +51,26 @@ pub(crate) fn xmm_at(reg: u8, displacement: i32) -> XmmMem<u8, u8> {
     XmmMem::Mem(base(reg, displacement))
 }
 
-/// Whether an instruction prints so: its text, and its text as XED prints it, `-` where it has none.
-pub(crate) fn prints<I: RowAndOperands>(
-    alloc: Global,
-    inst: &I,
-    text: &str,
-    xed: &str,
-) -> Result<bool, AllocError> {
-    if !inst.nameable() {
-        return Ok(false);
+/// Whether a text was made, and is this.
+pub(crate) fn is(text: Result<String, AllocError>, want: &str) -> bool {
+    match text {
+        Ok(text) => text.as_str() == want,
+        Err(AllocError) => false,
     }
-    let ordinary = inst.to_string(alloc)?;
-    let other = match inst.to_string_xed(alloc)? {
-        Some(other) => other,
-        None => String::from_str(alloc, "-")?,
-    };
-    Ok(ordinary.as_str() == text && other.as_str() == xed)
+}
+
+/// The same of a text that an instruction may not have, which is `-` then.
+fn is_or_absent(text: Result<Option<String>, AllocError>, want: &str) -> bool {
+    match text {
+        Ok(Some(text)) => text.as_str() == want,
+        Ok(None) => want == "-",
+        Err(AllocError) => false,
+    }
+}
+
+/// Whether an instruction prints so: its text, and its text as XED prints it, `-` where it has none.
+pub(crate) fn prints<I: RowAndOperands>(alloc: Global, inst: &I, text: &str, xed: &str) -> bool {
+    inst.nameable()
+        && is(inst.to_string(alloc), text)
+        && is_or_absent(inst.to_string_xed(alloc), xed)
 }

@@ -1,18 +1,13 @@
-//! The bytes of shifts, and that nothing shorter is read as them.
+//! The bytes of shifts, whose digit of 4 to 7 asks for no REX byte, and that nothing shorter is read as them.
 
-use arith::{sarb_m1, shlb_m1, shrb_m1};
-use cax64_address::amode::Amode;
-use cax64_address::offset::AmodeOffsetPlusKnownOffset;
-use cax64_address::operand::GprMem;
-use cax64_encoder::Instruction;
-use cax64_machine_code::row::Row;
-use cax64_operand::{Numbers, RowAndOperands};
-use cax64_prefix::rex::RexPrefix;
-use cax64_reader::read_inst;
-use cax64_shortest::laws::{len_is_least, whole_instruction_is_shortest};
 use cax64_shortest::worked::encode_shortest;
-use cax64_sink::{DeferredTarget, FixedSink, Label, Notice, Recorder};
-use nop::nop_3b;
+use cranelift_assembler_x64::inst::{nop_3b, sarb_m1, shlb_m1, shrb_m1};
+use cranelift_assembler_x64::laws::{len_is_least, whole_instruction_is_shortest};
+use cranelift_assembler_x64::reader::read_inst;
+use cranelift_assembler_x64::{
+    Amode, AmodeOffsetPlusKnownOffset, DeferredTarget, FixedSink, GprMem, Instruction, Label,
+    Notice, Numbers, Recorder, RexPrefix, Row, RowAndOperands,
+};
 use std::process::Abort;
 
 /// That an instruction has these bytes, and as many as are told before.

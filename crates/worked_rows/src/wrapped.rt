@@ -1,13 +1,11 @@
-//! An instruction of another type that does what one within does, but for the call that has a body in the trait.
+//! An instruction of another type, which implements the trait by hand: it does what one within does, but for the call that
+//! has a body in the trait.
 
-use arith::shrb_m1;
-use cax64_address::amode::Amode;
-use cax64_address::offset::AmodeOffsetPlusKnownOffset;
-use cax64_address::operand::GprMem;
-use cax64_encoder::{Fault, Instruction};
-use cax64_machine_code::row::Row;
-use cax64_operand::{HasOperands, Numbers, RegisterVisitor};
-use cax64_sink::{CodeSink, DeferredTarget, Label, Recorder, SinkError, TrapCode};
+use cranelift_assembler_x64::inst::shrb_m1;
+use cranelift_assembler_x64::{
+    Amode, AmodeOffsetPlusKnownOffset, CodeSink, DeferredTarget, Fault, GprMem, HasOperands,
+    Instruction, Label, Numbers, Recorder, RegisterVisitor, Row, SinkError, TrapCode,
+};
 use std::alloc::Global;
 use std::num::NonZeroU8;
 use std::process::Abort;
