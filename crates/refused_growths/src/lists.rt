@@ -42,7 +42,7 @@ pub(crate) fn encode_whole_if_encodable<A: Allocator>(
     }
 }
 
-/// Puts both. No other function of this file holds an `Inst`.
+/// Puts both.
 fn put_two<A: Allocator>(sink: &mut Recorder<A>) -> Result<bool, SinkError> {
     let both = two();
     encode_whole_if_encodable(both.as_slice(), sink)
