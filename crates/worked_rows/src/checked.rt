@@ -81,30 +81,19 @@ fn a_fault_is_found_and_the_sink_is_as_before(rt: HostRuntime) {
     assert!(rt; fault_of(alloc, &based(8, i32::MAX, Some(3))) == Some(Fault::Range));
 }
 
-/// What a checked call answers to a sink of fixed size, and the bytes that it leaves there.
-fn left_in<I: Instruction, const N: usize>(
-    inst: &I,
-    sink: &mut FixedSink<N>,
-    wanted: &[u8],
-) -> Option<Result<(), EncodeError>> {
-    let answer = inst.encode_checked(sink);
-    if sink.bytes() == wanted {
-        Some(answer)
-    } else {
-        None
-    }
-}
-
 #[test]
 fn a_sink_refuses_as_ever(rt: HostRuntime) {
+    let full = Err(EncodeError::Sink(SinkError::Full));
     let mut five = FixedSink::<5>::new();
-    let refused = Err(EncodeError::Sink(SinkError::Full));
-    assert!(rt; left_in(&call(), &mut five, &[0xFF, 0x15]) == Some(refused));
+    assert!(rt; call().encode_checked(&mut five) == full);
+    assert!(rt; five.bytes() == [0xFF, 0x15].as_slice());
     let mut six = FixedSink::<6>::new();
-    assert!(rt; left_in(&call(), &mut six, &[0xFF, 0x15, 0, 0, 0, 0]) == Some(Ok(())));
+    assert!(rt; call().encode_checked(&mut six) == Ok(()));
+    assert!(rt; six.bytes() == [0xFF, 0x15, 0, 0, 0, 0].as_slice());
     let mut none = FixedSink::<0>::new();
     let fault = Err(EncodeError::Fault(Fault::Fixed(0)));
-    assert!(rt; left_in(&mask(42, 0), &mut none, &[]) == Some(fault));
+    assert!(rt; mask(42, 0).encode_checked(&mut none) == fault);
+    assert!(rt; none.bytes().is_empty());
     let mut first = RefusingSink::new(Recorder::new(rt.alloc()), 0);
     assert!(rt; call().encode_checked(&mut first) == Err(EncodeError::Sink(SinkError::NoMemory)));
 }

@@ -14,7 +14,7 @@ use cranelift_assembler_x64::inst::{
 use cranelift_assembler_x64::reader::read_inst;
 use cranelift_assembler_x64::{
     Amode, AmodeOffset, AmodeOffsetPlusKnownOffset, DeferredTarget, Fixed, FixedSink, Gpr, GprMem,
-    Imm8, Instruction, Label, NonRspGpr, Scale, TrapCode, Xmm, XmmMem,
+    Imm8, Instruction, Label, NonRspGpr, RowAndOperands, Scale, TrapCode, Xmm, XmmMem,
 };
 use std::num::NonZeroU8;
 
@@ -68,8 +68,14 @@ fn plain_based(base: u8) -> Amode<u8> {
     }
 }
 
-fn made(row: Row, operands: &[DataOperand]) -> Option<InstData> {
-    InstData::new(row, operands).ok()
+/// Whether an instruction is data, and that of a row and operands.
+fn is_data<I: RowAndOperands + Drop>(inst: I, row: Row, operands: &[DataOperand]) -> bool {
+    let found = InstData::of(&inst);
+    found.is_some() && found == InstData::new(row, operands).ok()
+}
+
+fn is_no_data<I: RowAndOperands + Drop>(inst: I) -> bool {
+    InstData::of(&inst).is_none()
 }
 
 fn addition(base: u32, index: u32, register: u32) -> lock_addl_mr<Before> {
@@ -83,7 +89,7 @@ fn an_instruction_is_data_by_its_numbers(rt: HostRuntime) {
         DataOperand::Memory(plain_indexed(13, 9)),
         DataOperand::Register(8),
     ];
-    assert!(rt; InstData::of(&addition(13, 9, 8)) == made(Row::lock_addl_mr, &sum));
+    assert!(rt; is_data(addition(13, 9, 8), Row::lock_addl_mr, &sum));
 
     let product = mulxl_rvm::<Before>::new(
         reg(3),
@@ -96,15 +102,15 @@ fn an_instruction_is_data_by_its_numbers(rt: HostRuntime) {
         DataOperand::Register(7),
         DataOperand::Register(2),
     ];
-    assert!(rt; InstData::of(&product) == made(Row::mulxl_rvm, &operands));
+    assert!(rt; is_data(product, Row::mulxl_rvm, &operands));
 
     let mask = andb_i::<Before>::new(Fixed(Virtual(0)), Imm8::new(200));
     let operands = [DataOperand::Register(0), DataOperand::Immediate(200)];
-    assert!(rt; InstData::of(&mask) == made(Row::andb_i, &operands));
+    assert!(rt; is_data(mask, Row::andb_i, &operands));
 
     let and = andps_a::<Before>::new(Xmm::new(Virtual(12)), XmmMem::Xmm(Virtual(4)));
     let operands = [DataOperand::Register(12), DataOperand::Register(4)];
-    assert!(rt; InstData::of(&and) == made(Row::andps_a, &operands));
+    assert!(rt; is_data(and, Row::andps_a, &operands));
 
     let exchange = lock_cmpxchg16b_m::<Before>::new(
         based(6),
@@ -120,7 +126,7 @@ fn an_instruction_is_data_by_its_numbers(rt: HostRuntime) {
         DataOperand::Register(1),
         DataOperand::Register(3),
     ];
-    assert!(rt; InstData::of(&exchange) == made(Row::lock_cmpxchg16b_m, &operands));
+    assert!(rt; is_data(exchange, Row::lock_cmpxchg16b_m, &operands));
 
     assert!(rt; InstData::of(&nop_7b::new()) == Some(InstData::nop(Nop::Seven)));
 }
@@ -130,27 +136,26 @@ fn memory_that_is_settled_later_is_kept(rt: HostRuntime) {
     let target = DeferredTarget::Label(Label(7));
     let call = callq_m::<Before>::new(GprMem::Mem(Amode::RipRelative { target }));
     let operands = [DataOperand::Memory(Amode::RipRelative { target })];
-    assert!(rt; InstData::of(&call) == made(Row::callq_m, &operands));
+    assert!(rt; is_data(call, Row::callq_m, &operands));
     let call = callq_m::<Before>::new(GprMem::Mem(based(13)));
     let operands = [DataOperand::Memory(plain_based(13))];
-    assert!(rt; InstData::of(&call) == made(Row::callq_m, &operands));
+    assert!(rt; is_data(call, Row::callq_m, &operands));
     let and = andps_a::<Before>::new(Xmm::new(Virtual(12)), XmmMem::Mem(indexed(13, 9)));
     let operands = [
         DataOperand::Register(12),
         DataOperand::Memory(plain_indexed(13, 9)),
     ];
-    assert!(rt; InstData::of(&and) == made(Row::andps_a, &operands));
+    assert!(rt; is_data(and, Row::andps_a, &operands));
 }
 
 #[test]
 fn an_instruction_with_a_virtual_register_is_no_data(rt: HostRuntime) {
-    assert!(rt; InstData::of(&addition(13, 9, 20)).is_none());
-    assert!(rt; InstData::of(&addition(13, 20, 8)).is_none());
-    assert!(rt; InstData::of(&addition(20, 9, 8)).is_none());
-    let add = lock_xaddl_mr::<Before>::new(based(16), reg(1));
-    assert!(rt; InstData::of(&add).is_none());
+    assert!(rt; is_no_data(addition(13, 9, 20)));
+    assert!(rt; is_no_data(addition(13, 20, 8)));
+    assert!(rt; is_no_data(addition(20, 9, 8)));
+    assert!(rt; is_no_data(lock_xaddl_mr::<Before>::new(based(16), reg(1))));
     let mask = andb_i::<Before>::new(Fixed(Virtual(16)), Imm8::new(1));
-    assert!(rt; InstData::of(&mask).is_none());
+    assert!(rt; is_no_data(mask));
 }
 
 fn read(bytes: &[u8]) -> Option<InstData> {
