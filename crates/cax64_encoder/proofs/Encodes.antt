@@ -37,7 +37,7 @@ use Rattle.cax64_sink.specs.Puts.{puts}
 use Rattle.cax64_sink.proofs.PutRuns.{all_bytes-puts, all_notices-puts}
 use Rattle.cax64_encoder.specs.Form.{reg_fits}
 use Rattle.cax64_encoder.specs.ImmActions.{imm_actions, optional_imm_actions}
-use Rattle.cax64_encoder.specs.Line.{first_byte, is_digit}
+use Rattle.cax64_table.specs.Entry.{first_byte, is_digit}
 use Rattle.cax64_table.specs.Numbers.{uses_8bit_reg, uses_8bit_place}
 use Rattle.cax64_encoder.specs.Notices.{trap_notice}
 use Rattle.cax64_encoder.specs.Number.{number_value}

@@ -20,7 +20,7 @@ use Rattle.cax64_sink.specs.Puts.{puts}
 use Rattle.cax64_sink.specs.Rest.{long_actions}
 use Rattle.cax64_sink.proofs.PutRuns.{puts-append}
 use Rattle.cax64_encoder.specs.ByteWhen.{byte_of}
-use Rattle.cax64_encoder.specs.Line.{is_line, prefix_size}
+use Rattle.cax64_table.specs.Entry.{is_line, prefix_size}
 use Rattle.cax64_encoder.proofs.Encodes.{opcode_length}
 use Rattle.cax64_encoder.proofs.Lines.{line_facts}
 

@@ -27,7 +27,7 @@ use Rattle.cax64_encoder.proofs.Opcode.{opcode_actions}
 use Rattle.cax64_encoder.specs.Encodes.{form_parts}
 use Rattle.cax64_encoder.specs.Form.{Form, tail_fits, vvvv_fits, fits}
 use Rattle.cax64_encoder.specs.ImmActions.{optional_imm_actions}
-use Rattle.cax64_encoder.specs.Line.{is_8bit_once, is_line}
+use Rattle.cax64_table.specs.Entry.{is_8bit_once, is_line}
 use Rattle.cax64_table.specs.Numbers.{has_8bit}
 use Rattle.cax64_encoder.specs.Number.{number_value}
 use Rattle.cax64_encoder.specs.Place.{place_read}
@@ -102,7 +102,7 @@ prefix_same : {M : Type 0} (enc : M → ℕ) (row : Row) (disp : ℤ) (line : Li
 prefix_same enc row disp line o (LegacyField set rex) hl hf = rw (rex_same enc row disp line o hl hf) refl
 prefix_same enc row disp line o (VexField pp map l vvvv) hl hf = rw (place_high_same enc disp (imm_size o.imm) o.place) refl
 
-line_is : {M : Type 0} (enc : M → ℕ) (row : Row) (line : Line) (o : Form M) (disp : ℤ) (trap : Option TrapCode) (pre tail : List Action) → is_line line ≡ true → fits line o ≡ true → length (all_bytes pre) ≡ written_prefix_len enc line.prefix line (register_number o.reg) o.place → length (all_bytes tail) ≡ tail_len (place_read enc disp (imm_size o.imm) o.place) → length (all_bytes (instruction_actions line trap pre tail o)) ≡ line_len line (form_parts enc row disp o)
+pub line_is : {M : Type 0} (enc : M → ℕ) (row : Row) (line : Line) (o : Form M) (disp : ℤ) (trap : Option TrapCode) (pre tail : List Action) → is_line line ≡ true → fits line o ≡ true → length (all_bytes pre) ≡ written_prefix_len enc line.prefix line (register_number o.reg) o.place → length (all_bytes tail) ≡ tail_len (place_read enc disp (imm_size o.imm) o.place) → length (all_bytes (instruction_actions line trap pre tail o)) ≡ line_len line (form_parts enc row disp o)
 line_is enc row line o disp trap pre tail hl hf hp ht =
     let q = and_parts (vvvv_fits line.prefix o.vvvv) (imm_fits line.imm o.imm) (and_parts (tail_fits line.tail o.reg o.place) _ hf).1 in
     let whole = five_lengths (trap_actions trap) pre (opcode_actions line.opcode) tail (optional_imm_actions o.imm) (trap_bytes trap) in

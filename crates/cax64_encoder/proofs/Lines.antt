@@ -7,7 +7,7 @@ use Rattle.cax64_prefix.proofs.Prefixes.{IsPlain}
 use Rattle.cax64_machine_code.specs.Len.{opcode_len, is_w1}
 use Rattle.cax64_machine_code.specs.Line.{imm_bytes, w_matches}
 use Rattle.cax64_machine_code.specs.declared.line.Line.{Line}
-use Rattle.cax64_encoder.specs.Line.{is_plain, first_byte, is_prefix_field, is_w, is_w0, has_tail, is_digit, prefix_size, tail_size, is_8bit_once, is_line}
+use Rattle.cax64_table.specs.Entry.{is_plain, first_byte, is_prefix_field, is_w, is_w0, has_tail, is_digit, prefix_size, tail_size, is_8bit_once, is_line}
 use Rattle.cax64_table.specs.Numbers.{has_8bit, is_vex}
 
 neither : (a b : Bool) → not (a || b) ≡ true → (a ≡ false) × (not b ≡ true)

@@ -29,7 +29,7 @@ use Rattle.cax64_prefix.specs.declared.vex.VexPrefix.TheVariants.{TwoByte, Three
 use Rattle.cax64_prefix.proofs.RexBits.{AreBits}
 use Rattle.cax64_prefix.proofs.Prefixes.{legacy_bytes, prefix_back, prefix_vex}
 use Rattle.cax64_encoder.specs.Form.{is_no_place, is_absent, vvvv_fits}
-use Rattle.cax64_encoder.specs.Line.{first_byte, is_line, is_prefix_field, is_w0, has_tail}
+use Rattle.cax64_table.specs.Entry.{first_byte, is_line, is_prefix_field, is_w0, has_tail}
 use Rattle.cax64_table.specs.Numbers.{byte_when, set_bytes, legacy_bytes_of, is_vex, has_pp, has_map, has_l, has_8bit, uses_8bit_reg, uses_8bit_place}
 use Rattle.cax64_encoder.specs.Number.{number_value, is_real_number}
 use Rattle.cax64_encoder.specs.Prefix.{PrefixFor, rex_stands, place_special, place_high, amode_high}

@@ -4,7 +4,7 @@ use Rattle.cax64_machine_code.specs.Rows.{line_of}
 use Rattle.cax64_machine_code.specs.declared.row.Row.{Row}
 use Rattle.cax64_machine_code.specs.declared.row.Row.TheVariants.{lock_addb_mi}
 use Rattle.cax64_sink.specs.Rest.{is_imm_len}
-use Rattle.cax64_encoder.specs.Line.{is_line}
+use Rattle.cax64_table.specs.Entry.{is_line}
 
 -- each row of the table can be encoded
 pub row_is_line : (row : Row) → is_line (line_of row) ≡ true

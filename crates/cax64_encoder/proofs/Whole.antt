@@ -44,7 +44,7 @@ use Rattle.cax64_encoder.specs.Encodes.{TailPartOf, EncodesParts, form_parts}
 use Rattle.cax64_encoder.specs.Form.{Form, fits, tail_fits, reg_fits, place_fits, is_no_place, is_absent, vvvv_fits}
 use Rattle.cax64_encoder.specs.ImmActions.{optional_imm_actions}
 use Rattle.cax64_encoder.specs.Instruction.{ShortestFor}
-use Rattle.cax64_encoder.specs.Line.{first_byte, has_tail, is_line, is_digit, tail_size}
+use Rattle.cax64_table.specs.Entry.{first_byte, has_tail, is_line, is_digit, tail_size}
 use Rattle.cax64_encoder.specs.Notices.{trap_notice, notices_of}
 use Rattle.cax64_encoder.specs.Number.{number_value}
 use Rattle.cax64_encoder.specs.Place.{place_read, memory_in}

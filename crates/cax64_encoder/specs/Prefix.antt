@@ -13,7 +13,7 @@ use Rattle.cax64_machine_code.specs.declared.line.RegField.TheVariants.{Digit, R
 use Rattle.cax64_machine_code.specs.declared.line.TailField.{TailField}
 use Rattle.cax64_machine_code.specs.declared.line.TailField.TheVariants.{NoTail, Modrm}
 use Rattle.cax64_prefix.specs.Rex.{is_special_if_8bit}
-use Rattle.cax64_encoder.specs.Line.{first_byte, prefix_size}
+use Rattle.cax64_table.specs.Entry.{first_byte, prefix_size}
 use Rattle.cax64_table.specs.Numbers.{has_8bit, uses_8bit_reg, uses_8bit_place}
 use Rattle.cax64_encoder.specs.Number.{number_value}
 use Rattle.cax64_encoder.specs.Real.{place_x, place_b}

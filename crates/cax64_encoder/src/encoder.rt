@@ -1,13 +1,15 @@
 //! From a row of the table and operands to the code of an instruction.
 
-ghost use Rattle.std.specs.Prelude.{◌≡◌, ◌∷◌, [], ◌==◌, ◌<◌, ◌≤◌, ◌/◌, ◌&&◌, ◌||◌, ◌↔◌, nat_le, IsTrue, IsSome, Option, option_map, length};
+ghost use Rattle.std.specs.Prelude.{◌≡◌, ◌∷◌, [], ◌==◌, ◌<◌, ◌≤◌, ◌/◌, ◌&&◌, ◌||◌, ◌↔◌, nat_le, IsTrue, IsSome, Option, OnOk, option_map, length};
 ghost use Rattle.std.specs.Int.{from_bool};
 ghost use Rattle.cax64_address.specs.Emitted as address;
 ghost use Rattle.cax64_address.specs.Memory.{memory_actions};
 ghost use Rattle.cax64_encoder.specs.Code.{IsCode, tail_actions, code_actions};
 ghost use Rattle.cax64_encoder.specs.Encodes.{TailPartOf, EncodesParts, EncodesAs, form_parts};
+ghost use Rattle.cax64_encoder.specs.AddsLine.{AddsLine};
+ghost use Rattle.cax64_encoder.specs.EncodesLine.{EncodesLine, line_form_parts};
 ghost use Rattle.cax64_encoder.specs.Form.{is_no_place, vvvv_fits, fits};
-ghost use Rattle.cax64_encoder.specs.Line.{has_tail};
+ghost use Rattle.cax64_table.specs.Entry.{has_tail};
 ghost use Rattle.cax64_encoder.specs.Meant.{meant_of};
 ghost use Rattle.cax64_encoder.specs.Numbered.{HasImmWord, IsNumbered, plain, place_named, form_named, place_is_real, form_is_real};
 ghost use Rattle.cax64_encoder.specs.Place.{memory_in, place_read};
@@ -16,9 +18,11 @@ ghost use Rattle.cax64_encoder.specs.Real.{is_absent_or_real};
 ghost use Rattle.cax64_encoder.specs.Task.{Asked, Kept};
 ghost use Rattle.cax64_encoder.specs.declared.number.Number.TheVariants.{Settled};
 ghost use Rattle.cax64_machine_code.specs.Fields.{IsBytes};
-ghost use Rattle.cax64_machine_code.specs.Len.{tail_len, len_of};
+ghost use Rattle.cax64_machine_code.specs.Len.{tail_len, len_of, line_len};
 ghost use Rattle.cax64_machine_code.specs.Prefix.{rex_bits};
 ghost use Rattle.cax64_machine_code.specs.Rows.{line_of};
+ghost use Rattle.cax64_machine_code.specs.declared.row.Row.{Row};
+ghost use Rattle.cax64_table.specs.EntryLine.{entry_line};
 ghost use Rattle.cax64_prefix.specs.Rex.{is_special_if_8bit};
 ghost use Rattle.cax64_operand.specs.declared.operand.Operands.{Operands};
 ghost use Rattle.cax64_sink.specs.Call.{put};
@@ -38,8 +42,8 @@ use cax64_operand::RegisterFamily;
 use cax64_prefix::rex::{RexPrefix, is_special_if_8bit};
 use cax64_prefix::vex::VexPrefix;
 use cax64_register::Registers;
-use cax64_sink::CodeSink;
-use cax64_table::numbers;
+use cax64_sink::{CodeSink, SinkError};
+use cax64_table::entry::Entry;
 
 /// The REX prefix of a number in reg and the numbers of a place.
 #[inline(always)]
@@ -64,31 +68,31 @@ fn register_number(register: Option<u8>) -> u8
     register.unwrap_or(0)
 }
 
-/// What stands before the opcode of a row, with this register in reg, 0 where a digit or nothing stands there.
+/// What stands before the opcode of a line, with this register in reg, 0 where a digit or nothing stands there.
 #[inline(always)]
-fn prefix_of(row: Row, reg: u8, vvvv: Option<u8>, place: &NumberedPlace) -> Short
+fn prefix_of(entry: Entry, reg: u8, vvvv: Option<u8>, place: &NumberedPlace) -> Short
     requires reg { reg < 16 }
     requires vvvv { IsTrue (is_absent_or_real (option_map Settled vvvv)) }
     requires numbered { IsNumbered place.now }
     requires place { IsTrue (place_is_real place.now) }
-    requires vvvv_fits { IsTrue (vvvv_fits (line_of row).prefix (option_map Settled vvvv)) }
-    requires bare { IsTrue (has_tail (line_of row).tail || (is_no_place (place_named place.now) && (reg == 0))) }
-    ensures { PrefixFor plain.enc (line_of row) reg (option_map Settled vvvv) (place_named place.now) result }
+    requires vvvv_fits { IsTrue (vvvv_fits (entry_line entry).prefix (option_map Settled vvvv)) }
+    requires bare { IsTrue (has_tail (entry_line entry).tail || (is_no_place (place_named place.now) && (reg == 0))) }
+    ensures { PrefixFor plain.enc (entry_line entry) reg (option_map Settled vvvv) (place_named place.now) result }
 {
-    let w = numbers::w(row);
-    if numbers::is_vex(row) {
+    let w = entry.w();
+    if entry.is_vex() {
         return front::vex(VexPrefix::three_op(
             reg,
             register_number(vvvv),
             (Some(place.base), Some(place.index)),
-            numbers::l(row),
-            numbers::pp(row),
-            numbers::map(row),
+            entry.l(),
+            entry.pp(),
+            entry.map(),
             w,
         ));
     }
-    let rex = rex_of(w, numbers::uses_8bit(row), reg, place);
-    front::legacy(row).append(Short::optional(rex.byte()))
+    let rex = rex_of(w, entry.uses_8bit(), reg, place);
+    front::legacy(entry).append(Short::optional(rex.byte()))
 }
 
 /// A tail relative to the end as a few bytes and what follows them.
@@ -163,6 +167,51 @@ fn tail_part(reg: u8, place: &NumberedPlace, displacement: i32, bytes_at_end: u8
     memory_part(memory_tail(reg, place.base, place.index, place.scale, displacement))
 }
 
+/// The code of the instruction of a line with these operands, whose memory operand has this displacement.
+#[inline(always)]
+pub fn code_of_entry(entry: Entry, form: &NumberedForm, displacement: i32) -> Code
+    requires fits { IsTrue (fits (entry_line entry) (form_named (entry_line entry) form.now)) }
+    requires numbered { IsNumbered form.now.place }
+    requires imm { HasImmWord (entry_line entry) form.now }
+    requires real { IsTrue (form_is_real form.now) }
+    ensures encodes { EncodesLine (line_form_parts plain.enc (entry_line entry) displacement (form_named (entry_line entry) form.now)) (memory_in (place_named form.now.place)) (code_actions result) }
+    ensures length { (row : Row) → length (all_bytes (code_actions result)) ≡ line_len (entry_line entry) (form_parts plain.enc row displacement (form_named (entry_line entry) form.now)) }
+    ensures is { IsCode result }
+{
+    let register = register_number(form.reg);
+    // Where there is a digit there is no register, which then counts as 0.
+    let reg = register + entry.digit();
+    let imm_len = entry.imm_len();
+    let tail = tail_part(reg, &form.place, displacement, imm_len);
+    let prefix = prefix_of(entry, register, form.vvvv, &form.place);
+    Code {
+        trap: form.place.trap,
+        front: prefix.append(front::opcode(entry)).append(tail.front),
+        target: tail.target,
+        long: tail.long,
+        imm: form.imm,
+        imm_len,
+    }
+}
+
+/// Puts an instruction of a line of whatever table.
+#[inline(always)]
+pub fn encode_entry<S: CodeSink>(
+    entry: Entry,
+    form: &NumberedForm,
+    displacement: i32,
+    sink: &mut S,
+) -> Result<(), SinkError>
+    requires fits { IsTrue (fits (entry_line entry) (form_named (entry_line entry) form.now)) }
+    requires numbered { IsNumbered form.now.place }
+    requires imm { HasImmWord (entry_line entry) form.now }
+    requires real { IsTrue (form_is_real form.now) }
+    ensures adds { OnOk result (AddsLine (line_form_parts plain.enc (entry_line entry) displacement (form_named (entry_line entry) form.now)) (memory_in (place_named form.now.place)) (S.state sink.old) (S.state sink.new)) }
+    ensures beside { S.may_become sink.old sink.new }
+{
+    code_of_entry(entry, form, displacement).put(sink)
+}
+
 /// The code of the instruction of a row with these operands, whose memory operand has this displacement.
 #[inline(always)]
 pub fn code_of(row: Row, form: &NumberedForm, displacement: i32) -> Code
@@ -174,20 +223,7 @@ pub fn code_of(row: Row, form: &NumberedForm, displacement: i32) -> Code
     ensures length { length (all_bytes (code_actions result)) ≡ len_of (form_parts plain.enc row displacement (form_named (line_of row) form.now)) }
     ensures is { IsCode result }
 {
-    let register = register_number(form.reg);
-    // Where there is a digit there is no register, which then counts as 0.
-    let reg = register + numbers::digit(row);
-    let imm_len = numbers::imm_len(row);
-    let tail = tail_part(reg, &form.place, displacement, imm_len);
-    let prefix = prefix_of(row, register, form.vvvv, &form.place);
-    Code {
-        trap: form.place.trap,
-        front: prefix.append(front::opcode(row)).append(tail.front),
-        target: tail.target,
-        long: tail.long,
-        imm: form.imm,
-        imm_len,
-    }
+    code_of_entry(Entry::of_row(row), form, displacement)
 }
 
 /// The sink calls that write an instruction of a row, of whose operands this was kept.

@@ -2,22 +2,21 @@
 
 ghost use Rattle.std.specs.Prelude.{◌≡◌, ◌≤◌, length};
 ghost use Rattle.cax64_machine_code.specs.Line.{opcode_bytes};
-ghost use Rattle.cax64_machine_code.specs.Rows.{line_of};
 ghost use Rattle.cax64_prefix.specs.Vex.{vex_bytes};
+ghost use Rattle.cax64_table.specs.EntryLine.{entry_line};
 ghost use Rattle.cax64_table.specs.Numbers.{legacy_bytes_of};
 
 use crate::short::Short;
-use cax64_machine_code::row::Row;
 use cax64_prefix::vex::VexPrefix;
-use cax64_table::numbers;
+use cax64_table::entry::Entry;
 
 /// The legacy prefixes of a row: F0 first, then 66, F2 or F3.
 #[inline(always)]
-pub(crate) fn legacy(row: Row) -> Short
-    ensures bytes { result ≡ legacy_bytes_of (line_of row).prefix }
+pub(crate) fn legacy(entry: Entry) -> Short
+    ensures bytes { result ≡ legacy_bytes_of (entry_line entry).prefix }
     ensures few { length result ≤ 3 }
 {
-    let held = numbers::legacy(row);
+    let held = entry.legacy();
     Short::of_word(held.word, held.len)
 }
 
@@ -35,9 +34,9 @@ pub(crate) fn vex(prefix: VexPrefix) -> Short
 
 /// The opcode of a row, behind 0F where it has the escape.
 #[inline(always)]
-pub(crate) fn opcode(row: Row) -> Short
-    ensures { result ≡ opcode_bytes (line_of row).opcode }
+pub(crate) fn opcode(entry: Entry) -> Short
+    ensures { result ≡ opcode_bytes (entry_line entry).opcode }
 {
-    let held = numbers::opcode(row);
+    let held = entry.opcode();
     Short::of_word(held.word, held.len)
 }

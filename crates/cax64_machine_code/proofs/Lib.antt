@@ -11,3 +11,4 @@ pub mod Written
 pub mod NoShorter
 pub mod Reached
 pub mod Equality
+pub mod ReadLine

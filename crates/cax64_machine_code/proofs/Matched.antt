@@ -33,7 +33,7 @@ pub find_is : (bytes after rest : List ℕ) (p : Prefix) (row : Row) (found : Fo
 unfolding find
 find_is bytes after rest p row found hp hm ho = rw (hp, row_found row p after rest hm, ho) refl
 
-length_left : (b rest : List ℕ) → length (b ++ rest) - length rest ≡ length b
+pub length_left : (b rest : List ℕ) → length (b ++ rest) - length rest ≡ length b
 length_left b rest = omega (arith, length-append b rest)
 
 -- what is found whatever follows is a reading of these bytes

@@ -42,7 +42,7 @@ first_of [] = 0
 first_of (c ∷ bytes) = c
 
 -- an opcode and what stands behind it, where the digit is there
-matched : (line : Line) (p : Prefix) (rest : List ℕ) → prefix_matches line p ≡ true → digit_matches line.tail rest ≡ true → matched_at line p (opcode_bytes line.opcode ++ rest) ≡ Some rest
+pub matched : (line : Line) (p : Prefix) (rest : List ℕ) → prefix_matches line p ≡ true → digit_matches line.tail rest ≡ true → matched_at line p (opcode_bytes line.opcode ++ rest) ≡ Some rest
 matched line p rest hp hd = rw (hp, after_back (opcode_bytes line.opcode) rest, hd) refl
 
 choose : {X : Type 0} (P : Type 0) (t : Bool) (a b r : X) → (a ≡ r → P) → (b ≡ r → P) → (if t then a else b) ≡ r → P
@@ -85,7 +85,7 @@ digit_there (Digit k) place_field x b n reg place (m ∷ t) rest h d =
 digit_there Register8 place_field x b n reg place (m ∷ t) rest h d = refl
 digit_there Register place_field x b n reg place (m ∷ t) rest h d = refl
 
-bare_matches : (line : Line) (rest : List ℕ) → line.tail ≡ NoTail → digit_matches line.tail rest ≡ true
+pub bare_matches : (line : Line) (rest : List ℕ) → line.tail ≡ NoTail → digit_matches line.tail rest ≡ true
 bare_matches line rest e = rw e refl
 
 bare_operands_are : (row : Row) (p : Prefix) (value : Option ℤ) (ib rest : List ℕ) → (line_of row).tail ≡ NoTail → IsImm (line_of row).imm value ib → operands_at row p (ib ++ rest) ≡ Some (record { parts = record { row = row; reg = None; vvvv = vvvv_at (line_of row).prefix p; place = None; imm = value }; tail = 0; rest = rest })
@@ -97,7 +97,7 @@ pub record BeginsWith (first : ℕ) (opcode : List ℕ) : Type 0 where
   pub more : List ℕ
   pub is : opcode ≡ first ∷ more
 
-prefixed : (p : Prefix) (first : ℕ) (pre opcode rest : List ℕ) → IsPrefix p first pre → BeginsWith first opcode → prefix_at (pre ++ (opcode ++ rest)) ≡ Some (p, opcode ++ rest)
+pub prefixed : (p : Prefix) (first : ℕ) (pre opcode rest : List ℕ) → IsPrefix p first pre → BeginsWith first opcode → prefix_at (pre ++ (opcode ++ rest)) ≡ Some (p, opcode ++ rest)
 prefixed p first pre opcode rest h o = rw o.is (h.reads (o.more ++ rest))
 
 -- a row without a tail
@@ -108,14 +108,14 @@ bare_found row p first pre ib rest value hp ho hm ht hi =
     (matched (line_of row) p (ib ++ rest) hm (bare_matches (line_of row) (ib ++ rest) ht))
     (bare_operands_are row p value ib rest ht hi)
 
-tail_length : (t rest : List ℕ) → length (t ++ rest) - length rest ≡ length t
+pub tail_length : (t rest : List ℕ) → length (t ++ rest) - length rest ≡ length t
 tail_length t rest = omega (arith, length-append t rest)
 
 tail_operands_are : (row : Row) (p : Prefix) (field : RegField) (place_field : PlaceField) (reg : ℕ) (place named : Place) (value : Option ℤ) (t ib rest : List ℕ) → (line_of row).tail ≡ Modrm field place_field → IsTail (x_of p) (b_of p) 1 reg place t → place_at place_field p place ≡ Some named → IsImm (line_of row).imm value ib → operands_at row p (t ++ (ib ++ rest)) ≡ Some (record { parts = record { row = row; reg = reg_view field p reg; vvvv = vvvv_at (line_of row).prefix p; place = Some named; imm = value }; tail = length t; rest = rest })
 unfolding operands_at
 tail_operands_are row p field place_field reg place named value t ib rest e h hn hi = rw (e, h.reads (ib ++ rest), hn, hi.reads rest, tail_length t (ib ++ rest)) refl
 
-tail_matches : (line : Line) (field : RegField) (place_field : PlaceField) (x b n reg : ℕ) (place : Place) (t rest : List ℕ) → line.tail ≡ Modrm field place_field → IsTail x b n reg place t → DigitIs field reg → digit_matches line.tail (t ++ rest) ≡ true
+pub tail_matches : (line : Line) (field : RegField) (place_field : PlaceField) (x b n reg : ℕ) (place : Place) (t rest : List ℕ) → line.tail ≡ Modrm field place_field → IsTail x b n reg place t → DigitIs field reg → digit_matches line.tail (t ++ rest) ≡ true
 tail_matches line field place_field x b n reg place t rest e h d = rw e (digit_there field place_field x b n reg place t rest h d)
 
 -- a row with a tail

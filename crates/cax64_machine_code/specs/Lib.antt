@@ -8,6 +8,7 @@ pub mod Apx
 pub mod Line
 pub mod Rows
 pub mod Reading
+pub mod ReadLine
 pub mod Sequence
 pub mod Shortest
 pub mod Len

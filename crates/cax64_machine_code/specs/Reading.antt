@@ -29,19 +29,25 @@ use Rattle.cax64_machine_code.specs.declared.reading.Place.TheVariants.{Reg, Mem
 abbrev pub view_of : Bool → Bool → ℕ → RegView
 view_of eight rex number = if eight && (not rex && (nat_le 4 number && nat_le number 7)) then High (number - 4) else Low number
 
--- the operands of an instruction as they are read; what its row lacks is absent
-pub record Parts : Type 0 where
-  pub row : Row
+-- the operands of an instruction as they are read, and what names its line of a table; what the line lacks is absent
+pub record PartsOf (K : Type 0) : Type 0 where
+  pub row : K
   pub reg : Option RegView
   pub vvvv : Option ℕ
   pub place : Option Place
   pub imm : Option ℤ
 
+abbrev pub Parts : Type 0
+Parts = PartsOf Row
+
 -- the operands at the front, the number of bytes of the tail, and what follows
-pub record Found : Type 0 where
-  pub parts : Parts
+pub record FoundOf (K : Type 0) : Type 0 where
+  pub parts : PartsOf K
   pub tail : ℕ
   pub rest : List ℕ
+
+abbrev pub Found : Type 0
+Found = FoundOf Row
 
 -- the register in the reg field
 abbrev pub reg_view : RegField → Prefix → ℕ → Option RegView
@@ -77,7 +83,7 @@ imm_at (Imm size) bytes = option_map (λ n. (Some (pos n.0), n.1)) (number_at si
 imm_at (Simm size) bytes = option_map (λ n. (Some (signed_of size n.0), n.1)) (number_at size bytes)
 
 -- the operands of a row without a tail
-abbrev pub bare_operands : Row → Line → Prefix → List ℕ → Option Found
+abbrev pub bare_operands : {K : Type 0} → K → Line → Prefix → List ℕ → Option (FoundOf K)
 bare_operands row line prefix bytes =
     option_map
     (λ i. record {
@@ -88,7 +94,7 @@ bare_operands row line prefix bytes =
     (imm_at line.imm bytes)
 
 -- the operands of a row with a tail of these fields
-abbrev pub tail_operands : Row → Line → RegField → PlaceField → Prefix → List ℕ → Option Found
+abbrev pub tail_operands : {K : Type 0} → K → Line → RegField → PlaceField → Prefix → List ℕ → Option (FoundOf K)
 tail_operands row line reg field prefix bytes =
     option_and_then
     (λ t. option_and_then
@@ -102,7 +108,7 @@ tail_operands row line reg field prefix bytes =
     (place_at field prefix t.place))
     (read_tail (x_of prefix) (b_of prefix) 1 bytes)
 
-abbrev pub operands_of : TailField → Row → Line → Prefix → List ℕ → Option Found
+abbrev pub operands_of : {K : Type 0} → TailField → K → Line → Prefix → List ℕ → Option (FoundOf K)
 operands_of NoTail row line prefix bytes = bare_operands row line prefix bytes
 operands_of (Modrm reg field) row line prefix bytes = tail_operands row line reg field prefix bytes
 

@@ -7,5 +7,7 @@ pub mod Digit
 pub mod Numbers
 -- Steps of the proofs.
 pub mod Packed
+pub mod Entry
+pub mod EntryLine
 pub mod Slot
 pub mod Matching

@@ -2,6 +2,10 @@
 #![tactic(auto)]
 
 pub mod cursor;
+pub mod any_table;
+pub mod core_lines;
+pub mod op;
+pub mod entry;
 mod index;
 pub mod laws;
 pub mod legacy;

@@ -1,79 +1,23 @@
-use Rattle.std.proofs.Common.{◌≡◌, ◌∙◌, ap, refl, length, w32, arith, List}
+use Rattle.std.proofs.Common.{◌≡◌, refl, subst, length, w32}
 use Rattle.std.proofs.lemmas.Int.{to_z-of_z}
-use Rattle.cax64_address.specs.Emitted.{target_actions}
-use Rattle.cax64_machine_code.specs.Len.{tail_len}
-use Rattle.cax64_machine_code.specs.Line.{imm_bytes, opcode_bytes}
+use Rattle.cax64_machine_code.specs.Len.{line_len}
 use Rattle.cax64_machine_code.specs.Rows.{line_of}
-use Rattle.cax64_operand.specs.Immediate.{imm_size}
-use Rattle.cax64_sink.specs.Call.{Action}
-use Rattle.cax64_sink.specs.Puts.{puts}
-use Rattle.cax64_sink.specs.Rest.{long_actions, word_actions}
+use Rattle.cax64_machine_code.specs.declared.line.Line.{Line}
 use Rattle.cax64_sink.specs.Run.{all_bytes}
-use Rattle.cax64_sink.proofs.PutRuns.{all_bytes-puts, all_notices-puts}
-use Rattle.cax64_encoder.specs.Code.{tail_actions}
-use Rattle.cax64_encoder.specs.Encodes.{TailPartOf}
-use Rattle.cax64_encoder.specs.ImmActions.{optional_imm_actions}
-use Rattle.cax64_encoder.specs.Numbered.{plain, form_named}
-use Rattle.cax64_encoder.specs.Place.{place_read}
-use Rattle.cax64_encoder.specs.Prefix.{reg_number, register_number, PrefixFor}
-use Rattle.cax64_encoder.specs.Real.{trap_in}
-use Rattle.cax64_encoder.proofs.Fronts.{code_is, encodes_same, front_few, opcode_some}
-use Rattle.cax64_encoder.proofs.Lengths.{length_is}
-use Rattle.cax64_encoder.proofs.Numbers.{numbers_are, imm_put, imm_fit}
-use Rattle.cax64_encoder.proofs.Table.{row_imm_len, row_is_line}
-use Rattle.cax64_encoder.proofs.Whole.{place_real, bare_is, vvvv_fit, reg_below, digit_or_register, imm_sized_as, line_encodes}
+use Rattle.cax64_encoder.specs.Code.{code_actions}
+use Rattle.cax64_encoder.specs.Encodes.{form_parts}
+use Rattle.cax64_encoder.specs.EncodesLine.{EncodesLine, line_form_parts}
+use Rattle.cax64_encoder.specs.Numbered.{plain, form_named, place_named}
+use Rattle.cax64_encoder.specs.Place.{memory_in}
+use Rattle.cax64_encoder.proofs.WholeLine.{row_encodes}
 use Rattle.cax64_encoder.proofs.encoder.code_of.Goals as goal
-
-pub prefix_of-prefix-requires-clause-vvvv_fits : goal.prefix_of-prefix-requires-clause-vvvv_fits
-prefix_of-prefix-requires-clause-vvvv_fits c = vvvv_fit (line_of c.args.row) (form_named (line_of c.args.row) c.args.form.now) c.requires.fits
-
-pub prefix_of-prefix-requires-clause-bare : goal.prefix_of-prefix-requires-clause-bare
-prefix_of-prefix-requires-clause-bare c = rw c.register_number-register.ensures.number (bare_is (line_of c.args.row) (form_named (line_of c.args.row) c.args.form.now) c.requires.fits)
-
-pub tail_part-tail-requires-clause-reg : goal.tail_part-tail-requires-clause-reg
-tail_part-tail-requires-clause-reg c = rw (c.register_number-register.ensures.number, c.digit.ensures.value, digit_or_register (line_of c.args.row) (form_named (line_of c.args.row) c.args.form.now) c.requires.fits) (reg_below plain.settled plain.enc (line_of c.args.row) (form_named (line_of c.args.row) c.args.form.now) (row_is_line c.args.row) c.requires.real)
-
-pub tail_part-tail-requires-clause-place : goal.tail_part-tail-requires-clause-place
-tail_part-tail-requires-clause-place c = place_real plain.settled plain.enc (form_named (line_of c.args.row) c.args.form.now) c.requires.real
-
-pub append-requires-clause-room : goal.append-requires-clause-room
-append-requires-clause-room c =
-    let few = front_few (line_of c.args.row) c.prefix_of-prefix.result c.opcode.result _ (row_is_line c.args.row) c.prefix_of-prefix.ensures.size c.opcode.ensures in
-    omega (arith, few)
-
-pub append-requires-2-clause-few : goal.append-requires-2-clause-few
-append-requires-2-clause-few c =
-    let few = front_few (line_of c.args.row) c.prefix_of-prefix.result c.opcode.result _ (row_is_line c.args.row) c.prefix_of-prefix.ensures.size c.opcode.ensures in
-    omega (arith, few)
-
-pub append-requires-2-clause-room : goal.append-requires-2-clause-room
-append-requires-2-clause-room c =
-    let few = front_few (line_of c.args.row) c.prefix_of-prefix.result c.opcode.result _ (row_is_line c.args.row) c.prefix_of-prefix.ensures.size c.opcode.ensures in
-    omega (arith, few, c.tail_part-tail.ensures.few)
 
 pub returns-clause-encodes : goal.returns-clause-encodes
 returns-clause-encodes c =
-    let form = form_named (line_of c.args.row) c.args.form.now in
-    let prefix : PrefixFor plain.enc (line_of c.args.row) (register_number form.reg) form.vvvv form.place (all_bytes (puts c.prefix_of-prefix.result)) = rw (all_bytes-puts c.prefix_of-prefix.result) (rw c.register_number-register.ensures.number at c.prefix_of-prefix.ensures) in
-    let tail : TailPartOf plain.enc c.args.displacement (imm_size form.imm) (reg_number (line_of c.args.row).tail form.reg) form.place (tail_actions c.tail_part-tail.result) = rw (c.register_number-register.ensures.number, c.digit.ensures.value, digit_or_register (line_of c.args.row) form c.requires.fits, c.imm_len-imm_len.ensures, imm_sized_as (line_of c.args.row) form c.requires.fits, to_z-of_z w32 c.args.displacement c.ranges.displacement) at c.tail_part-tail.ensures.tail in
-    let front = rw (c.append.ensures.bytes, c.opcode.ensures) at c.append-2.ensures.bytes in
-    let imm : word_actions c.imm_len-imm_len.result c.args.form.now.imm ≡ optional_imm_actions form.imm = rw c.imm_len-imm_len.ensures (ap (word_actions (imm_bytes (line_of c.args.row).imm)) c.requires.imm ∙ imm_put (line_of c.args.row).imm form.imm (imm_fit (line_of c.args.row) form c.requires.fits)) in
-    let is = code_is c.args.form.now.place.trap (trap_in form.place) c.prefix_of-prefix.result (opcode_bytes (line_of c.args.row).opcode) c.tail_part-tail.result.front c.append-2.result (target_actions c.tail_part-tail.result.target) (long_actions c.tail_part-tail.result.long) (word_actions c.imm_len-imm_len.result c.args.form.now.imm) (optional_imm_actions form.imm) imm (numbers_are c.args.form.now.place c.requires.numbered).trap front in
-    encodes_same _ _ _ _ is (line_encodes plain.enc c.args.row (line_of c.args.row) form c.args.displacement (puts c.prefix_of-prefix.result) (tail_actions c.tail_part-tail.result) refl (row_is_line c.args.row) c.requires.fits prefix (all_notices-puts c.prefix_of-prefix.result) tail c.tail_part-tail.ensures.bytes)
+    let line = line_of c.args.row in
+    let form = form_named line c.args.form.now in
+    row_encodes c.args.row (line_form_parts plain.enc line c.args.displacement form) (memory_in (place_named c.args.form.now.place)) (code_actions c.code_of_entry.result) refl
+    (subst (λ (l : Line). EncodesLine (line_form_parts plain.enc l c.args.displacement (form_named l c.args.form.now)) (memory_in (place_named c.args.form.now.place)) (code_actions c.code_of_entry.result)) c.of_row.ensures (rw (to_z-of_z w32 c.args.displacement c.ranges.displacement) at c.code_of_entry.ensures.encodes))
 
 pub returns-clause-length : goal.returns-clause-length
-returns-clause-length c =
-    let form = form_named (line_of c.args.row) c.args.form.now in
-    let prefix : PrefixFor plain.enc (line_of c.args.row) (register_number form.reg) form.vvvv form.place (all_bytes (puts c.prefix_of-prefix.result)) = rw (all_bytes-puts c.prefix_of-prefix.result) (rw c.register_number-register.ensures.number at c.prefix_of-prefix.ensures) in
-    let tail : length (all_bytes (tail_actions c.tail_part-tail.result)) ≡ tail_len (place_read plain.enc c.args.displacement (imm_size form.imm) form.place) = rw (c.imm_len-imm_len.ensures, imm_sized_as (line_of c.args.row) form c.requires.fits, to_z-of_z w32 c.args.displacement c.ranges.displacement) at c.tail_part-tail.ensures.length in
-    let front = rw (c.append.ensures.bytes, c.opcode.ensures) at c.append-2.ensures.bytes in
-    let imm : word_actions c.imm_len-imm_len.result c.args.form.now.imm ≡ optional_imm_actions form.imm = rw c.imm_len-imm_len.ensures (ap (word_actions (imm_bytes (line_of c.args.row).imm)) c.requires.imm ∙ imm_put (line_of c.args.row).imm form.imm (imm_fit (line_of c.args.row) form c.requires.fits)) in
-    let is = code_is c.args.form.now.place.trap (trap_in form.place) c.prefix_of-prefix.result (opcode_bytes (line_of c.args.row).opcode) c.tail_part-tail.result.front c.append-2.result (target_actions c.tail_part-tail.result.target) (long_actions c.tail_part-tail.result.long) (word_actions c.imm_len-imm_len.result c.args.form.now.imm) (optional_imm_actions form.imm) imm (numbers_are c.args.form.now.place c.requires.numbered).trap front in
-    ap (λ (acts : List Action). length (all_bytes acts)) is ∙ (length_is plain.enc c.args.row (line_of c.args.row) form c.args.displacement (trap_in form.place) (puts c.prefix_of-prefix.result) (tail_actions c.tail_part-tail.result) refl (row_is_line c.args.row) c.requires.fits prefix.length tail)
-
-pub returns-clause-is : goal.returns-clause-is
-returns-clause-is c =
-    record {
-      front = omega (arith, opcode_some c.opcode.result _ c.opcode.ensures);
-      imm_len = rw c.imm_len-imm_len.ensures (row_imm_len _);
-    }
+returns-clause-length c = subst (λ (l : Line). length (all_bytes (code_actions c.code_of_entry.result)) ≡ line_len l (form_parts plain.enc c.args.row c.args.displacement (form_named l c.args.form.now))) c.of_row.ensures (rw (to_z-of_z w32 c.args.displacement c.ranges.displacement) at (c.code_of_entry.ensures.length c.args.row))

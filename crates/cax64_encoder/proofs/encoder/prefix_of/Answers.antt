@@ -2,7 +2,8 @@ use Rattle.std.proofs.Common.{◌≡◌, ◌++◌, ◌∙◌, refl, sym, true, f
 use Rattle.std.specs.Int.{from_bool}
 use Rattle.std.specs.Prelude.{IsSome, IsTrue, ◌↔◌}
 use Rattle.cax64_machine_code.specs.Line.{w_matches}
-use Rattle.cax64_machine_code.specs.Rows.{line_of}
+use Rattle.cax64_table.specs.EntryLine.{entry_line}
+use Rattle.cax64_table.proofs.EntryFacts.{entry_is_line}
 use Rattle.cax64_prefix.specs.Rex.{rex_bytes}
 use Rattle.cax64_prefix.proofs.Prefixes.{legacy_bytes}
 use Rattle.cax64_encoder.specs.Numbered.{plain, place_named}
@@ -12,7 +13,6 @@ use Rattle.cax64_encoder.proofs.Fronts.{last_prefix}
 use Rattle.cax64_encoder.proofs.Lines.{line_facts, w_fits, w_zero}
 use Rattle.cax64_encoder.proofs.Numbers.{numbers_are, numbers_below}
 use Rattle.cax64_encoder.proofs.PrefixParts.{LegacyIs, legacy_is, VexIs, vex_is, legacy_for, vex_for}
-use Rattle.cax64_encoder.proofs.Table.{row_is_line}
 use Rattle.cax64_encoder.proofs.encoder.prefix_of.Goals as goal
 
 pub rex_of-rex-requires-clause-base : goal.rex_of-rex-requires-clause-base
@@ -23,32 +23,38 @@ rex_of-rex-requires-clause-index c = (numbers_below c.args.place.now c.requires.
 
 pub three_op-requires-clause-map_low : goal.three_op-requires-clause-map_low
 three_op-requires-clause-map_low c =
-    let line = line_of c.args.row in
+    let line = entry_line c.args.entry in
     let is : is_vex line.prefix ≡ true = sym c.is_vex.ensures ∙ c.if-is_vex.true in
-    (vex_is line c.pp.result c.map.result c.l.result (row_is_line c.args.row) is c.pp.ensures.is c.map.ensures.is c.l.ensures.is).map_least
+    (vex_is line c.pp.result c.map.result c.l.result (entry_is_line c.args.entry) is c.pp.ensures.is c.map.ensures.is c.l.ensures.is).map_least
 
 pub returns-then-is_vex : goal.returns-then-is_vex
 returns-then-is_vex c =
-    let line = line_of c.args.row in
+    let line = entry_line c.args.entry in
     let is : is_vex line.prefix ≡ true = sym c.is_vex.ensures ∙ c.if-is_vex.true in
-    let vex : VexIs line.prefix c.pp.result c.map.result c.l.result = vex_is line c.pp.result c.map.result c.l.result (row_is_line c.args.row) is c.pp.ensures.is c.map.ensures.is c.l.ensures.is in
+    let vex : VexIs line.prefix c.pp.result c.map.result c.l.result = vex_is line c.pp.result c.map.result c.l.result (entry_is_line c.args.entry) is c.pp.ensures.is c.map.ensures.is c.l.ensures.is in
     let place = numbers_are c.args.place.now c.requires.numbered in
-    let facts = line_facts line (row_is_line c.args.row) in
+    let facts = line_facts line (entry_is_line c.args.entry) in
     let matches : w_matches line.w (from_bool c.w-w.result) ≡ true = rw c.w-w.ensures (w_fits line.w facts.w) in
     rw c.vex.ensures (vex_for plain.enc line c.args.reg _ (place_named c.args.place.now) c.pp.result c.map.result c.l.result vex.field c.w-w.result c.register_number.result (Some c.args.place.now.base, Some c.args.place.now.index) c.three_op.result c.three_op.ensures.bytes
-    vex.is (row_is_line c.args.row) c.requires.vvvv_fits matches c.register_number.ensures.number place.b place.x c.w-w.ensures c.three_op.ensures.reads c.three_op.ensures.two_bytes)
+    vex.is (entry_is_line c.args.entry) c.requires.vvvv_fits matches c.register_number.ensures.number place.b place.x c.w-w.ensures c.three_op.ensures.reads c.three_op.ensures.two_bytes)
 
 pub returns : goal.returns
 returns c =
-    let line = line_of c.args.row in
+    let line = entry_line c.args.entry in
     let none : is_vex line.prefix ≡ false = sym c.is_vex.ensures ∙ c.if-is_vex.false in
     let legacy : LegacyIs line.prefix = legacy_is line.prefix none in
     let place = numbers_are c.args.place.now c.requires.numbered in
     let named = place_named c.args.place.now in
-    let facts = line_facts line (row_is_line c.args.row) in
+    let facts = line_facts line (entry_is_line c.args.entry) in
     let matches : w_matches line.w (from_bool c.w-w.result) ≡ true = rw c.w-w.ensures (w_fits line.w facts.w) in
     let flag : c.uses_8bit.result ≡ has_8bit line.tail = c.uses_8bit.ensures none in
     let stands : IsSome c.rex_of-rex.result ↔ IsTrue (rex_stands plain.enc c.w-w.result (has_8bit line.tail) c.args.reg named) = rw (flag, place.high, place.special) at c.rex_of-rex.ensures.stands in
     let bytes : c.append.result ≡ legacy_bytes legacy.set ++ rex_bytes c.rex_of-rex.result = rw (c.append.ensures.bytes, c.legacy.ensures.bytes, legacy.bytes, c.optional.ensures.bytes, c.byte.ensures, last_prefix c.rex_of-rex.result) refl in
     rw bytes (legacy_for plain.settled plain.enc line c.args.reg _ named legacy.set legacy.rexed c.w-w.result c.rex_of-rex.result
-    legacy.is (row_is_line c.args.row) c.requires.reg c.requires.place c.requires.vvvv_fits c.requires.bare matches (λ zero. c.w-w.ensures ∙ w_zero line.w zero) c.w-w.ensures (rw (place.x, place.b) at c.rex_of-rex.ensures.bits) stands)
+    legacy.is (entry_is_line c.args.entry) c.requires.reg c.requires.place c.requires.vvvv_fits c.requires.bare matches (λ zero. c.w-w.ensures ∙ w_zero line.w zero) c.w-w.ensures (rw (place.x, place.b) at c.rex_of-rex.ensures.bits) stands)
+
+pub three_op-requires-clause-base : goal.three_op-requires-clause-base
+three_op-requires-clause-base c = (numbers_below c.args.place.now c.requires.numbered c.requires.place).0
+
+pub three_op-requires-clause-index : goal.three_op-requires-clause-index
+three_op-requires-clause-index c = (numbers_below c.args.place.now c.requires.numbered c.requires.place).1
