@@ -5,6 +5,7 @@ import re
 
 from formatting import filled
 from instruction import LEGACY_PREFIXES
+from parts import BEGIN, END
 
 SOURCE = "crates/cax64_table/src/index.rt"
 
@@ -125,7 +126,7 @@ def macro_for(places, is_vex):
         words += [prefix_words(place, is_vex), form]
     name = "_".join(words)
     given = ", ".join(f"${row}:ident" for row in names)
-    lines = ["", f"macro_rules! {name} {{", f"    ({given}) => {{ [{', '.join(texts)}] }};", "}"]
+    lines = [f"macro_rules! {name} {{", f"    ({given}) => {{ [{', '.join(texts)}] }};", "}", ""]
     return (name, names, cells), lines
 
 
@@ -159,12 +160,16 @@ def map_lines(entries, number):
     return ["    [", *filled(map(str, found), "        "), "    ],"] if any(found) else ["    [0; 256],"]
 
 
+def by_hand(text):
+    """What stands outside the parts that are written."""
+    return re.sub(rf"^// {BEGIN}(?!end).*?^// {END}$", "", text, flags=re.M | re.S)
+
+
 def write(table, sources, text):
-    """`text` is what stands in the index's file, of whose macros some are by hand."""
+    """`text` is what stands in the index's file, whose macros are by hand, save those of a part of their own."""
     entries, slots = slots_of(table.rows)
     maps = [line for number in range(MAP_COUNT) for line in map_lines(entries, number)]
-    by_hand = [macro for macro in macros_of(text) if not macro[0].startswith(("rows_", "vex_none_", "vex_66_", "vex_f"))
-               or macro[0] in ("vex_66", "vex_f2")]
-    lines, written = index_lines(slots, by_hand)
-    sources.part(SOURCE, "slots", [f"static SLOTS: [[u16; 256]; {MAP_COUNT}] = [", *maps, "];", *written])
+    lines, macros = index_lines(slots, macros_of(by_hand(text)))
+    sources.part(SOURCE, "slots", [f"static SLOTS: [[u16; 256]; {MAP_COUNT}] = [", *maps, "];"])
+    sources.part(SOURCE, "macros", macros)
     sources.part(SOURCE, "index", lines)

@@ -4,6 +4,7 @@ import re
 from collections import Counter
 
 from instruction import Table
+from parts import Misplaced, text_of
 from reading import Lines, Refused
 
 ROWS = "crates/cax64_machine_code/specs/Rows.antt"
@@ -92,6 +93,9 @@ def judge_names(instruction):
     for name, count in Counter(names).items():
         if count > 1:
             raise Refused(f"{name} stands twice among its operands")
+    for name, count in Counter(instruction.visits).items():
+        if count > 1:
+            raise Refused(f"{name} stands twice in its visits")
     visited = {operand.name for operand in instruction.operands if operand.kind != "immediate"}
     if instruction.visits and set(instruction.visits) != visited:
         raise Refused(f"its visits name {','.join(instruction.visits)}, and it has {','.join(sorted(visited))}")
@@ -106,6 +110,8 @@ def judge_text(instruction):
         raise Refused("it is a row alone, so its sentence would stand nowhere")
     if not instruction.has_struct and instruction.row_name:
         raise Refused("it is a row alone, and has another's row")
+    if instruction.memory_mnemonic and not (instruction.place and " or " in instruction.place.kind):
+        raise Refused("memory: names its mnemonic beside memory, and none of its operands may be that or a register")
     if instruction.style == "compare" and instruction.printed_mnemonic[-2:] not in ("ps", "pd", "ss", "sd"):
         raise Refused("it is a comparison, and its mnemonic doesn't end with what it compares: ps, pd, ss or sd")
 
@@ -121,12 +127,18 @@ def judge_line(instruction):
 
 
 def judge_twice(lines):
-    """No name stands twice."""
-    first = {}
+    """No name stands twice, and no two no-operations have one length."""
+    first, lengths = {}, {}
     for instruction in lines.instructions:
         if instruction.name in first:
             lines.refuse(instruction.line, instruction.name, f"the name stands in line {first[instruction.name]} too")
+        elif instruction.nop in lengths:
+            other = lengths[instruction.nop]
+            sentence = f"{other.name}, line {other.line}, is the no-operation of this length already"
+            lines.refuse(instruction.line, instruction.name, sentence)
         first.setdefault(instruction.name, instruction.line)
+        if instruction.nop:
+            lengths.setdefault(instruction.nop, instruction)
 
 
 def keys_of(row):
@@ -160,9 +172,11 @@ def judge_rows(lines, order):
     for name, row in rows.items():
         if name not in order:
             lines.refuse(row.line, name, f"it has no place in all_rows of {ROWS}")
-    for name in order:
-        if name not in rows:
-            lines.refuse(0, name, f"it stands in all_rows of {ROWS}, and no line of the table is its row")
+    missing = [name for name in order if name not in rows]
+    if missing:
+        others = f", as {len(missing) - 1} others do" if len(missing) > 1 else ""
+        sentence = f"it stands in all_rows of {ROWS}, and no line of the table is its row{others}"
+        lines.refuse(0, missing[0], sentence)
     for instruction in lines.instructions:
         if instruction.row not in rows:
             lines.refuse(instruction.line, instruction.name, f"{instruction.row} is no row of the table")
@@ -175,7 +189,7 @@ def judge_lists(lines, kind, lists, wanted):
     for function, (line, groups) in lists.items():
         for group in groups:
             if group not in wanted:
-                lines.refuse(line, function, f"{group} is no group whose instructions have a place here")
+                lines.refuse_once(line, function, f"{group} is no group whose instructions have a place here")
             elif group in found:
                 lines.refuse(line, function, f"{group} stands in the list {found[group]} too")
             found.setdefault(group, function)
@@ -208,8 +222,10 @@ def judge_variants(lines, _):
 
 def order_of_rows(root):
     """The names of all_rows, in their order."""
-    text = (root / ROWS).read_text(encoding="utf-8")
-    return re.search(r"^all_rows =((?:\s+row\.\w+ ∷)*)", text, re.M)[1].replace("∷", " ").replace("row.", "").split()
+    found = re.search(r"^all_rows =((?:\s+row\.\w+ ∷)*)", text_of(root, ROWS), re.M)
+    if not found:
+        raise Misplaced(f"{ROWS}: it has no list all_rows")
+    return found[1].replace("∷", " ").replace("row.", "").split()
 
 
 def table_of(root, text):

@@ -45,6 +45,12 @@ VEX_MAP = {"0F": 1, "0F38": 2, "0F3A": 3}
 VEX_W = {"W0": 0, "W1": 1, "WIG": None}
 
 
+# Bytes of one-byte opcodes that are prefixes in 64-bit mode. (Intel SDM, volume 2, 2.1.1, 2.2.1, 2.3.)
+PREFIX_BYTES = {0x26, 0x2E, 0x36, 0x3E, *range(0x40, 0x50), 0x62, 0x64, 0x65, 0x66, 0x67, 0xC4, 0xC5, 0xF0, 0xF2, 0xF3}
+# What stands behind 0F where the opcode is in a map of its own, and 0F itself. (Intel SDM, volume 2, 2.1.2.)
+ESCAPES = {0x0F, 0x38, 0x3A}
+
+
 class Refused(Exception):
     """Why a line can't be."""
 
@@ -72,11 +78,34 @@ class CodeWords:
     def take(self, *known):
         return self.words.pop(0) if self.words and self.words[0] in known else None
 
+    def prefixes(self):
+        """The legacy prefixes, each once and in their order. (Intel SDM, volume 2, 2.1.1.)"""
+        found = []
+        while self.words and self.words[0] in LEGACY_PREFIXES:
+            found.append(self.words.pop(0))
+        if found != [prefix for prefix in LEGACY_PREFIXES if prefix in found]:
+            raise Refused(f"{' '.join(found)}: each prefix stands once, in the order {' '.join(LEGACY_PREFIXES)}")
+        if "F2" in found and "F3" in found:
+            raise Refused("F2 and F3 don't stand together: processors take one of them")
+        return frozenset(found)
+
     def opcode(self):
         word = self.words.pop(0) if self.words else "nothing"
         if not re.fullmatch(r"[0-9A-F]{2}", word):
             raise Refused(f"{word} stands where the opcode byte would, two digits as 8F")
         return int(word, 16)
+
+    def legacy_opcode(self):
+        """Whether 0F stands before the opcode, and the opcode."""
+        escape = self.take("0F") is not None
+        if escape and not self.words:
+            raise Refused("0F is no opcode: the opcode stands behind it")
+        opcode = self.opcode()
+        if escape and opcode in ESCAPES:
+            raise Refused(f"0F {opcode:02X} are two escapes, and an opcode without VEX has one at most")
+        if not escape and opcode in PREFIX_BYTES:
+            raise Refused(f"{opcode:02X} is a prefix, and no opcode")
+        return escape, opcode
 
     def tail(self):
         """Whether there is a ModR/M byte, and the digit in it."""
@@ -95,12 +124,10 @@ def code_of(text):
         vex, w = vex_of(words.words.pop(0))
         opcode = words.opcode()
         return Code(frozenset(), True, vex, w, False, opcode, *words.tail())
-    prefixes = frozenset(prefix for prefix in LEGACY_PREFIXES if words.take(prefix))
+    prefixes = words.prefixes()
     w = {None: None, "W0": 0, "W1": 1}[words.take("W0", "W1")]
     may_have_rex = words.take("noREX") is None
-    escape = words.take("0F") is not None
-    opcode = words.opcode()
-    return Code(prefixes, may_have_rex, None, w, escape, opcode, *words.tail())
+    return Code(prefixes, may_have_rex, None, w, *words.legacy_opcode(), *words.tail())
 
 
 def kind_of(name):
@@ -115,6 +142,17 @@ def kind_of(name):
     raise Refused(f"{name} is no operand's name, as r32, m32, rm32, imm32, xmm1, xmm_m128 or eax")
 
 
+def role_of(word, kind, text):
+    """What a word behind an operand's name says: a value of the operand, by its name."""
+    if word in ACCESS_WORDS:
+        return "access", ACCESS_WORDS[word]
+    if word == "implicit" and kind == "fixed":
+        return "implicit", True
+    if word in READINGS and kind == "immediate":
+        return "reading", word
+    raise Refused(f"{word} in {text} is a word that an operand of this kind doesn't know")
+
+
 def operand_of(text):
     """The operand of a word such as `r32:rw` or `imm8:sx32`."""
     name, *words = text.split(":")
@@ -123,19 +161,16 @@ def operand_of(text):
             raise Refused(f"{text} names no no-operation, as nop:1 to nop:9 do")
         return Operand("nop", "nop", number=int(words[0]))
     kind, size, number = kind_of(name)
-    access, implicit, reading = "Read", False, None
+    said = {}
     for word in words:
-        if word in ACCESS_WORDS:
-            access = ACCESS_WORDS[word]
-        elif word == "implicit" and kind == "fixed":
-            implicit = True
-        elif word in READINGS and kind == "immediate":
-            reading = word
-        else:
-            raise Refused(f"{word} in {text} is a word that an operand of this kind doesn't know")
-    if access not in ACCESSES[kind]:
+        role, value = role_of(word, kind, text)
+        if role in said:
+            raise Refused(f"{word} in {text} says once more what another word says")
+        said[role] = value
+    operand = Operand(name, kind, size, number=number, **said)
+    if operand.access not in ACCESSES[kind]:
         raise Refused(f"{text}: no kind of operand says this access")
-    return Operand(name, kind, size, access, number, implicit, reading)
+    return operand
 
 
 def word_of(word):
@@ -186,6 +221,22 @@ def instruction_of(text, line, group):
     return Instruction(name, line, group, operands, sentence, **said)
 
 
+def judge_characters(line):
+    """Nothing stands in the table that isn't seen: printable ASCII alone, and no space at a line's end."""
+    for place, character in enumerate(line, 1):
+        if not " " <= character <= "~":
+            raise Refused(f"its character {place} is U+{ord(character):04X}, and a line has printable ASCII alone")
+    if line.endswith(" "):
+        raise Refused("a space stands at its end")
+
+
+def name_of(line):
+    """What a line that can't be is called: the instruction, the group or the function that it is of."""
+    named = re.match(r"\[(\w+/\w+)\]|(?:visit|names) ([\w:]+):", line)
+    name = (named[1] or named[2]) if named else line.split("|")[0].strip()
+    return name.encode("ascii", "backslashreplace").decode() or "a line"
+
+
 class Lines:
     """The lines of a table by kinds, with the sentences that bad ones get."""
 
@@ -195,23 +246,35 @@ class Lines:
         self.visits = {}
         self.names = {}
         self.sentences = []
-        for number, line in enumerate(text.splitlines(), 1):
+        self.misses_group = False
+        for number, line in enumerate(text.removesuffix("\n").split("\n"), 1):
             try:
                 self.read(number, line)
             except Refused as refused:
-                self.refuse(number, line.split("|")[0].strip(), refused)
+                self.refuse(number, name_of(line), refused)
+        if not self.sentences and not self.instructions:
+            self.refuse(0, "the table", "it has no line of an instruction")
 
     def refuse(self, number, name, sentence):
         self.sentences.append((number, name, str(sentence)))
 
+    def refuse_once(self, number, name, sentence):
+        """The same of two lines is said of the first."""
+        if all(said != sentence for _, _, said in self.sentences):
+            self.refuse(number, name, sentence)
+
     def read(self, number, line):
-        if not line.strip() or line.startswith("#"):
+        judge_characters(line)
+        if not line or line.startswith("#"):
             return
         if line.startswith("["):
             self.read_group(number, line)
         elif re.match(r"(visit|names) [^|]*$", line):
             self.read_list(number, line)
+        elif self.misses_group:
+            return
         elif not self.groups:
+            self.misses_group = True
             raise Refused("it stands before the first group, a line as [lock_a/add] and what the file is about")
         else:
             self.instructions.append(instruction_of(line, number, self.groups[-1]))
@@ -231,4 +294,6 @@ class Lines:
         if not match:
             raise Refused("a list is `visit` or `names`, its function and a colon, and then groups")
         lists = self.visits if match[1] == "visit" else self.names
+        if match[2] in lists:
+            raise Refused(f"the function has a list in line {lists[match[2]][0]} already")
         lists[match[2]] = (number, match[3].split())

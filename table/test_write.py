@@ -1,6 +1,8 @@
 #!/usr/bin/env python3
 """Runs write.py over tables that can't be, and over one of two instructions, each in a folder of its own."""
 
+import ctypes
+import os
 import shutil
 import subprocess
 import sys
@@ -9,8 +11,12 @@ from pathlib import Path
 
 HERE = Path(__file__).resolve().parent
 
+# What lets root read and write everything, on Linux, and the call that takes it from what a process starts.
+CAP_DAC_OVERRIDE, CAP_DAC_READ_SEARCH, PR_CAPBSET_DROP = 1, 2, 24
+
 ROWS = "crates/cax64_machine_code/specs/Rows.antt"
 INDEX = "crates/cax64_table/src/index.rt"
+LEFT_OVER = "crates/lock_b/src/or.rt"
 
 ADD = "lock_addl_mi_sxb | F0 W0 83 /0 | m32 imm8:sx32 |  | Add sign-extended `imm8` to `m32`. Locked."
 JUMP = "jmp_d8 | EB | imm8:distance | branch | Jump short, by an 8-bit displacement from the next instruction."
@@ -25,6 +31,10 @@ names jumps::jump: jump/d8
 [jump/d8] Jumps by a distance of one byte. (Intel SDM, volume 2, `JMP`.)
 {JUMP}
 """
+
+# What stands before an opcode of one byte, and is none. (Intel SDM, volume 2, 2.1.1, 2.2.1, 2.3.) Those that a table has as
+# prefixes are taken for these.
+PREFIXES = (0x26, 0x2E, 0x36, 0x3E, *range(0x40, 0x50), 0x62, 0x64, 0x65, 0x67, 0xC4, 0xC5)
 
 # What stands in the place of the addition, and the sentence that it gets.
 BAD_LINES = (
@@ -52,6 +62,22 @@ BAD_LINES = (
     (ADD.replace("F0 W0 83 /0", "= nopl_rm"),
      "only a no-operation shares another's row: its operand would be nop:1 to nop:9"),
     (ADD.replace("m32 imm8:sx32", "nop:12"), "nop:12 names no no-operation, as nop:1 to nop:9 do"),
+    (ADD.replace("83 /0", "0F 38 F6 /0"), "0F 38 are two escapes, and an opcode without VEX has one at most"),
+    (ADD.replace("83 /0", "0F 0F /0"), "0F 0F are two escapes, and an opcode without VEX has one at most"),
+    (ADD.replace("83 /0", "0F"), "0F is no opcode: the opcode stands behind it"),
+    (ADD.replace("F0 W0", "66 F0 W0"), "66 F0: each prefix stands once, in the order F0 66 F2 F3"),
+    (ADD.replace("F0 W0", "F0 F0 W0"), "F0 F0: each prefix stands once, in the order F0 66 F2 F3"),
+    (ADD.replace("F0 W0", "F2 F3 W0"), "F2 and F3 don't stand together: processors take one of them"),
+    *((ADD.replace("83 /0", f"{byte:02X} /0"), f"{byte:02X} is a prefix, and no opcode") for byte in PREFIXES),
+    (ADD.replace("imm8:sx32", "imm8:sx32:sx64"), "sx64 in imm8:sx32:sx64 says once more what another word says"),
+    (ADD.replace("m32 imm8:sx32", "rm32:rw:w imm8:sx32"), "w in rm32:rw:w says once more what another word says"),
+    (ADD.replace("|  |", "| memory:lock_add |"),
+     "memory: names its mnemonic beside memory, and none of its operands may be that or a register"),
+    (ADD.replace("|  |", "| visits:m32,m32 |"), "m32 stands twice in its visits"),
+    (ADD.replace("Add", "\u2207dd"), "its character 53 is U+2207, and a line has printable ASCII alone"),
+    (ADD.replace("83 /0 ", "83 /0\t"), "its character 31 is U+0009, and a line has printable ASCII alone"),
+    (f"{ADD}\r", f"its character {len(ADD) + 1} is U+000D, and a line has printable ASCII alone"),
+    (f"{ADD} ", "a space stands at its end"),
 )
 
 # What stands behind the table, in line 9, and the sentence that it gets with the name before it.
@@ -60,6 +86,22 @@ BAD_ENDS = (
     (JUMP.replace("jmp_d8", "jo_d8"), f"jo_d8: it has no place in all_rows of {ROWS}"),
     ("[lock_b/or] `lock or`.", "lock_b/or: the group has no struct"),
     ("visit lock_or: lock_b/or", "lock_or: lock_b/or is no group whose instructions have a place here"),
+    ("visit lock_or: lock_b/or\nnames lock::or: lock_b/or", "lock_or: lock_b/or is no group whose instructions have a place here"),
+    ("visit lock_add: lock_a/add", "lock_add: the function has a list in line 1 already"),
+    ("names locked::add: lock_a/add", "locked::add: the function has a list in line 2 already"),
+    ("[jump/d8] Jumps.", "jump/d8: the group stands twice"),
+)
+
+# Tables that lack something, and the sentence that they get.
+BARE = (
+    ("", "table/instructions.txt: the table: it has no line of an instruction"),
+    ("# Nothing.\n\n", "table/instructions.txt: the table: it has no line of an instruction"),
+    (TABLE.replace(JUMP, ""),
+     f"table/instructions.txt: jmp_d8: it stands in all_rows of {ROWS}, and no line of the table is its row"),
+    ("[nop/nop] None.\nnop_4b | = nopl_rm | nop:4 | | Four bytes.\nnop_5b | = nopl_rm | nop:4 | | Five.\n",
+     "table/instructions.txt:3: nop_5b: nop_4b, line 2, is the no-operation of this length already"),
+    (f"{ADD}\n{JUMP}\n",
+     "table/instructions.txt:1: lock_addl_mi_sxb: it stands before the first group, a line as [lock_a/add] and what the file is about"),
 )
 
 # Tables of two rows that can't stand beside one another, by what the jump's line becomes.
@@ -87,6 +129,13 @@ def pages(name):
     return dict(part.split("\n", 1) for part in parts)
 
 
+def without_rights():
+    """What root starts has no right to read or write what isn't to be read or written; nobody else has it."""
+    if os.geteuid() == 0:
+        for right in (CAP_DAC_OVERRIDE, CAP_DAC_READ_SEARCH):
+            ctypes.CDLL(None).prctl(PR_CAPBSET_DROP, right, 0, 0, 0)
+
+
 class Checkout:
     """A folder with the scripts, a table and the files of before.txt."""
 
@@ -109,11 +158,53 @@ class Checkout:
         found = sorted((self.root / "crates").rglob("*.*"))
         return {str(file.relative_to(self.root)): file.read_text(encoding="utf-8") for file in found}
 
+    def put_left_over(self):
+        """A file that isn't written any more, in a folder that isn't to be written."""
+        self.put(LEFT_OVER, "// Written by table/write.py from table/instructions.txt.\n")
+        (self.root / LEFT_OVER).parent.chmod(0o555)
+
+    @classmethod
+    def nowhere(cls):
+        """A folder of which only the paths are asked."""
+        checkout = cls.__new__(cls)
+        checkout.root = Path("/nowhere")
+        return checkout
+
+    def bytes(self):
+        """What stands in each file and folder below crates/."""
+        found = sorted((self.root / "crates").rglob("*"))
+        return {str(file.relative_to(self.root)): file.read_bytes() if file.is_file() else None for file in found}
+
     def run(self, *words):
         """The status of the script, and what it complained of."""
-        command = [sys.executable, self.root / "table/write.py", *words]
-        done = subprocess.run(command, capture_output=True, text=True, encoding="utf-8", check=False)
+        command = [sys.executable, "-B", self.root / "table/write.py", *words]
+        done = subprocess.run(command, capture_output=True, text=True, encoding="utf-8", check=False,
+                              preexec_fn=without_rights)
         return done.returncode, done.stderr.splitlines()
+
+
+def spoilt(checkout):
+    """Ways to make a file one that can't be read or written: what is done, and the sentence that follows."""
+    rows, group = checkout.root / ROWS, checkout.root / "crates/lock_a"
+    yield lambda: rows.unlink(), f"{ROWS}: it can't be read: No such file or directory"
+    yield lambda: rows.write_text("-- none\n"), f"{ROWS}: it has no list all_rows"
+    yield lambda: rows.write_bytes(b"all_rows = \xff"), f"{ROWS}: its byte 12 isn't UTF-8"
+    yield lambda: rows.chmod(0), f"{ROWS}: it can't be read: Permission denied"
+    table = checkout.root / "table/instructions.txt"
+    yield table.unlink, "table/instructions.txt: it can't be read: No such file or directory"
+    yield lambda: table.write_bytes(b"# \xc3\n"), "table/instructions.txt: its byte 3 isn't UTF-8"
+    yield lambda: table.chmod(0), "table/instructions.txt: it can't be read: Permission denied"
+    part = checkout.root / INDEX
+    yield lambda: part.chmod(0), f"{INDEX}: it can't be read: Permission denied"
+    yield lambda: part.chmod(0o444), f"{INDEX}: it can't be written: Permission denied"
+    yield part.unlink, f"{INDEX}: it can't be read: No such file or directory"
+    yield lambda: (group / "src").chmod(0o555), "crates/lock_a/src/add.rt: it can't be written: Permission denied"
+    yield lambda: (group / "src/add.rt").mkdir(), "crates/lock_a/src/add.rt: it can't be read: Is a directory"
+    yield lambda: (checkout.root / "crates/lock_a/src/add.rt.new").mkdir(), \
+        "crates/lock_a/src/add.rt: it can't be written: Is a directory"
+    yield lambda: (checkout.root / "crates/jump/specs").write_text(""), \
+        "crates/jump/specs/Operands.antt: it can't be written: Not a directory"
+    yield checkout.put_left_over, f"{LEFT_OVER}: it can't be removed: Permission denied"
 
 
 class Tests:
@@ -138,6 +229,30 @@ class Tests:
                 wanted = 2, [f"table/instructions.txt{place}: {sentence}"]
                 self.same(sentence, checkout.run(), wanted)
             self.same("what a refused table leaves", checkout.files(), before)
+
+    def bare_tables(self):
+        with tempfile.TemporaryDirectory() as folder:
+            checkout = Checkout(folder, TABLE)
+            for table, sentence in BARE:
+                checkout.put("table/instructions.txt", table)
+                self.same(sentence, checkout.run(), (2, [sentence]))
+            rows = "all_rows =\n" + "".join(f"    row.{name} ∷\n" for name in ("jmp_d8", "one", "two", "lock_addl_mi_sxb"))
+            checkout.put(ROWS, rows.rstrip("\n") + " []\n")
+            checkout.put("table/instructions.txt", TABLE)
+            sentence = f"one: it stands in all_rows of {ROWS}, and no line of the table is its row, as 1 others do"
+            self.same("rows that are missing", checkout.run(), (2, [f"table/instructions.txt: {sentence}"]))
+
+    def unusable_files(self):
+        """A file that can't be read or written is one sentence, and every file stays as it was."""
+        for number in range(len(list(spoilt(Checkout.nowhere())))):
+            with tempfile.TemporaryDirectory() as folder:
+                checkout = Checkout(folder, TABLE)
+                spoil, sentence = list(spoilt(checkout))[number]
+                spoil()
+                before = checkout.bytes()
+                status, complaints = checkout.run()
+                self.same(sentence, (status, [said[:len(sentence)] for said in complaints]), (2, [sentence]))
+                self.same(f"what is left where {sentence}", checkout.bytes(), before)
 
     def two_instructions(self):
         with tempfile.TemporaryDirectory() as folder:
@@ -187,6 +302,8 @@ class Tests:
 def main():
     tests = Tests()
     tests.bad_tables()
+    tests.bare_tables()
+    tests.unusable_files()
     tests.two_instructions()
     tests.digits_by_map()
     print(f"test_write: {tests.passed} passed" + (f", {tests.failed} failed" if tests.failed else ""))

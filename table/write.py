@@ -1,8 +1,9 @@
 #!/usr/bin/env python3
 """Writes the sources that follow from table/instructions.txt, or with --check tells which ones differ.
 
-The status is 0 where all is as it has to be, 1 where --check found a difference, and 2 where a line of the table can't
-be or a part has no place: then nothing is written.
+All that is to be written is made and judged before the first file is touched, and each file is then replaced at once. The
+status is 0 where all is as it has to be, 1 where --check found a difference, and 2 where a line of the table can't be, a
+part has no place, or a file can't be read or written: then nothing is written.
 """
 
 import sys
@@ -37,11 +38,11 @@ def sources_of(table):
     sources = parts.Sources()
     structs.write(table, sources)
     rows.write(table, sources)
-    index.write(table, sources, parts.current(ROOT / index.SOURCE))
+    index.write(table, sources, parts.text_of(ROOT, index.SOURCE))
     enumeration.write(table, sources)
     texts.write(table, sources)
     signatures.write(table, sources)
-    classes.write(table, sources, parts.current(ROOT / classes.SOURCE))
+    classes.write(table, sources, parts.text_of(ROOT, classes.SOURCE))
     fixed.write(table, sources)
     facade.write(table, sources)
     return sources
@@ -49,12 +50,12 @@ def sources_of(table):
 
 def wanted():
     """The text of each file, and the files that have to go; None where something can't be."""
-    table, sentences = table_of(ROOT, (ROOT / TABLE).read_text(encoding="utf-8"))
-    for sentence in sentences:
-        refuse(*sentence)
-    if sentences:
-        return None
     try:
+        table, sentences = table_of(ROOT, parts.text_of(ROOT, TABLE))
+        for sentence in sentences:
+            refuse(*sentence)
+        if sentences:
+            return None
         sources = sources_of(table)
         return parts.texts(ROOT, sources), list(parts.left_over(ROOT, sources))
     except index.Unplaced as unplaced:
@@ -68,7 +69,7 @@ def check(found, left):
     """Tells of each file that isn't as the table gives it."""
     differences = 0
     for path, text in sorted(found.items()):
-        stands = parts.current(ROOT / path)
+        stands = parts.current(ROOT, path)
         if stands != text:
             complain(f"{path}:{parts.first_difference(stands, text)}: this isn't what the table gives")
             differences += 1
@@ -79,15 +80,7 @@ def check(found, left):
 
 
 def write(found, left):
-    changed = 0
-    for path, text in found.items():
-        file = ROOT / path
-        if parts.current(file) != text:
-            file.parent.mkdir(parents=True, exist_ok=True)
-            file.write_text(text, encoding="utf-8")
-            changed += 1
-    for path in left:
-        (ROOT / path).unlink()
+    changed = parts.written(ROOT, found, left)
     print(f"write: {len(found)} files, {changed} changed, {len(left)} removed")
     return 0
 
@@ -96,10 +89,14 @@ def main(words):
     if words not in ([], ["--check"]):
         complain(__doc__)
         return 2
-    found = wanted()
-    if found is None:
+    try:
+        found = wanted()
+        if found is None:
+            return 2
+        return check(*found) if words else write(*found)
+    except parts.Unusable as unusable:
+        complain(unusable)
         return 2
-    return check(*found) if words else write(*found)
 
 
 if __name__ == "__main__":

@@ -163,6 +163,10 @@ macro_rules! vex_f2 {
     ($without:ident, $with:ident) => { [NO_ROW, NO_ROW, NO_ROW, by_w!($without, $with), NO_ROW, NO_ROW, NO_ROW, NO_ROW, NO_ROW, NO_ROW, NO_ROW, NO_ROW, NO_ROW, NO_ROW, NO_ROW, NO_ROW] };
 }
 
+// Macros for places of which no other slot has rows.
+// table/write.py: macros
+// table/write.py: end
+
 /// The row in each slot, by the prefixes and W. Beside it stands the opcode, with the digit.
 // table/write.py: index
 static INDEX: [[[Option<Row>; 2]; 16]; 128] = [
