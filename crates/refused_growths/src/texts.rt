@@ -3,10 +3,10 @@
 use cax64_register::register_name;
 use cax64_test_support::growth::{Grows, Outcome, is_refused};
 use cax64_test_support::{Few, Named, Virtual};
-use cranelift_assembler_x64::inst::{andps_a, lock_addl_mr, shlb_m1};
+use cranelift_assembler_x64::inst::{andps_a, lock_addl_mi_sxb, lock_addl_mr, shlb_m1};
 use cranelift_assembler_x64::{
     Amode, AmodeOffset, AmodeOffsetPlusKnownOffset, AsReg, Fixed, Gpr, GprMem, Inst,
-    InstructionText, NonRspGpr, Numbers, Size, TrapCode, Xmm, XmmMem,
+    InstructionText, NonRspGpr, Numbers, Simm8, Size, TrapCode, Xmm, XmmMem,
 };
 use std::alloc::{AllocError, Allocator};
 use std::num::NonZeroU8;
@@ -26,10 +26,11 @@ enum Text {
     Trap,
     Inst,
     InstXed,
+    InstWithoutXed,
     InstTerm,
 }
 
-const TEXTS: [(Text, &str); 13] = [
+const TEXTS: [(Text, &str); 14] = [
     (Text::Hardware, "%r12b"),
     (Text::Number, "%xmm15"),
     (Text::Fixed, "%rax"),
@@ -42,6 +43,7 @@ const TEXTS: [(Text, &str); 13] = [
     (Text::Trap, "trap=5"),
     (Text::Inst, "lock addl %r9d, -0x80(%r12)"),
     (Text::InstXed, "shl $0x1, %r8b"),
+    (Text::InstWithoutXed, "none"),
     (Text::InstTerm, "((_64b | compat) & sse)"),
 ];
 
@@ -60,6 +62,15 @@ fn addition() -> lock_addl_mr<Numbers> {
         trap: None,
     };
     lock_addl_mr::new(place, Gpr::new(9))
+}
+
+fn locked_addition() -> lock_addl_mi_sxb<Numbers> {
+    let place = Amode::ImmReg {
+        base: 0,
+        simm32: AmodeOffsetPlusKnownOffset::ZERO,
+        trap: None,
+    };
+    lock_addl_mi_sxb::new(place, Simm8::new(-1))
 }
 
 fn text_of<I: InstructionText, A: Allocator + Copy>(
@@ -85,6 +96,18 @@ fn text_xed_of<I: InstructionText, A: Allocator + Copy>(
     }
 }
 
+/// `none` of an instruction that has no text as XED prints it.
+fn absent_xed_of<I: InstructionText, A: Allocator + Copy>(
+    alloc: A,
+    inst: &I,
+) -> Result<String<A>, AllocError> {
+    let mut answer = String::new(alloc);
+    if inst.nameable() && inst.to_string_xed(alloc)?.is_none() {
+        answer.push_str("none")?;
+    }
+    Ok(answer)
+}
+
 fn term_of<I: InstructionText, A: Allocator + Copy>(
     alloc: A,
     inst: &I,
@@ -98,19 +121,22 @@ fn term_of<I: InstructionText, A: Allocator + Copy>(
 enum Of {
     Addition,
     Shift,
+    Locked,
     Conjunction,
 }
 
-/// One function holds an `Inst`, for all three.
+/// One function holds an `Inst`, for all four.
 fn made_of_inst<A: Allocator + Copy>(alloc: A, of: Of) -> Result<String<A>, AllocError> {
     let inst: Inst<Numbers> = match of {
         Of::Addition => Inst::lock_addl_mr(addition()),
         Of::Shift => Inst::shlb_m1(shlb_m1::new(GprMem::Gpr(8))),
+        Of::Locked => Inst::lock_addl_mi_sxb(locked_addition()),
         Of::Conjunction => Inst::andps_a(andps_a::new(Xmm::new(8), XmmMem::Xmm(1))),
     };
     match of {
         Of::Addition => text_of(alloc, &inst),
         Of::Shift => text_xed_of(alloc, &inst),
+        Of::Locked => absent_xed_of(alloc, &inst),
         Of::Conjunction => term_of(alloc, &inst),
     }
 }
@@ -130,6 +156,7 @@ impl Text {
             Text::Trap => trap_text(alloc),
             Text::Inst => made_of_inst(alloc, Of::Addition),
             Text::InstXed => made_of_inst(alloc, Of::Shift),
+            Text::InstWithoutXed => made_of_inst(alloc, Of::Locked),
             Text::InstTerm => made_of_inst(alloc, Of::Conjunction),
         }
     }

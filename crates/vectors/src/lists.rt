@@ -5,8 +5,8 @@ use crate::encoding::recorder_of;
 use crate::representation::{Representation, TakesEitherList};
 use cax64_test_support::RefusingSink;
 use cranelift_assembler_x64::{
-    CodeSink, FixedSink, Instruction, Numbers, Recorder, SinkError, all_encodable, encode_each,
-    encode_each_whole,
+    CodeSink, FixedSink, Instruction, Numbers, Recorder, Refused, SinkError, all_encodable,
+    encode_each, encode_each_whole,
 };
 use named_instructions::Form;
 use named_instructions::fields::{Fault, Fields, parsed};
@@ -15,7 +15,8 @@ use std::alloc::Global;
 /// The size of the fixed sink.
 const SIZE: usize = 64;
 
-/// Encodes a list, which has to be encodable, and writes whether the sink, which refuses with this error, took it.
+/// Encodes a list, which has to be encodable, and writes whether the sink, which refuses with this error, took it. A list
+/// of one is an instruction that is encoded alone.
 fn write_outcome<I: Instruction, S: CodeSink>(
     came: &mut String,
     insts: &[I],
@@ -25,7 +26,13 @@ fn write_outcome<I: Instruction, S: CodeSink>(
     if !all_encodable(insts, sink) {
         return Err(Fault::Malformed);
     }
-    match encode_each(insts, sink) {
+    let put = match insts {
+        [inst] => inst
+            .encode(sink)
+            .map_err(|error| Refused { whole: 0, error }),
+        insts => encode_each(insts, sink),
+    };
+    match put {
         Ok(()) => came.push_str("ok\t")?,
         Err(refused) => {
             let whole = refused.whole;

@@ -1,13 +1,17 @@
 //! REX, VEX and EVEX.
 
 use crate::columns::write_bytes;
-use cranelift_assembler_x64::FixedSink;
 use cranelift_assembler_x64::evex::EvexPrefix;
 use cranelift_assembler_x64::rex::RexPrefix;
 use cranelift_assembler_x64::vex::VexPrefix;
 use named_instructions::fields::{Fault, Fields};
+use std::alloc::Global;
 
-pub(crate) fn answer_rex(fields: &mut Fields<'_>, came: &mut String) -> Result<(), Fault> {
+pub(crate) fn answer_rex(
+    alloc: Global,
+    fields: &mut Fields<'_>,
+    came: &mut String,
+) -> Result<(), Fault> {
     let call = fields.text()?;
     let a = fields.number(15)?;
     let b = fields.number(15)?;
@@ -22,24 +26,28 @@ pub(crate) fn answer_rex(fields: &mut Fields<'_>, came: &mut String) -> Result<(
         "three_op" => RexPrefix::three_op(a, b, c, w_bit, uses_8bit),
         _ => return Err(Fault::Malformed),
     };
-    let mut sink = FixedSink::<1>::new();
-    let _ = prefix.encode(&mut sink);
-    write_bytes(came, sink.bytes())
+    let mut sink: Vec<u8> = Vec::new(alloc);
+    prefix.encode(&mut sink).map_err(|_| Fault::NoMemory)?;
+    write_bytes(came, &sink)
 }
 
-fn vex_bytes(prefix: &VexPrefix) -> FixedSink<3> {
-    let mut sink = FixedSink::new();
-    let _ = prefix.encode(&mut sink);
-    sink
+fn vex_bytes(alloc: Global, prefix: &VexPrefix) -> Result<Vec<u8>, Fault> {
+    let mut sink = Vec::new(alloc);
+    prefix.encode(&mut sink).map_err(|_| Fault::NoMemory)?;
+    Ok(sink)
 }
 
-fn evex_bytes(prefix: &EvexPrefix) -> FixedSink<4> {
-    let mut sink = FixedSink::new();
-    let _ = prefix.encode(&mut sink);
-    sink
+fn evex_bytes(alloc: Global, prefix: &EvexPrefix) -> Result<Vec<u8>, Fault> {
+    let mut sink = Vec::new(alloc);
+    prefix.encode(&mut sink).map_err(|_| Fault::NoMemory)?;
+    Ok(sink)
 }
 
-pub(crate) fn answer_vex(fields: &mut Fields<'_>, came: &mut String) -> Result<(), Fault> {
+pub(crate) fn answer_vex(
+    alloc: Global,
+    fields: &mut Fields<'_>,
+    came: &mut String,
+) -> Result<(), Fault> {
     let reg = fields.number(15)?;
     let vvvv = fields.number(15)?;
     let operand = (fields.optional(15)?, fields.optional(15)?);
@@ -50,11 +58,14 @@ pub(crate) fn answer_vex(fields: &mut Fields<'_>, came: &mut String) -> Result<(
     if map == 0 {
         return Err(Fault::Malformed);
     }
-    let three = vex_bytes(&VexPrefix::three_op(reg, vvvv, operand, l, pp, map, w));
-    write_bytes(came, three.bytes())?;
+    let three = vex_bytes(
+        alloc,
+        &VexPrefix::three_op(reg, vvvv, operand, l, pp, map, w),
+    )?;
+    write_bytes(came, &three)?;
     if vvvv == 0 {
-        let two = vex_bytes(&VexPrefix::two_op(reg, operand, l, pp, map, w));
-        note_difference(came, "two_op", three.bytes(), two.bytes())?;
+        let two = vex_bytes(alloc, &VexPrefix::two_op(reg, operand, l, pp, map, w))?;
+        note_difference(came, "two_op", &three, &two)?;
     }
     Ok(())
 }
@@ -73,7 +84,11 @@ fn note_difference(
     write_bytes(came, second)
 }
 
-pub(crate) fn answer_evex(fields: &mut Fields<'_>, came: &mut String) -> Result<(), Fault> {
+pub(crate) fn answer_evex(
+    alloc: Global,
+    fields: &mut Fields<'_>,
+    came: &mut String,
+) -> Result<(), Fault> {
     let reg = fields.number(31)?;
     let vvvv = fields.number(31)?;
     let operand = (fields.optional(15)?, fields.optional(15)?);
@@ -82,18 +97,25 @@ pub(crate) fn answer_evex(fields: &mut Fields<'_>, came: &mut String) -> Result<
     let mmm = fields.number(7)?;
     let w = fields.flag()?;
     let broadcast = fields.flag()?;
-    let new = evex_bytes(&EvexPrefix::new(reg, vvvv, operand, ll, pp, mmm, w, broadcast));
-    write_bytes(came, new.bytes())?;
+    let new = evex_bytes(
+        alloc,
+        &EvexPrefix::new(reg, vvvv, operand, ll, pp, mmm, w, broadcast),
+    )?;
+    write_bytes(came, &new)?;
     let three = EvexPrefix::three_op(reg, vvvv, operand, ll, pp, mmm, w, broadcast);
-    note_difference(came, "three_op", new.bytes(), evex_bytes(&three).bytes())?;
+    note_difference(came, "three_op", &new, &evex_bytes(alloc, &three)?)?;
     if vvvv == 0 {
         let two = EvexPrefix::two_op(reg, operand, ll, pp, mmm, w, broadcast);
-        note_difference(came, "two_op", new.bytes(), evex_bytes(&two).bytes())?;
+        note_difference(came, "two_op", &new, &evex_bytes(alloc, &two)?)?;
     }
     Ok(())
 }
 
-pub(crate) fn answer_apx(fields: &mut Fields<'_>, came: &mut String) -> Result<(), Fault> {
+pub(crate) fn answer_apx(
+    alloc: Global,
+    fields: &mut Fields<'_>,
+    came: &mut String,
+) -> Result<(), Fault> {
     let reg = fields.number(31)?;
     let vvvv = fields.number(31)?;
     let operand = (fields.optional(31)?, fields.optional(31)?);
@@ -102,15 +124,18 @@ pub(crate) fn answer_apx(fields: &mut Fields<'_>, came: &mut String) -> Result<(
     let w = fields.flag()?;
     let nd = fields.flag()?;
     let nf = fields.flag()?;
-    let legacy = evex_bytes(&EvexPrefix::legacy(reg, vvvv, operand, pp, mmm, w, nd, nf));
-    write_bytes(came, legacy.bytes())?;
+    let legacy = evex_bytes(
+        alloc,
+        &EvexPrefix::legacy(reg, vvvv, operand, pp, mmm, w, nd, nf),
+    )?;
+    write_bytes(came, &legacy)?;
     let three = EvexPrefix::legacy_three_op(reg, vvvv, operand, pp, mmm, w, nd, nf);
-    let three = evex_bytes(&three);
-    note_difference(came, "legacy_three_op", legacy.bytes(), three.bytes())?;
+    let three = evex_bytes(alloc, &three)?;
+    note_difference(came, "legacy_three_op", &legacy, &three)?;
     if vvvv == 0 {
         let two = EvexPrefix::legacy_two_op(reg, operand, pp, mmm, w, nd, nf);
-        let two = evex_bytes(&two);
-        note_difference(came, "legacy_two_op", legacy.bytes(), two.bytes())?;
+        let two = evex_bytes(alloc, &two)?;
+        note_difference(came, "legacy_two_op", &legacy, &two)?;
     }
     Ok(())
 }

@@ -4,12 +4,16 @@ use crate::columns::{write_bytes, write_calls, write_notices};
 use crate::encoding::recorder_of;
 use cax64_test_support::{CallRecorder, RefusingSink};
 use cranelift_assembler_x64::rex::Disp;
-use cranelift_assembler_x64::{Amode, FixedSink, Recorder, emit_modrm_sib_disp};
+use cranelift_assembler_x64::{Amode, Recorder, emit_modrm_sib_disp};
 use named_instructions::address::{Parts, amode_of, target_of};
 use named_instructions::fields::{Fault, Fields, parsed};
 use std::alloc::Global;
 
-pub(crate) fn answer_tail(fields: &mut Fields<'_>, came: &mut String) -> Result<(), Fault> {
+pub(crate) fn answer_tail(
+    alloc: Global,
+    fields: &mut Fields<'_>,
+    came: &mut String,
+) -> Result<(), Fault> {
     let enc_g = fields.number(255)?;
     let parts = Parts {
         base: Some(fields.number(15)?),
@@ -21,12 +25,12 @@ pub(crate) fn answer_tail(fields: &mut Fields<'_>, came: &mut String) -> Result<
     };
     let factor = fields.factor()?;
     let address = parts.amode()?;
-    let mut sink = FixedSink::<6>::new();
+    let mut sink: Vec<u8> = Vec::new(alloc);
     if !address.is_addressable(&sink) {
         return Err(Fault::Malformed);
     }
-    emit_modrm_sib_disp(&mut sink, enc_g, &address, 0, factor).unwrap();
-    write_bytes(came, sink.bytes())
+    emit_modrm_sib_disp(&mut sink, enc_g, &address, 0, factor).map_err(|_| Fault::NoMemory)?;
+    write_bytes(came, &sink)
 }
 
 pub(crate) fn answer_relative(
@@ -87,16 +91,20 @@ fn write_class(came: &mut String, class: Disp) -> Result<(), Fault> {
     Ok(())
 }
 
-pub(crate) fn answer_disp(fields: &mut Fields<'_>, came: &mut String) -> Result<(), Fault> {
+pub(crate) fn answer_disp(
+    alloc: Global,
+    fields: &mut Fields<'_>,
+    came: &mut String,
+) -> Result<(), Fault> {
     let value = fields.signed()?;
     let factor = fields.factor()?;
     let mut class = Disp::new(value, factor);
     write_class(came, class)?;
     let m0d = class.m0d();
     write!(came, "\t{m0d}\t")?;
-    let mut sink = FixedSink::<4>::new();
-    let _ = class.emit(&mut sink);
-    write_bytes(came, sink.bytes())?;
+    let mut sink: Vec<u8> = Vec::new(alloc);
+    class.emit(&mut sink).map_err(|_| Fault::NoMemory)?;
+    write_bytes(came, &sink)?;
     came.push('\t')?;
     class.force_immediate();
     write_class(came, class)

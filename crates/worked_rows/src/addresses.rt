@@ -5,7 +5,7 @@ use cax64_test_support::Virtual;
 use cranelift_assembler_x64::laws::emit_to_fixed_sink;
 use cranelift_assembler_x64::{
     Amode, AmodeOffset, AmodeOffsetPlusKnownOffset, DeferredTarget, FixedSink, GprMem, NonRspGpr,
-    Scale, SinkError, TrapCode, XmmMem,
+    Recorder, Scale, SinkError, TrapCode, XmmMem,
 };
 use std::num::NonZeroU8;
 
@@ -69,4 +69,18 @@ fn offsets_have_values(rt: HostRuntime) {
     for number in 0..4 {
         assert!(rt; Scale::new(number).enc() == number);
     }
+}
+
+#[test]
+fn an_offset_fits_where_it_is_known_and_its_sum_has_32_bits(rt: HostRuntime) {
+    let late = AmodeOffsetPlusKnownOffset {
+        simm32: AmodeOffset::new(i32::MAX),
+        offset: Some(7),
+    };
+    let mut sink = Recorder::new(rt.alloc());
+    assert!(rt; !late.fits(&sink));
+    sink.set_offset(7, 1);
+    assert!(rt; !late.fits(&sink));
+    sink.set_offset(7, -1);
+    assert!(rt; late.fits(&sink) && late.value(&sink) == i32::MAX - 1);
 }

@@ -29,7 +29,8 @@ fn held_at(bytes: &[u8], place: usize) -> Option<u32> {
     }
 }
 
-/// An instruction's bytes once its field leads to a target, which counts from the instruction's beginning.
+/// An instruction's bytes once its field leads to a target, which counts from the instruction's beginning; none where the
+/// notices aren't as they were.
 fn patched<I: Instruction>(alloc: Global, inst: &I, target: u32) -> Option<Vec<u8>> {
     let mut sink = Recorder::new(alloc);
     if !inst.is_encodable(&sink) || inst.encode(&mut sink).is_err() {
@@ -42,7 +43,7 @@ fn patched<I: Instruction>(alloc: Global, inst: &I, target: u32) -> Option<Vec<u
     }
     let end = place as u32 + 4;
     sink.patch4(place, target.wrapping_sub(end).wrapping_add(held));
-    Some(sink.into_bytes())
+    (told_place(sink.notices()) == Some(place)).then_some(sink.into_bytes())
 }
 
 #[test]

@@ -496,20 +496,22 @@ fn refusals(alloc: Global, part: Part, capacity: usize, filled: usize) -> Option
 
 #[test]
 fn a_refusal_leaves_what_a_plain_form_leaves(rt: HostRuntime) {
-    let mut refused = 0u32;
     for part in PARTS {
         for capacity in 0..25usize {
             for filled in 0..capacity + 1 {
-                let Some(some) = refusals(rt.alloc(), part, capacity, filled) else {
+                let Some(refused) = refusals(rt.alloc(), part, capacity, filled) else {
                     assert!(rt;
                         false,
                         "{part:?} in {capacity}, of which {filled} are filled"
                     );
                     return;
                 };
-                refused = refused.saturating_add(some);
+                // Behind a text that fills its memory nothing is added without more.
+                assert!(rt;
+                    refused > 0 || filled < capacity,
+                    "{part:?} behind {filled}"
+                );
             }
         }
     }
-    assert!(rt; refused > 10_000);
 }
