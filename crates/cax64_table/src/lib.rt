@@ -2,7 +2,9 @@
 #![tactic(auto)]
 
 pub mod cursor;
+mod encodable;
 pub mod entry;
+mod fields;
 mod index;
 pub mod laws;
 pub mod legacy;
@@ -10,5 +12,6 @@ pub mod lookup;
 pub mod numbers;
 mod packed;
 pub mod prefix;
+mod ready;
 
 pub use packed::line;
