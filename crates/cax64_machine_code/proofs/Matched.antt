@@ -47,11 +47,3 @@ reads_as parts tail b h least most = record {
   least = least;
   most = most;
 }
-
-pub reads_as_tail : (parts : Parts) (tail : ℕ) (b : List ℕ) (h : (rest : List ℕ) → find (b ++ rest) ≡ Some (record { parts = parts; tail = tail; rest = rest })) (least : 1 ≤ length b) (most : length b ≤ 13) → (reads_as parts tail b h least most).reading.tail ≡ tail
-unfolding reads_as
-reads_as_tail parts tail b h least most = refl
-
-pub reads_as_row : (parts : Parts) (tail : ℕ) (b : List ℕ) (h : (rest : List ℕ) → find (b ++ rest) ≡ Some (record { parts = parts; tail = tail; rest = rest })) (least : 1 ≤ length b) (most : length b ≤ 13) → (reads_as parts tail b h least most).reading.row ≡ parts.row
-unfolding reads_as
-reads_as_row parts tail b h least most = refl

@@ -1,17 +1,16 @@
-use Rattle.std.proofs.Common.{◌≡◌, ℕ, ◌-◌, ◌≤◌, List, [], ◌∷◌, ◌++◌, Bool, true, false, refl, ◌∙◌, ap, sym, subst, Option, Some, None, ℤ, length}
-use Rattle.std.specs.Prelude.{◌&&◌, option_map, option_and_then, map}
+use Rattle.std.proofs.Common.{◌≡◌, ℕ, zero, suc, arith, ◌-◌, ◌≤◌, ◌<◌, List, [], ◌∷◌, ◌++◌, true, refl, ◌∙◌, ap, sym, subst, Option, Some, None, ℤ, length}
+use Rattle.std.specs.Prelude.{Contains, slice_index_or, option_map, option_and_then}
 use Rattle.std.proofs.lemmas.Bool.{and_parts}
 use Rattle.std.proofs.lemmas.Option.{same_Some}
-use Rattle.cax64_machine_code.specs.Fields.{IsBytes}
-use Rattle.cax64_machine_code.specs.Line.{opcode_bytes, prefix_matches, digit_matches}
+use Rattle.cax64_machine_code.specs.Apart.{apart, apart_from, each_two}
+use Rattle.cax64_machine_code.specs.Line.{opcode_bytes, prefix_matches}
 use Rattle.cax64_machine_code.specs.Prefix.{Prefix, prefix_at, x_of, b_of}
-use Rattle.cax64_machine_code.specs.Reading.{PartsOf, FoundOf, Parts, Found, imm_at, place_at, reg_view, vvvv_at, matched_at, operands_of, operands_at, or_later, row_at, find, read, reading_of}
-use Rattle.cax64_machine_code.specs.ReadLine.{LineReading, ReadsLineAs, find_line, line_reading_of, read_line, or_else, read_of, with_line}
+use Rattle.cax64_machine_code.specs.Reading.{PartsOf, FoundOf, Found, imm_at, place_at, reg_view, vvvv_at, matched_at, operands_of, operands_at, or_later, row_at, find, read, reading_of}
+use Rattle.cax64_machine_code.specs.ReadLine.{LineReading, ReadsLineAs, find_line, line_reading_of, read_line, or_else, read_of, with_line, as_row, parts_as, lines_of}
 use Rattle.cax64_machine_code.specs.Rows.{line_of, all_rows}
 use Rattle.cax64_machine_code.specs.Sequence.{ReadsAs}
 use Rattle.cax64_machine_code.specs.Tail.{Tail, IsTail, read_tail}
 use Rattle.cax64_machine_code.specs.declared.line.Line.{Line}
-use Rattle.cax64_machine_code.specs.declared.line.ImmField.{ImmField}
 use Rattle.cax64_machine_code.specs.declared.line.PlaceField.{PlaceField}
 use Rattle.cax64_machine_code.specs.declared.line.RegField.{RegField}
 use Rattle.cax64_machine_code.specs.declared.line.TailField.{TailField}
@@ -19,11 +18,11 @@ use Rattle.cax64_machine_code.specs.declared.line.TailField.TheVariants.{NoTail,
 use Rattle.cax64_machine_code.specs.declared.reading.Place.{Place}
 use Rattle.cax64_machine_code.specs.declared.reading.Reading.{Reading}
 use Rattle.cax64_machine_code.specs.declared.row.Row.{Row}
-use Rattle.cax64_machine_code.proofs.Apart.{apart, apart_from_all, all_apart}
-use Rattle.cax64_machine_code.proofs.Matched.{find_is, row_found, length_left}
+use Rattle.cax64_machine_code.proofs.Apart.{apart_from_all, all_apart}
+use Rattle.cax64_machine_code.proofs.Matched.{find_is, length_left}
 use Rattle.cax64_machine_code.proofs.Table.{table_apart}
 use Rattle.cax64_machine_code.proofs.Uniqueness.{excluded}
-use Rattle.cax64_machine_code.proofs.Whole.{row_matches, steps, read_found}
+use Rattle.cax64_machine_code.proofs.Whole.{row_matches, steps, read_found, with_more, matched_at_more, operands_more, prefix_matched_more, left_length}
 use Rattle.cax64_machine_code.proofs.Written.{IsPrefix, IsImm, BeginsWith, DigitIs, prefixed, matched, bare_matches, tail_matches, tail_length}
 
 -- An instruction is found by its line alone, and what is so found is what its row is read as.
@@ -68,11 +67,8 @@ reads_line_as parts tail b h least most = record {
 
 -- The same with another name of the line.
 
-abbrev pub named : {K L : Type 0} → L → PartsOf K → PartsOf L
-named key parts = record { row = key; reg = parts.reg; vvvv = parts.vvvv; place = parts.place; imm = parts.imm }
-
 abbrev pub found_as : {K L : Type 0} → L → FoundOf K → FoundOf L
-found_as key found = record { parts = named key found.parts; tail = found.tail; rest = found.rest }
+found_as key found = record { parts = parts_as key found.parts; tail = found.tail; rest = found.rest }
 
 abbrev tail_made : {J : Type 0} → J → Line → RegField → Prefix → List ℕ → Tail → Place → Option ℤ × List ℕ → FoundOf J
 tail_made key line reg p bytes t place i = record { parts = record { row = key; reg = reg_view reg p t.reg; vvvv = vvvv_at line.prefix p; place = Some place; imm = i.0 }; tail = length bytes - length t.rest; rest = i.1 }
@@ -118,6 +114,14 @@ line_steps line bytes found h = by_prefix (prefix_at bytes) refl h
     by_prefix None ep k = cc
     by_prefix (Some p) ep k = by_match p.0 p.1 (matched_at line p.0 p.1) ep refl k
 
+line_finds_more : (line : Line) (bytes more : List ℕ) (found : FoundOf Line) → find_line line bytes ≡ Some found → find_line line (bytes ++ more) ≡ Some (with_more more found)
+line_finds_more line bytes more found h =
+    let s = line_steps line bytes found h in
+    line_finds (bytes ++ more) (s.behind ++ more) (s.rest ++ more) s.prefix line (with_more more found)
+    (prefix_matched_more line bytes s.behind more s.rest s.prefix s.prefix_is s.matched)
+    (matched_at_more line s.prefix s.behind more s.rest s.matched)
+    (operands_more line.tail line line s.prefix s.rest more found s.operands_are)
+
 -- what the line of a row finds is found
 pub row_finds : (row : Row) (bytes : List ℕ) (found : FoundOf Line) → find_line (line_of row) bytes ≡ Some found → find bytes ≡ Some (found_as row found)
 unfolding operands_at
@@ -131,22 +135,26 @@ found_by : (bytes : List ℕ) (o : Option (FoundOf Line)) (r : LineReading) → 
 found_by bytes None r h = cc
 found_by bytes (Some found) r h = (found, refl, same_Some _ _ h)
 
-abbrev pub reading_as : Row → LineReading → Reading
-reading_as row r = record { row = row; length = r.length; tail = r.tail; reg = r.reg; vvvv = r.vvvv; place = r.place; imm = r.imm }
+-- what a line reads it reads whatever follows
+pub line_more : (line : Line) (bytes more : List ℕ) (r : LineReading) → read_line line bytes ≡ Some r → read_line line (bytes ++ more) ≡ Some r
+unfolding read_line
+line_more line bytes more r h =
+    let f = found_by bytes (find_line line bytes) r h in
+    rw (line_finds_more line bytes more f.0 f.1, left_length bytes f.0.rest more) (ap Some f.2)
 
 -- what the line of a row reads is read as the row
-pub row_reads : (row : Row) (bytes : List ℕ) (r : LineReading) → read_line (line_of row) bytes ≡ Some r → read bytes ≡ Some (reading_as row r)
+pub row_reads : (row : Row) (bytes : List ℕ) (r : LineReading) → read_line (line_of row) bytes ≡ Some r → read bytes ≡ Some (as_row row r)
 unfolding read read_line
 row_reads row bytes r h =
     let f = found_by bytes (find_line (line_of row) bytes) r h in
-    rw (row_finds row bytes f.0 f.1) (ap (λ (z : LineReading). Some (reading_as row z)) f.2)
+    rw (row_finds row bytes f.0 f.1) (ap (λ (z : LineReading). Some (as_row row z)) f.2)
 
 -- So bytes that read by a row's line, whatever follows, read as the row.
-unfoldable pub row_reads_as : (row : Row) (meant : PartsOf Line) (b : List ℕ) → meant.row ≡ line_of row → ReadsLineAs meant b → ReadsAs (named row meant) b
+unfoldable pub row_reads_as : (row : Row) (meant : PartsOf Line) (b : List ℕ) → meant.row ≡ line_of row → ReadsLineAs meant b → ReadsAs (parts_as row meant) b
 row_reads_as row meant b e h = record {
-  reading = reading_as row h.reading;
+  reading = as_row row h.reading;
   reads = λ rest. row_reads row (b ++ rest) h.reading (ap (λ (l : Line). read_line l (b ++ rest)) (sym e) ∙ h.reads rest);
-  same = ap (λ (z : PartsOf Line). named row z) h.same;
+  same = ap (λ (z : PartsOf Line). parts_as row z) h.same;
   length = h.length;
   least = h.least;
   most = h.most;
@@ -154,17 +162,18 @@ row_reads_as row meant b e h = record {
 
 -- The reader of a table.
 
-abbrev pub apart_from : Line → List Line → Bool
-apart_from line [] = true
-apart_from line (other ∷ lines) = apart line other && apart_from line lines
-
-abbrev pub each_two : List Line → Bool
-each_two [] = true
-each_two (line ∷ lines) = apart_from line lines && each_two lines
-
 pub data IsLineIn (line : Line) : List Line → Type 0 where
   first : {lines : List Line} → IsLineIn line (line ∷ lines)
   later : {other : Line} {lines : List Line} → IsLineIn line lines → IsLineIn line (other ∷ lines)
+
+-- an element of the list by its place
+line_in : (lines : List Line) (line : Line) (k : ℕ) → k < length lines → slice_index_or lines k line ≡ line → IsLineIn line lines
+line_in [] line k h e = absurd (omega arith)
+line_in (other ∷ lines) line zero h e = subst (λ (l : Line). IsLineIn l (other ∷ lines)) e first
+line_in (other ∷ lines) line (suc k) h e = later (line_in lines line k (omega arith) e)
+
+pub contained : (lines : List Line) (line : Line) → Contains lines line → IsLineIn line lines
+contained lines line c = line_in lines line c.0 c.1 c.2
 
 -- no line reads what another reads that it's apart from
 not_read : (line other : Line) (bytes : List ℕ) (p : Prefix) (behind rest : List ℕ) → prefix_at bytes ≡ Some (p, behind) → matched_at line p behind ≡ Some rest → apart line other ≡ true → read_line other bytes ≡ None
@@ -210,10 +219,6 @@ line_reads (other ∷ lines) line bytes r h (later m) e =
     other_reads_not other lines line bytes r m a e = by_read other line bytes r (read_line other bytes) refl e (in_apart other lines line m a)
 
 -- What rows find is what their lines read.
-
-abbrev lines_of : List Row → List Line
-lines_of [] = []
-lines_of (row ∷ rows) = line_of row ∷ lines_of rows
 
 from_lines : (row : Row) (rows : List Row) → apart_from_all row rows ≡ apart_from (line_of row) (lines_of rows)
 from_lines row [] = refl
@@ -261,6 +266,9 @@ none_without : (lines : List Line) (bytes : List ℕ) → prefix_at bytes ≡ No
 unfolding read_of read_line find_line
 none_without [] bytes h = refl
 none_without (line ∷ lines) bytes h = rw (h, none_without lines bytes h) refl
+
+pub lines_apart : each_two (lines_of all_rows) ≡ true
+lines_apart = sym (two_lines all_rows) ∙ table_apart
 
 -- what is read is what the lines of the rows read
 pub read_is : (bytes : List ℕ) → option_map {T = Reading} {U = LineReading} with_line (read bytes) ≡ read_of (lines_of all_rows) bytes

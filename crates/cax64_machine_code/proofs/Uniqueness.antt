@@ -13,7 +13,8 @@ use Rattle.cax64_machine_code.specs.declared.line.TailField.{TailField}
 use Rattle.cax64_machine_code.specs.declared.line.PrefixField.TheVariants.{LegacyField, VexField}
 use Rattle.cax64_machine_code.specs.declared.line.RegField.TheVariants.{Digit, Register8, Register}
 use Rattle.cax64_machine_code.specs.declared.line.TailField.TheVariants.{NoTail, Modrm}
-use Rattle.cax64_machine_code.proofs.Apart.{prefix_apart, w_apart, bytes_apart, reg_apart, digit_apart, apart, apart_from_all, all_apart}
+use Rattle.cax64_machine_code.specs.Apart.{prefix_apart, w_apart, bytes_apart, reg_apart, digit_apart, apart}
+use Rattle.cax64_machine_code.proofs.Apart.{apart_from_all, all_apart}
 use Rattle.cax64_machine_code.specs.Reading.{matched_at}
 use Rattle.cax64_machine_code.specs.Rows.{line_of, all_rows}
 use Rattle.cax64_machine_code.specs.declared.row.Row.{Row}

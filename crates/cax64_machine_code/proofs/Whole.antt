@@ -8,16 +8,16 @@ use Rattle.cax64_machine_code.specs.Prefix.{no_legacy, legacy_at, Rex, rex_of, r
 use Rattle.cax64_machine_code.specs.Line.{prefix_matches, after, digit_matches, opcode_at, opcode_bytes}
 use Rattle.cax64_machine_code.specs.declared.line.LegacySet.{LegacySet}
 use Rattle.cax64_machine_code.specs.declared.line.Line.{Line}
+use Rattle.cax64_machine_code.specs.declared.line.Opcode.{Opcode}
 use Rattle.cax64_machine_code.specs.declared.line.RegField.{RegField}
 use Rattle.cax64_machine_code.specs.declared.line.PlaceField.{PlaceField}
 use Rattle.cax64_machine_code.specs.declared.line.TailField.{TailField}
 use Rattle.cax64_machine_code.specs.declared.line.ImmField.{ImmField}
 use Rattle.cax64_machine_code.specs.declared.line.TailField.TheVariants.{NoTail, Modrm}
 use Rattle.cax64_machine_code.specs.declared.line.ImmField.TheVariants.{NoImm, Imm, Simm}
-use Rattle.cax64_machine_code.specs.Reading.{Found, reading_of, read, place_at, imm_at, operands_of, operands_at, matched_at, or_later, row_at, find, vvvv_at, reg_view}
+use Rattle.cax64_machine_code.specs.Reading.{FoundOf, Found, reading_of, read, place_at, imm_at, operands_of, operands_at, matched_at, or_later, row_at, find, vvvv_at, reg_view}
 use Rattle.cax64_machine_code.specs.Rows.{line_of, all_rows}
 use Rattle.cax64_machine_code.specs.declared.row.Row.{Row}
-use Rattle.cax64_machine_code.specs.declared.row.Row.TheVariants.{lock_addb_mi}
 use Rattle.cax64_machine_code.specs.declared.reading.Place.{Place}
 use Rattle.cax64_machine_code.specs.declared.reading.Reading.{Reading}
 use Rattle.cax64_machine_code.proofs.Extended.{number_at_more, mapped, longer, read_tail_more}
@@ -157,34 +157,34 @@ imm_at_more (Imm size) bytes more r h = mapped (λ (n : ℕ). Some (pos n)) (num
 imm_at_more (Simm size) bytes more r h = mapped (λ (n : ℕ). Some (signed_of size n)) (number_at size bytes) (number_at size (bytes ++ more)) more r (number_at_more size bytes more) h
 
 -- what is found, with more behind it
-abbrev pub with_more : List ℕ → Found → Found
+abbrev pub with_more : {K : Type 0} → List ℕ → FoundOf K → FoundOf K
 with_more more found = record { parts = found.parts; tail = found.tail; rest = found.rest ++ more }
 
-bare_more : (row : Row) (line : Line) (p : Prefix) (o o' : Option (Option ℤ × List ℕ)) (more : List ℕ) (found : Found) → ((r : Option ℤ × List ℕ) → o ≡ Some r → o' ≡ Some (r.0, r.1 ++ more)) → option_map {T = Option ℤ × List ℕ} {U = Found} (λ i. record { parts = record { row = row; reg = None; vvvv = vvvv_at line.prefix p; place = None; imm = i.0 }; tail = 0; rest = i.1 }) o ≡ Some found → option_map {T = Option ℤ × List ℕ} {U = Found} (λ i. record { parts = record { row = row; reg = None; vvvv = vvvv_at line.prefix p; place = None; imm = i.0 }; tail = 0; rest = i.1 }) o' ≡ Some (with_more more found)
+bare_more : {K : Type 0} (row : K) (line : Line) (p : Prefix) (o o' : Option (Option ℤ × List ℕ)) (more : List ℕ) (found : FoundOf K) → ((r : Option ℤ × List ℕ) → o ≡ Some r → o' ≡ Some (r.0, r.1 ++ more)) → option_map {T = Option ℤ × List ℕ} {U = FoundOf K} (λ i. record { parts = record { row = row; reg = None; vvvv = vvvv_at line.prefix p; place = None; imm = i.0 }; tail = 0; rest = i.1 }) o ≡ Some found → option_map {T = Option ℤ × List ℕ} {U = FoundOf K} (λ i. record { parts = record { row = row; reg = None; vvvv = vvvv_at line.prefix p; place = None; imm = i.0 }; tail = 0; rest = i.1 }) o' ≡ Some (with_more more found)
 bare_more row line p None o' more found later h = cc
 bare_more row line p (Some r) o' more found later h =
     let e = same_Some _ _ h in
     rw (later r refl, ← e) refl
 
-left_length : (bytes rest more : List ℕ) → length (bytes ++ more) - length (rest ++ more) ≡ length bytes - length rest
+pub left_length : (bytes rest more : List ℕ) → length (bytes ++ more) - length (rest ++ more) ≡ length bytes - length rest
 left_length bytes rest more = omega (arith, length-append bytes more, length-append rest more)
 
-imm_more : (row : Row) (line : Line) (reg : RegField) (p : Prefix) (bytes more : List ℕ) (t : Tail) (place : Place) (o o' : Option (Option ℤ × List ℕ)) (found : Found) → ((r : Option ℤ × List ℕ) → o ≡ Some r → o' ≡ Some (r.0, r.1 ++ more)) → option_map {T = Option ℤ × List ℕ} {U = Found} (λ i. record { parts = record { row = row; reg = reg_view reg p t.reg; vvvv = vvvv_at line.prefix p; place = Some place; imm = i.0 }; tail = length bytes - length t.rest; rest = i.1 }) o ≡ Some found → option_map {T = Option ℤ × List ℕ} {U = Found} (λ i. record { parts = record { row = row; reg = reg_view reg p t.reg; vvvv = vvvv_at line.prefix p; place = Some place; imm = i.0 }; tail = length (bytes ++ more) - length (t.rest ++ more); rest = i.1 }) o' ≡ Some (with_more more found)
+imm_more : {K : Type 0} (row : K) (line : Line) (reg : RegField) (p : Prefix) (bytes more : List ℕ) (t : Tail) (place : Place) (o o' : Option (Option ℤ × List ℕ)) (found : FoundOf K) → ((r : Option ℤ × List ℕ) → o ≡ Some r → o' ≡ Some (r.0, r.1 ++ more)) → option_map {T = Option ℤ × List ℕ} {U = FoundOf K} (λ i. record { parts = record { row = row; reg = reg_view reg p t.reg; vvvv = vvvv_at line.prefix p; place = Some place; imm = i.0 }; tail = length bytes - length t.rest; rest = i.1 }) o ≡ Some found → option_map {T = Option ℤ × List ℕ} {U = FoundOf K} (λ i. record { parts = record { row = row; reg = reg_view reg p t.reg; vvvv = vvvv_at line.prefix p; place = Some place; imm = i.0 }; tail = length (bytes ++ more) - length (t.rest ++ more); rest = i.1 }) o' ≡ Some (with_more more found)
 imm_more row line reg p bytes more t place None o' found later h = cc
 imm_more row line reg p bytes more t place (Some r) o' found later h =
     let e = same_Some _ _ h in
     rw (later r refl, ← e, left_length bytes t.rest more) refl
 
-place_more : (row : Row) (line : Line) (reg : RegField) (field : PlaceField) (p : Prefix) (bytes more : List ℕ) (t : Tail) (o : Option Place) (found : Found) → option_and_then {T = Place} {U = Found} (λ place. option_map (λ i. record { parts = record { row = row; reg = reg_view reg p t.reg; vvvv = vvvv_at line.prefix p; place = Some place; imm = i.0 }; tail = length bytes - length t.rest; rest = i.1 }) (imm_at line.imm t.rest)) o ≡ Some found → option_and_then {T = Place} {U = Found} (λ place. option_map (λ i. record { parts = record { row = row; reg = reg_view reg p t.reg; vvvv = vvvv_at line.prefix p; place = Some place; imm = i.0 }; tail = length (bytes ++ more) - length (t.rest ++ more); rest = i.1 }) (imm_at line.imm (t.rest ++ more))) o ≡ Some (with_more more found)
+place_more : {K : Type 0} (row : K) (line : Line) (reg : RegField) (field : PlaceField) (p : Prefix) (bytes more : List ℕ) (t : Tail) (o : Option Place) (found : FoundOf K) → option_and_then {T = Place} {U = FoundOf K} (λ place. option_map (λ i. record { parts = record { row = row; reg = reg_view reg p t.reg; vvvv = vvvv_at line.prefix p; place = Some place; imm = i.0 }; tail = length bytes - length t.rest; rest = i.1 }) (imm_at line.imm t.rest)) o ≡ Some found → option_and_then {T = Place} {U = FoundOf K} (λ place. option_map (λ i. record { parts = record { row = row; reg = reg_view reg p t.reg; vvvv = vvvv_at line.prefix p; place = Some place; imm = i.0 }; tail = length (bytes ++ more) - length (t.rest ++ more); rest = i.1 }) (imm_at line.imm (t.rest ++ more))) o ≡ Some (with_more more found)
 place_more row line reg field p bytes more t None found h = cc
 place_more row line reg field p bytes more t (Some place) found h = imm_more row line reg p bytes more t place (imm_at line.imm t.rest) (imm_at line.imm (t.rest ++ more)) found (imm_at_more line.imm t.rest more) h
 
-tail_more : (row : Row) (line : Line) (reg : RegField) (field : PlaceField) (p : Prefix) (bytes more : List ℕ) (o o' : Option Tail) (found : Found) → ((t : Tail) → o ≡ Some t → o' ≡ Some (longer more t)) → option_and_then {T = Tail} {U = Found} (λ t. option_and_then (λ place. option_map (λ i. record { parts = record { row = row; reg = reg_view reg p t.reg; vvvv = vvvv_at line.prefix p; place = Some place; imm = i.0 }; tail = length bytes - length t.rest; rest = i.1 }) (imm_at line.imm t.rest)) (place_at field p t.place)) o ≡ Some found → option_and_then {T = Tail} {U = Found} (λ t. option_and_then (λ place. option_map (λ i. record { parts = record { row = row; reg = reg_view reg p t.reg; vvvv = vvvv_at line.prefix p; place = Some place; imm = i.0 }; tail = length (bytes ++ more) - length t.rest; rest = i.1 }) (imm_at line.imm t.rest)) (place_at field p t.place)) o' ≡ Some (with_more more found)
+tail_more : {K : Type 0} (row : K) (line : Line) (reg : RegField) (field : PlaceField) (p : Prefix) (bytes more : List ℕ) (o o' : Option Tail) (found : FoundOf K) → ((t : Tail) → o ≡ Some t → o' ≡ Some (longer more t)) → option_and_then {T = Tail} {U = FoundOf K} (λ t. option_and_then (λ place. option_map (λ i. record { parts = record { row = row; reg = reg_view reg p t.reg; vvvv = vvvv_at line.prefix p; place = Some place; imm = i.0 }; tail = length bytes - length t.rest; rest = i.1 }) (imm_at line.imm t.rest)) (place_at field p t.place)) o ≡ Some found → option_and_then {T = Tail} {U = FoundOf K} (λ t. option_and_then (λ place. option_map (λ i. record { parts = record { row = row; reg = reg_view reg p t.reg; vvvv = vvvv_at line.prefix p; place = Some place; imm = i.0 }; tail = length (bytes ++ more) - length t.rest; rest = i.1 }) (imm_at line.imm t.rest)) (place_at field p t.place)) o' ≡ Some (with_more more found)
 tail_more row line reg field p bytes more None o' found later h = cc
 tail_more row line reg field p bytes more (Some t) o' found later h =
     rw (later t refl) (place_more row line reg field p bytes more t (place_at field p t.place) found h)
 
-operands_more : (field : TailField) (row : Row) (line : Line) (p : Prefix) (bytes more : List ℕ) (found : Found) → operands_of field row line p bytes ≡ Some found → operands_of field row line p (bytes ++ more) ≡ Some (with_more more found)
+pub operands_more : (field : TailField) {K : Type 0} (row : K) (line : Line) (p : Prefix) (bytes more : List ℕ) (found : FoundOf K) → operands_of field row line p bytes ≡ Some found → operands_of field row line p (bytes ++ more) ≡ Some (with_more more found)
 operands_more NoTail row line p bytes more found h = bare_more row line p (imm_at line.imm bytes) (imm_at line.imm (bytes ++ more)) more found (imm_at_more line.imm bytes more) h
 operands_more (Modrm reg field) row line p bytes more found h = tail_more row line reg field p bytes more (read_tail (x_of p) (b_of p) 1 bytes) (read_tail (x_of p) (b_of p) 1 (bytes ++ more)) found (read_tail_more (x_of p) (b_of p) 1 bytes more) h
 
@@ -218,25 +218,34 @@ is_cons : List ℕ → Bool
 is_cons [] = false
 is_cons (c ∷ bytes) = true
 
-has_opcode : (row : Row) → is_cons (opcode_bytes (line_of row).opcode) ≡ true
-unfolding line_of is_cons
-has_opcode lock_addb_mi = refl
-has_opcode _ = refl
+has_opcode : (opcode : Opcode) → is_cons (opcode_bytes opcode) ≡ true
+unfolding is_cons
+has_opcode opcode = by_escape opcode.escape
+  where
+    by_escape : (escape : Bool) → is_cons (if escape then (0x0F ∷ opcode.byte ∷ []) else (opcode.byte ∷ [])) ≡ true
+    by_escape true = refl
+    by_escape false = refl
 
 after_none : (opcode rest : List ℕ) → is_cons opcode ≡ true → after opcode [] ≡ Some rest → ⊥
 unfolding is_cons after
 after_none [] rest n h = cc
 after_none (c ∷ opcode) rest n h = cc
 
+nothing_matches : (line : Line) (p : Prefix) (rest : List ℕ) → matched_at line p [] ≡ Some rest → ⊥
+nothing_matches line p rest h =
+    let b = behind line [] rest (some_if (prefix_matches line p) (opcode_at line []) rest h).1 in
+    after_none (opcode_bytes line.opcode) rest (has_opcode line.opcode) b.opcode
+
+-- a prefix that a match follows is read of longer bytes too
+pub prefix_matched_more : (line : Line) (bytes left more rest : List ℕ) (p : Prefix) → prefix_at bytes ≡ Some (p, left) → matched_at line p left ≡ Some rest → prefix_at (bytes ++ more) ≡ Some (p, left ++ more)
+prefix_matched_more line bytes [] more rest p hp hm = absurd (nothing_matches line p rest hm)
+prefix_matched_more line bytes (c ∷ left) more rest p hp hm = prefix_at_more bytes more p c left hp
+
 behind_more : (row : Row) (bytes left more rest : List ℕ) (p : Prefix) (found : Found) → prefix_at bytes ≡ Some (p, left) → row_at all_rows p left ≡ Some (row, rest) → operands_at row p rest ≡ Some found → find (bytes ++ more) ≡ Some (with_more more found)
 unfolding find
-behind_more row bytes [] more rest p found hp hr ho =
-    let m : matched_at (line_of row) p [] ≡ Some rest = row_matches p [] all_rows row rest hr in
-    let b = behind (line_of row) [] rest (some_if (prefix_matches (line_of row) p) (opcode_at (line_of row) []) rest m).1 in
-    absurd (after_none (opcode_bytes (line_of row).opcode) rest (has_opcode row) b.opcode)
-behind_more row bytes (c ∷ left) more rest p found hp hr ho =
-    let m : matched_at (line_of row) p ((c ∷ left) ++ more) ≡ Some (rest ++ more) = matched_at_more (line_of row) p (c ∷ left) more rest (row_matches p (c ∷ left) all_rows row rest hr) in
-    rw (prefix_at_more bytes more p c left hp, row_found row p (c ∷ (left ++ more)) (rest ++ more) m, operands_at_more row p rest more found ho) refl
+behind_more row bytes left more rest p found hp hr ho =
+    let m : matched_at (line_of row) p left ≡ Some rest = row_matches p left all_rows row rest hr in
+    rw (prefix_matched_more (line_of row) bytes left more rest p hp m, row_found row p (left ++ more) (rest ++ more) (matched_at_more (line_of row) p left more rest m), operands_at_more row p rest more found ho) refl
 
 -- an instruction is found at the front of longer bytes too
 pub find_more : (bytes more : List ℕ) (found : Found) → find bytes ≡ Some found → find (bytes ++ more) ≡ Some (with_more more found)

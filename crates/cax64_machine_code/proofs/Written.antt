@@ -5,19 +5,16 @@ use Rattle.std.proofs.lemmas.List.{length-append}
 use Rattle.std.proofs.lemmas.Option.{same_Some}
 use Rattle.cax64_machine_code.specs.Fields.{reg_of, rm_of, mod_of}
 use Rattle.cax64_machine_code.specs.Tail.{Tail, IsTail, read_tail, sib_at, displaced}
-use Rattle.cax64_machine_code.specs.Prefix.{Prefix, prefix_at, x_of, b_of}
+use Rattle.cax64_machine_code.specs.Prefix.{Prefix, prefix_at}
 use Rattle.cax64_machine_code.specs.Line.{opcode_bytes, prefix_matches, after, digit_matches}
-use Rattle.cax64_machine_code.specs.Reading.{imm_at, place_at, reg_view, vvvv_at, matched_at, operands_at, find}
-use Rattle.cax64_machine_code.specs.Rows.{line_of}
+use Rattle.cax64_machine_code.specs.Reading.{imm_at, matched_at}
 use Rattle.cax64_machine_code.specs.declared.line.Line.{Line}
 use Rattle.cax64_machine_code.specs.declared.line.RegField.{RegField}
 use Rattle.cax64_machine_code.specs.declared.line.PlaceField.{PlaceField}
 use Rattle.cax64_machine_code.specs.declared.line.ImmField.{ImmField}
 use Rattle.cax64_machine_code.specs.declared.line.RegField.TheVariants.{Digit, Register8, Register}
 use Rattle.cax64_machine_code.specs.declared.line.TailField.TheVariants.{NoTail, Modrm}
-use Rattle.cax64_machine_code.specs.declared.row.Row.{Row}
 use Rattle.cax64_machine_code.specs.declared.reading.Place.{Place}
-use Rattle.cax64_machine_code.proofs.Matched.{find_is}
 
 -- how the parts of an instruction, put one behind the other, are found again
 
@@ -88,10 +85,6 @@ digit_there Register place_field x b n reg place (m ∷ t) rest h d = refl
 pub bare_matches : (line : Line) (rest : List ℕ) → line.tail ≡ NoTail → digit_matches line.tail rest ≡ true
 bare_matches line rest e = rw e refl
 
-bare_operands_are : (row : Row) (p : Prefix) (value : Option ℤ) (ib rest : List ℕ) → (line_of row).tail ≡ NoTail → IsImm (line_of row).imm value ib → operands_at row p (ib ++ rest) ≡ Some (record { parts = record { row = row; reg = None; vvvv = vvvv_at (line_of row).prefix p; place = None; imm = value }; tail = 0; rest = rest })
-unfolding operands_at
-bare_operands_are row p value ib rest e h = rw (e, h.reads rest) refl
-
 -- the opcode, with its first byte in front
 pub record BeginsWith (first : ℕ) (opcode : List ℕ) : Type 0 where
   pub more : List ℕ
@@ -100,28 +93,8 @@ pub record BeginsWith (first : ℕ) (opcode : List ℕ) : Type 0 where
 pub prefixed : (p : Prefix) (first : ℕ) (pre opcode rest : List ℕ) → IsPrefix p first pre → BeginsWith first opcode → prefix_at (pre ++ (opcode ++ rest)) ≡ Some (p, opcode ++ rest)
 prefixed p first pre opcode rest h o = rw o.is (h.reads (o.more ++ rest))
 
--- a row without a tail
-pub bare_found : (row : Row) (p : Prefix) (first : ℕ) (pre ib rest : List ℕ) (value : Option ℤ) → IsPrefix p first pre → BeginsWith first (opcode_bytes (line_of row).opcode) → prefix_matches (line_of row) p ≡ true → (line_of row).tail ≡ NoTail → IsImm (line_of row).imm value ib → find (pre ++ (opcode_bytes (line_of row).opcode ++ (ib ++ rest))) ≡ Some (record { parts = record { row = row; reg = None; vvvv = vvvv_at (line_of row).prefix p; place = None; imm = value }; tail = 0; rest = rest })
-bare_found row p first pre ib rest value hp ho hm ht hi =
-    find_is (pre ++ (opcode_bytes (line_of row).opcode ++ (ib ++ rest))) (opcode_bytes (line_of row).opcode ++ (ib ++ rest)) (ib ++ rest) p row _
-    (prefixed p first pre (opcode_bytes (line_of row).opcode) (ib ++ rest) hp ho)
-    (matched (line_of row) p (ib ++ rest) hm (bare_matches (line_of row) (ib ++ rest) ht))
-    (bare_operands_are row p value ib rest ht hi)
-
 pub tail_length : (t rest : List ℕ) → length (t ++ rest) - length rest ≡ length t
 tail_length t rest = omega (arith, length-append t rest)
 
-tail_operands_are : (row : Row) (p : Prefix) (field : RegField) (place_field : PlaceField) (reg : ℕ) (place named : Place) (value : Option ℤ) (t ib rest : List ℕ) → (line_of row).tail ≡ Modrm field place_field → IsTail (x_of p) (b_of p) 1 reg place t → place_at place_field p place ≡ Some named → IsImm (line_of row).imm value ib → operands_at row p (t ++ (ib ++ rest)) ≡ Some (record { parts = record { row = row; reg = reg_view field p reg; vvvv = vvvv_at (line_of row).prefix p; place = Some named; imm = value }; tail = length t; rest = rest })
-unfolding operands_at
-tail_operands_are row p field place_field reg place named value t ib rest e h hn hi = rw (e, h.reads (ib ++ rest), hn, hi.reads rest, tail_length t (ib ++ rest)) refl
-
 pub tail_matches : (line : Line) (field : RegField) (place_field : PlaceField) (x b n reg : ℕ) (place : Place) (t rest : List ℕ) → line.tail ≡ Modrm field place_field → IsTail x b n reg place t → DigitIs field reg → digit_matches line.tail (t ++ rest) ≡ true
 tail_matches line field place_field x b n reg place t rest e h d = rw e (digit_there field place_field x b n reg place t rest h d)
-
--- a row with a tail
-pub tail_found : (row : Row) (p : Prefix) (first : ℕ) (field : RegField) (place_field : PlaceField) (reg : ℕ) (place named : Place) (pre t ib rest : List ℕ) (value : Option ℤ) → IsPrefix p first pre → BeginsWith first (opcode_bytes (line_of row).opcode) → prefix_matches (line_of row) p ≡ true → (line_of row).tail ≡ Modrm field place_field → IsTail (x_of p) (b_of p) 1 reg place t → DigitIs field reg → place_at place_field p place ≡ Some named → IsImm (line_of row).imm value ib → find (pre ++ (opcode_bytes (line_of row).opcode ++ (t ++ (ib ++ rest)))) ≡ Some (record { parts = record { row = row; reg = reg_view field p reg; vvvv = vvvv_at (line_of row).prefix p; place = Some named; imm = value }; tail = length t; rest = rest })
-tail_found row p first field place_field reg place named pre t ib rest value hp ho hm ht h hd hn hi =
-    find_is (pre ++ (opcode_bytes (line_of row).opcode ++ (t ++ (ib ++ rest)))) (opcode_bytes (line_of row).opcode ++ (t ++ (ib ++ rest))) (t ++ (ib ++ rest)) p row _
-    (prefixed p first pre (opcode_bytes (line_of row).opcode) (t ++ (ib ++ rest)) hp ho)
-    (matched (line_of row) p (t ++ (ib ++ rest)) hm (tail_matches (line_of row) field place_field (x_of p) (b_of p) 1 reg place t (ib ++ rest) ht h hd))
-    (tail_operands_are row p field place_field reg place named value t ib rest ht h hn hi)

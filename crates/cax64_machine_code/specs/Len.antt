@@ -1,6 +1,6 @@
 use Rattle.std.specs.Prelude.{ℕ, ◌+◌, ◌%◌, Bool, true, false, not, ◌&&◌, ◌||◌, ◌==◌, nat_lt, nat_le, if◌then◌else◌, Option, Some, None, ℤ, pos, negsuc}
 use Rattle.cax64_machine_code.specs.Line.{imm_bytes}
-use Rattle.cax64_machine_code.specs.Reading.{Parts}
+use Rattle.cax64_machine_code.specs.Reading.{Parts, PartsOf}
 use Rattle.cax64_machine_code.specs.Rows.{line_of}
 use Rattle.cax64_machine_code.specs.declared.line.LegacySet.{LegacySet}
 use Rattle.cax64_machine_code.specs.declared.line.Line.{Line}
@@ -16,7 +16,7 @@ use Rattle.cax64_machine_code.specs.declared.reading.Place.TheVariants.{Reg, Mem
 use Rattle.cax64_machine_code.specs.declared.reading.RegView.{RegView}
 use Rattle.cax64_machine_code.specs.declared.reading.RegView.TheVariants.{Low, High}
 
--- How many bytes an instruction has, by its row and the numbers of its operands: its prefixes, its opcode, the least
+-- How many bytes an instruction has, by its line and the numbers of its operands: its prefixes, its opcode, the least
 -- tail of its place, its immediate.
 
 abbrev pub one_if : Bool → ℕ
@@ -82,7 +82,7 @@ is_w1 None = false
 is_w1 (Some w) = w == 1
 
 -- whether a REX byte stands. A digit is no register and asks for none. (Intel SDM, volume 2, 2.2.1.)
-abbrev pub has_rex_byte : Line → Parts → Bool
+abbrev pub has_rex_byte : {K : Type 0} → Line → PartsOf K → Bool
 has_rex_byte line parts =
     is_w1 line.w
     || (reg_is_high parts.reg
@@ -97,7 +97,7 @@ fits_two_byte_vex map w place = (map == 1) && (not (place_is_high place) && not 
 abbrev pub legacy_len : LegacySet → ℕ
 legacy_len set = one_if set.lock + (one_if set.operand_size + (one_if set.repne + one_if set.rep))
 
-abbrev pub prefix_len : PrefixField → Line → Parts → ℕ
+abbrev pub prefix_len : {K : Type 0} → PrefixField → Line → PartsOf K → ℕ
 prefix_len (LegacyField set rex) line parts = legacy_len set + one_if (has_rex_byte line parts)
 prefix_len (VexField pp map l vvvv) line parts = if fits_two_byte_vex map line.w parts.place then 2 else 3
 
@@ -133,7 +133,7 @@ abbrev pub tail_len : Option Place → ℕ
 tail_len None = 0
 tail_len (Some place) = least_tail place
 
-abbrev pub line_len : Line → Parts → ℕ
+abbrev pub line_len : {K : Type 0} → Line → PartsOf K → ℕ
 line_len line parts = prefix_len line.prefix line parts + (opcode_len line.opcode + (tail_len parts.place + imm_bytes line.imm))
 
 -- how many bytes an instruction has

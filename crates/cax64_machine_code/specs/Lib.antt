@@ -8,7 +8,10 @@ pub mod Apx
 pub mod Line
 pub mod Rows
 pub mod Reading
+pub mod Apart
 pub mod ReadLine
 pub mod Sequence
 pub mod Shortest
 pub mod Len
+-- Words of worked examples.
+pub mod WorkedLine

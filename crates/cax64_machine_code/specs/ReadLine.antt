@@ -9,6 +9,7 @@ use Rattle.cax64_machine_code.specs.declared.line.Line.{Line}
 use Rattle.cax64_machine_code.specs.declared.reading.Place.{Place}
 use Rattle.cax64_machine_code.specs.declared.reading.Reading.{Reading}
 use Rattle.cax64_machine_code.specs.declared.reading.RegView.{RegView}
+use Rattle.cax64_machine_code.specs.declared.row.Row.{Row}
 
 -- An instruction by its line alone, of whatever table the line is.
 
@@ -56,6 +57,18 @@ read_of (line ∷ lines) bytes = or_else (read_line line bytes) (read_of lines b
 -- a reading with its row's line in the place of the row
 abbrev pub with_line : Reading → LineReading
 with_line r = record { line = line_of r.row; length = r.length; tail = r.tail; reg = r.reg; vvvv = r.vvvv; place = r.place; imm = r.imm }
+
+-- and the other way: a reading, and what is meant, with a row in the place of its line
+abbrev pub as_row : Row → LineReading → Reading
+as_row row r = record { row = row; length = r.length; tail = r.tail; reg = r.reg; vvvv = r.vvvv; place = r.place; imm = r.imm }
+
+abbrev pub parts_as : {K L : Type 0} → L → PartsOf K → PartsOf L
+parts_as key parts = record { row = key; reg = parts.reg; vvvv = parts.vvvv; place = parts.place; imm = parts.imm }
+
+-- the lines of some rows
+abbrev pub lines_of : List Row → List Line
+lines_of [] = []
+lines_of (row ∷ rows) = line_of row ∷ lines_of rows
 
 -- Bytes that read by a line, whatever follows, as what is meant, with their own number as length, 1 to 13.
 pub record ReadsLineAs (meant : PartsOf Line) (b : List ℕ) : Type 0 where

@@ -16,48 +16,48 @@ use Rattle.cax64_machine_code.specs.declared.row.Row.{Row}
 use Rattle.cax64_machine_code.specs.declared.row.Row.TheVariants as row
 
 -- the sets of legacy prefixes that rows ask for
-abbrev F0 : LegacySet
+abbrev pub F0 : LegacySet
 F0 = record { lock = true; operand_size = false; repne = false; rep = false }
 
-abbrev F0_66 : LegacySet
+abbrev pub F0_66 : LegacySet
 F0_66 = record { lock = true; operand_size = true; repne = false; rep = false }
 
-abbrev only_66 : LegacySet
+abbrev pub only_66 : LegacySet
 only_66 = record { lock = false; operand_size = true; repne = false; rep = false }
 
-abbrev only_F2 : LegacySet
+abbrev pub only_F2 : LegacySet
 only_F2 = record { lock = false; operand_size = false; repne = true; rep = false }
 
-abbrev only_F3 : LegacySet
+abbrev pub only_F3 : LegacySet
 only_F3 = record { lock = false; operand_size = false; repne = false; rep = true }
 
 -- what a row asks of W
-abbrev any : Option ℕ
+abbrev pub any : Option ℕ
 any = None
 
-abbrev W0 : Option ℕ
+abbrev pub W0 : Option ℕ
 W0 = Some 0
 
-abbrev W1 : Option ℕ
+abbrev pub W1 : Option ℕ
 W1 = Some 1
 
 -- an opcode of one byte, and one behind 0F
-abbrev byte : ℕ → Opcode
+abbrev pub byte : ℕ → Opcode
 byte last = record { escape = false; byte = last }
 
-abbrev escaped : ℕ → Opcode
+abbrev pub escaped : ℕ → Opcode
 escaped last = record { escape = true; byte = last }
 
 -- a row of legacy prefixes, in which a REX byte may stand
-abbrev plain : LegacySet → Option ℕ → Opcode → TailField → ImmField → Line
+abbrev pub plain : LegacySet → Option ℕ → Opcode → TailField → ImmField → Line
 plain set w opcode tail immediate = record { prefix = LegacyField set true; w = w; opcode = opcode; tail = tail; imm = immediate }
 
 -- a row of legacy prefixes, in which none may stand
-abbrev without_rex : LegacySet → Option ℕ → Opcode → TailField → ImmField → Line
+abbrev pub without_rex : LegacySet → Option ℕ → Opcode → TailField → ImmField → Line
 without_rex set w opcode tail immediate = record { prefix = LegacyField set false; w = w; opcode = opcode; tail = tail; imm = immediate }
 
 -- a row of VEX fields pp, map and L, whose tail has a register in reg and a register or memory
-abbrev vex_row : ℕ → ℕ → ℕ → Option ℕ → VvvvField → Opcode → ImmField → Line
+abbrev pub vex_row : ℕ → ℕ → ℕ → Option ℕ → VvvvField → Opcode → ImmField → Line
 vex_row pp map l w vvvv opcode immediate = record { prefix = VexField pp map l vvvv; w = w; opcode = opcode; tail = Modrm Register RegisterOrMemory; imm = immediate }
 
 -- The table: the prefixes, W, the opcode, what the tail holds, the immediate. (Intel SDM, volume 2, chapters 3 to 5,

@@ -1,12 +1,14 @@
 //! Laws of the definitions, each on a function that does nothing.
 
-ghost use Rattle.std.specs.Prelude.{◌≡◌, ◌↔◌, ◌≤◌, ◌<◌, ◌+◌, ◌++◌, true, Some, List, [], ℕ, length};
+ghost use Rattle.std.specs.Prelude.{◌≡◌, ◌↔◌, ◌≤◌, ◌<◌, ◌+◌, ◌++◌, true, Contains, Some, option_map, List, [], ℕ, length};
+ghost use Rattle.cax64_machine_code.specs.Apart.{apart, each_two};
 ghost use Rattle.cax64_machine_code.specs.Fields.{IsBytes};
 ghost use Rattle.cax64_machine_code.specs.Len.{least_tail};
 ghost use Rattle.cax64_machine_code.specs.Prefix.{Prefix};
-ghost use Rattle.cax64_machine_code.specs.Reading.{matched_at, read};
-ghost use Rattle.cax64_machine_code.specs.Rows.{line_of};
-ghost use Rattle.cax64_machine_code.specs.Sequence.{IsProperFront};
+ghost use Rattle.cax64_machine_code.specs.ReadLine.{LineReading, ReadsLineAs, as_row, lines_of, parts_as, read_line, read_of, with_line};
+ghost use Rattle.cax64_machine_code.specs.Reading.{PartsOf, matched_at, read};
+ghost use Rattle.cax64_machine_code.specs.Rows.{all_rows, line_of};
+ghost use Rattle.cax64_machine_code.specs.Sequence.{IsProperFront, ReadsAs};
 ghost use Rattle.cax64_machine_code.specs.Shortest.{Shortest};
 ghost use Rattle.cax64_machine_code.specs.Tail.{IsTail, Tail, read_tail};
 ghost use Rattle.cax64_machine_code.specs.declared.line.ImmField.{ImmField};
@@ -68,6 +70,40 @@ pub fn no_reading_begins_another(first: Reading, second: Reading)
 /// A reading is read whatever follows its bytes.
 pub fn what_follows_is_not_read(reading: Reading)
     ensures { (t more : List ℕ) → read t ≡ Some reading → read (t ++ more) ≡ Some reading }
+{}
+
+/// Lines that are apart match no bytes both.
+pub fn apart_lines_match_nothing_both(first: Line, second: Line)
+    ensures { (prefix : Prefix) (bytes r s : List ℕ)
+        → apart first second ≡ true
+        → matched_at first prefix bytes ≡ Some r → matched_at second prefix bytes ≡ Some s → ⊥ }
+{}
+
+/// What a line reads it reads whatever follows.
+pub fn what_follows_is_not_read_by_a_line(line: Line)
+    ensures { (bytes more : List ℕ) (reading : LineReading)
+        → read_line line bytes ≡ Some reading → read_line line (bytes ++ more) ≡ Some reading }
+{}
+
+/// Of lines that are apart each two, what one reads is what they read.
+pub fn one_line_reads(line: Line)
+    ensures { (lines : List Line) (bytes : List ℕ) (reading : LineReading)
+        → each_two lines ≡ true → Contains lines line
+        → read_line line bytes ≡ Some reading → read_of lines bytes ≡ Some reading }
+{}
+
+/// Reading by the rows is reading by their lines: what a row's line reads is read as the row, and back; bytes that a
+/// row's line reads as something, whatever follows, are read as the same of the row; the lines of all rows are apart each
+/// two, and `read` is what they read.
+pub fn rows_are_read_by_their_lines()
+    ensures row { (row : Row) (bytes : List ℕ) (reading : LineReading)
+        → read_line (line_of row) bytes ≡ Some reading → read bytes ≡ Some (as_row row reading) }
+    ensures line { (bytes : List ℕ) (reading : Reading)
+        → read bytes ≡ Some reading → read_line (line_of reading.row) bytes ≡ Some (with_line reading) }
+    ensures reads_as { (row : Row) (meant : PartsOf Line) (bytes : List ℕ)
+        → meant.row ≡ line_of row → ReadsLineAs meant bytes → ReadsAs (parts_as row meant) bytes }
+    ensures apart { each_two (lines_of all_rows) ≡ true }
+    ensures all { (bytes : List ℕ) → option_map with_line (read bytes) ≡ read_of (lines_of all_rows) bytes }
 {}
 
 /// Rows, lines of the table and each of their parts, registers, places and readings compare equal where they are equal,

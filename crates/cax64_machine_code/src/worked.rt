@@ -6,9 +6,17 @@ ghost use Rattle.cax64_machine_code.specs.Fields.{IsBytes};
 ghost use Rattle.cax64_machine_code.specs.Len.{len_of, least_tail};
 ghost use Rattle.cax64_machine_code.specs.Shortest.{Shortest};
 ghost use Rattle.cax64_machine_code.specs.Tail.{IsTail, Tail, read_tail};
+ghost use Rattle.cax64_machine_code.specs.ReadLine.{read_line, read_of};
 ghost use Rattle.cax64_machine_code.specs.Reading.{read};
+ghost use Rattle.cax64_machine_code.specs.WorkedLine.{reg_and_rm};
 
-use crate::laws::{least_tail_is_least, no_reading_begins_another, no_tail_begins_another};
+use crate::laws::{
+    least_tail_is_least, no_reading_begins_another, no_tail_begins_another, one_line_reads,
+    what_follows_is_not_read_by_a_line,
+};
+use crate::line::{
+    ImmField, LegacySet, Line, Opcode, PlaceField, PrefixField, RegField, TailField,
+};
 use crate::reading::{Place, Reading, RegView};
 use crate::row::Row;
 
@@ -68,6 +76,39 @@ pub fn lengths()
     ensures rbp { least_tail (Place.Mem (Some 5) None (pos 0)) ≡ 2 }
     ensures r12 { least_tail (Place.Mem (Some 12) None (negsuc 128)) ≡ 6 }
 {}
+
+/// Lines that no row has: `addq` and `movq` of a register, and a register or memory. They are apart, so what one reads
+/// they read; the bytes of neither have a row.
+#[tactic(auto, unfolding(crate::specs::ReadLine::read_line, crate::specs::ReadLine::find_line, crate::specs::ReadLine::read_of, crate::specs::Reading::read, crate::specs::Reading::find, crate::specs::Reading::row_at, crate::specs::Reading::operands_at, crate::specs::Rows::line_of, crate::specs::Rows::all_rows, crate::specs::Line::after, crate::specs::Prefix::prefix_at, crate::specs::Prefix::legacy_at, crate::specs::Prefix::rex_at, crate::specs::Prefix::vex_at, crate::specs::Tail::read_tail, crate::specs::Tail::sib_at, crate::specs::Tail::disp_at, crate::specs::Fields::number_at))]
+pub fn lines_without_a_row()
+    ensures add { read_line (reg_and_rm 0x03) (0x48 ∷ 0x03 ∷ 0xC7 ∷ 0x90 ∷ []) ≡ Some (record { line = reg_and_rm 0x03; length = 3; tail = 1; reg = Some (RegView.Low 0); vvvv = None; place = Some (Place.Reg (RegView.Low 7)); imm = None }) }
+    ensures move_from_memory { read_line (reg_and_rm 0x8B) (0x49 ∷ 0x8B ∷ 0x44 ∷ 0x24 ∷ 0x80 ∷ []) ≡ Some (record { line = reg_and_rm 0x8B; length = 5; tail = 3; reg = Some (RegView.Low 0); vvvv = None; place = Some (Place.Mem (Some 12) None (negsuc 127)); imm = None }) }
+    ensures other_line { read_line (reg_and_rm 0x8B) (0x48 ∷ 0x03 ∷ 0xC7 ∷ []) ≡ None }
+    ensures without_w { read_line (reg_and_rm 0x03) (0x03 ∷ 0xC7 ∷ []) ≡ None }
+    ensures of_both { (more : List ℕ) → read_of (reg_and_rm 0x8B ∷ reg_and_rm 0x03 ∷ []) (0x48 ∷ 0x03 ∷ 0xC7 ∷ more) ≡ Some (record { line = reg_and_rm 0x03; length = 3; tail = 1; reg = Some (RegView.Low 0); vvvv = None; place = Some (Place.Reg (RegView.Low 7)); imm = None }) }
+    ensures no_row { read (0x48 ∷ 0x03 ∷ 0xC7 ∷ []) ≡ None }
+{
+    let add = Line {
+        prefix: PrefixField::LegacyField(
+            LegacySet {
+                lock: false,
+                operand_size: false,
+                repne: false,
+                rep: false,
+            },
+            true,
+        ),
+        w: Some(1),
+        opcode: Opcode {
+            escape: false,
+            byte: 0x03,
+        },
+        tail: TailField::Modrm(RegField::Register, PlaceField::RegisterOrMemory),
+        imm: ImmField::NoImm,
+    };
+    what_follows_is_not_read_by_a_line(add);
+    one_line_reads(add);
+}
 
 /// What begins with a tail and is longer doesn't read as a tail with nothing left.
 pub fn longer_than_a_tail()
