@@ -1,13 +1,16 @@
-use Rattle.std.proofs.Common.{◌≡◌, ℕ, ◌+◌, ◌<◌, ◌^◌, refl, ap, List, [], ◌∷◌, Bool, true, false, take, w64}
+use Rattle.std.proofs.Common.{◌≡◌, ℕ, ◌+◌, ◌*◌, ◌/◌, ◌%◌, ◌<◌, ◌^◌, arith, refl, Bool, true, false, take, w64}
 use Rattle.std.specs.Int.{to_le_bytes}
 use Rattle.std.specs.Prelude.{◌==◌, ◌&&◌, ◌||◌, nat_lt}
 use Rattle.std.proofs.lemmas.Bool.{and_parts, eqb-true, ltb-true}
-use Rattle.cax64_machine_code.specs.Len.{is_w1}
+use Rattle.cax64_machine_code.specs.Len.{is_w1, opcode_len}
 use Rattle.cax64_machine_code.specs.Line.{imm_bytes, opcode_bytes, same_bool}
 use Rattle.cax64_machine_code.specs.declared.line.Line.{Line}
+use Rattle.cax64_machine_code.specs.declared.line.Opcode.{Opcode}
+use Rattle.cax64_machine_code.specs.declared.line.PrefixField.{PrefixField}
+use Rattle.cax64_machine_code.specs.declared.line.PrefixField.TheVariants.{LegacyField, VexField}
 use Rattle.cax64_machine_code.specs.declared.row.Row.{Row}
 use Rattle.cax64_machine_code.specs.declared.row.Row.TheVariants.{lock_addb_mi}
-use Rattle.cax64_table.specs.Entry.{same_bytes, is_line, has_imm_len, is_entry, is_entry_of}
+use Rattle.cax64_table.specs.Entry.{legacy_word_of, legacy_len_of, opcode_word, is_ready_tail, is_ready_prefix, is_ready_legacy, is_ready_opcode, is_ready, is_plain, first_byte, is_line, has_imm_len, is_entry, is_entry_of}
 use Rattle.cax64_table.specs.Numbers.{digit_of, has_register, has_vvvv, has_8bit, is_vex, legacy_bytes_of, has_pp, has_map, has_l}
 use Rattle.cax64_table.specs.EntryLine.{entry_line}
 use Rattle.cax64_table.specs.declared.entry.Entry.{Entry}
@@ -15,20 +18,67 @@ use Rattle.cax64_table.specs.Packed.{bits_at, flag_at, unpacked, number_of, entr
 
 -- What is tested of an entry.
 
-bytes_same : (a b : List ℕ) → same_bytes a b ≡ true → a ≡ b
-bytes_same [] [] h = refl
-bytes_same [] (y ∷ ys) h = cc
-bytes_same (x ∷ xs) [] h = cc
-bytes_same (x ∷ xs) (y ∷ ys) h =
-    let p = and_parts (x == y) (same_bytes xs ys) h in
-    let e : x ≡ y = eqb-true x y p.0 in
-    rw (e, bytes_same xs ys p.1) refl
-
 bool_same : (a b : Bool) → same_bool a b ≡ true → a ≡ b
 bool_same true true h = refl
 bool_same true false h = cc
 bool_same false true h = cc
 bool_same false false h = refl
+
+same_if_not : (a b c : Bool) → (a || same_bool b c) ≡ true → a ≡ false → b ≡ c
+same_if_not true b c h e = cc
+same_if_not false b c h e = bool_same b c h
+
+-- the bytes of the legacy prefixes in their word
+
+abbrev of_flags : Bool → Bool → Bool → Bool → PrefixField
+of_flags lock operand_size repne rep = LegacyField (record { lock = lock; operand_size = operand_size; repne = repne; rep = rep }) false
+
+legacy_held : (prefix : PrefixField) → (take (legacy_len_of prefix) (to_le_bytes w64 (legacy_word_of prefix)) ≡ legacy_bytes_of prefix) × (nat_lt (legacy_word_of prefix) (256 ^ legacy_len_of prefix) ≡ true)
+legacy_held (VexField pp map l vvvv) = (refl, refl)
+legacy_held (LegacyField set rex) = by_flags set.lock set.operand_size set.repne set.rep
+  where
+    by_flags : (lock operand_size repne rep : Bool) → (take (legacy_len_of (of_flags lock operand_size repne rep)) (to_le_bytes w64 (legacy_word_of (of_flags lock operand_size repne rep))) ≡ legacy_bytes_of (of_flags lock operand_size repne rep)) × (nat_lt (legacy_word_of (of_flags lock operand_size repne rep)) (256 ^ legacy_len_of (of_flags lock operand_size repne rep)) ≡ true)
+    by_flags true true true true = (refl, refl)
+    by_flags true true true false = (refl, refl)
+    by_flags true true false true = (refl, refl)
+    by_flags true true false false = (refl, refl)
+    by_flags true false true true = (refl, refl)
+    by_flags true false true false = (refl, refl)
+    by_flags true false false true = (refl, refl)
+    by_flags true false false false = (refl, refl)
+    by_flags false true true true = (refl, refl)
+    by_flags false true true false = (refl, refl)
+    by_flags false true false true = (refl, refl)
+    by_flags false true false false = (refl, refl)
+    by_flags false false true true = (refl, refl)
+    by_flags false false true false = (refl, refl)
+    by_flags false false false true = (refl, refl)
+    by_flags false false false false = (refl, refl)
+
+-- and those of the opcode in its own
+
+opcode_held : (opcode : Opcode) → opcode.byte < 256 → take (opcode_len opcode) (to_le_bytes w64 (opcode_word opcode)) ≡ opcode_bytes opcode
+opcode_held opcode small = by_escape opcode.escape
+  where
+    low : opcode.byte % 256 ≡ opcode.byte
+    low = omega (arith, small)
+
+    first : (0x0F + 256 * opcode.byte) % 256 ≡ 0x0F
+    first = omega arith
+
+    second : (0x0F + 256 * opcode.byte) / 256 % 256 ≡ opcode.byte
+    second = omega (arith, small)
+
+    by_escape : (escape : Bool) → take (opcode_len (record { escape = escape; byte = opcode.byte })) (to_le_bytes w64 (opcode_word (record { escape = escape; byte = opcode.byte }))) ≡ opcode_bytes (record { escape = escape; byte = opcode.byte })
+    by_escape true = rw (first, second) refl
+    by_escape false = rw low refl
+
+opcode_fits : (opcode : Opcode) → opcode.byte < 256 → opcode_word opcode < 256 ^ opcode_len opcode
+opcode_fits opcode small = by_escape opcode.escape
+  where
+    by_escape : (escape : Bool) → opcode_word (record { escape = escape; byte = opcode.byte }) < 256 ^ opcode_len (record { escape = escape; byte = opcode.byte })
+    by_escape true = omega (arith, small)
+    by_escape false = omega (arith, small)
 
 pub record EntryFacts (packed : ℕ) (line : Line) : Type 0 where
   pub digit : bits_at packed 17 3 ≡ digit_of line.tail
@@ -37,7 +87,7 @@ pub record EntryFacts (packed : ℕ) (line : Line) : Type 0 where
   pub register : flag_at packed 16 ≡ has_register line.tail
   pub vvvv : (flag_at packed 6 && flag_at packed 12) ≡ has_vvvv line.prefix
   pub w : flag_at packed 4 ≡ is_w1 line.w
-  pub uses_8bit : (is_vex line.prefix || same_bool (flag_at packed 12) (has_8bit line.tail)) ≡ true
+  pub uses_8bit : is_vex line.prefix ≡ false → flag_at packed 12 ≡ has_8bit line.tail
   pub pp : has_pp line.prefix (bits_at packed 7 2) ≡ true
   pub map : has_map line.prefix (bits_at packed 9 2) ≡ true
   pub l : has_l line.prefix (bits_at packed 11 1) ≡ true
@@ -50,61 +100,59 @@ pub record EntryFacts (packed : ℕ) (line : Line) : Type 0 where
 
 pub entry_facts : (packed : ℕ) (line : Line) → is_entry_of packed line ≡ true → EntryFacts packed line
 entry_facts packed line h =
-    let p0 = and_parts (bits_at packed 17 3 == digit_of line.tail) _ h in
-    let p1 = and_parts (bits_at packed 0 3 == imm_bytes line.imm) _ p0.1 in
-    let p2 = and_parts (same_bool (flag_at packed 6) (is_vex line.prefix)) _ p1.1 in
-    let p3 = and_parts (same_bool (flag_at packed 16) (has_register line.tail)) _ p2.1 in
-    let p4 = and_parts (same_bool (flag_at packed 6 && flag_at packed 12) (has_vvvv line.prefix)) _ p3.1 in
-    let p5 = and_parts (same_bool (flag_at packed 4) (is_w1 line.w)) _ p4.1 in
-    let p6 = and_parts (is_vex line.prefix || same_bool (flag_at packed 12) (has_8bit line.tail)) _ p5.1 in
-    let p7 = and_parts (has_pp line.prefix (bits_at packed 7 2)) _ p6.1 in
-    let p8 = and_parts (has_map line.prefix (bits_at packed 9 2)) _ p7.1 in
-    let p9 = and_parts (has_l line.prefix (bits_at packed 11 1)) _ p8.1 in
-    let p10 = and_parts (same_bytes (take (bits_at packed 62 2) (to_le_bytes w64 (bits_at packed 46 16))) (legacy_bytes_of line.prefix)) _ p9.1 in
-    let p11 = and_parts (nat_lt (bits_at packed 46 16) (256 ^ bits_at packed 62 2)) _ p10.1 in
-    let p12 = and_parts (same_bytes (take (1 + bits_at packed 29 1) (to_le_bytes w64 (bits_at packed 30 16))) (opcode_bytes line.opcode)) _ p11.1 in
-    let p13 = and_parts (nat_lt (bits_at packed 30 16) (256 ^ (1 + bits_at packed 29 1))) _ p12.1 in
-    let p14 = and_parts (has_imm_len (imm_bytes line.imm)) (is_line line) p13.1 in
+    let whole = and_parts (is_ready packed line) _ h in
+    let line_is = and_parts (has_imm_len (imm_bytes line.imm)) (is_line line) whole.1 in
+    let small : line.opcode.byte < 256 = ltb-true _ _ (and_parts (nat_lt line.opcode.byte 256) _ (and_parts (is_plain (first_byte line.opcode)) _ line_is.1).1).0 in
+    let t = and_parts (is_ready_tail packed line.tail) _ whole.0 in
+    let tail = and_parts (bits_at packed 17 3 == digit_of line.tail) (same_bool (flag_at packed 16) (has_register line.tail)) t.0 in
+    let p = and_parts (is_ready_prefix packed line.prefix) _ t.1 in
+    let vex = and_parts (same_bool (flag_at packed 6) (is_vex line.prefix)) _ p.0 in
+    let vvvv = and_parts (same_bool (flag_at packed 6 && flag_at packed 12) (has_vvvv line.prefix)) _ vex.1 in
+    let pp = and_parts (has_pp line.prefix (bits_at packed 7 2)) _ vvvv.1 in
+    let map = and_parts (has_map line.prefix (bits_at packed 9 2)) (has_l line.prefix (bits_at packed 11 1)) pp.1 in
+    let l = and_parts (is_ready_legacy packed line.prefix) _ p.1 in
+    let legacy = and_parts (bits_at packed 46 16 == legacy_word_of line.prefix) (bits_at packed 62 2 == legacy_len_of line.prefix) l.0 in
+    let legacy_word : bits_at packed 46 16 ≡ legacy_word_of line.prefix = eqb-true _ _ legacy.0 in
+    let legacy_len : bits_at packed 62 2 ≡ legacy_len_of line.prefix = eqb-true _ _ legacy.1 in
+    let o = and_parts (is_ready_opcode packed line.opcode) _ l.1 in
+    let opcode = and_parts (bits_at packed 30 16 == opcode_word line.opcode) (1 + bits_at packed 29 1 == opcode_len line.opcode) o.0 in
+    let word : bits_at packed 30 16 ≡ opcode_word line.opcode = eqb-true _ _ opcode.0 in
+    let len : 1 + bits_at packed 29 1 ≡ opcode_len line.opcode = eqb-true _ _ opcode.1 in
+    let imm = and_parts (bits_at packed 0 3 == imm_bytes line.imm) _ o.1 in
+    let w = and_parts (same_bool (flag_at packed 4) (is_w1 line.w)) (is_vex line.prefix || same_bool (flag_at packed 12) (has_8bit line.tail)) imm.1 in
     record {
-      digit = eqb-true _ _ p0.0;
-      imm_len = eqb-true _ _ p1.0;
-      vex = bool_same _ _ p2.0;
-      register = bool_same _ _ p3.0;
-      vvvv = bool_same _ _ p4.0;
-      w = bool_same _ _ p5.0;
-      uses_8bit = p6.0;
-      pp = p7.0;
-      map = p8.0;
-      l = p9.0;
-      legacy = bytes_same _ _ p10.0;
-      legacy_below = ltb-true _ _ p11.0;
-      opcode = bytes_same _ _ p12.0;
-      opcode_below = ltb-true _ _ p13.0;
-      size = p14.0;
-      encodes = p14.1;
+      digit = eqb-true _ _ tail.0;
+      imm_len = eqb-true _ _ imm.0;
+      vex = bool_same _ _ vex.0;
+      register = bool_same _ _ tail.1;
+      vvvv = bool_same _ _ vvvv.0;
+      w = bool_same _ _ w.0;
+      uses_8bit = same_if_not _ _ _ w.1;
+      pp = pp.0;
+      map = map.0;
+      l = map.1;
+      legacy = rw (legacy_word, legacy_len) (legacy_held line.prefix).0;
+      legacy_below = rw (legacy_word, legacy_len) (ltb-true _ _ (legacy_held line.prefix).1);
+      opcode = rw (word, len) (opcode_held line.opcode small);
+      opcode_below = rw (word, len) (opcode_fits line.opcode small);
+      size = line_is.0;
+      encodes = line_is.1;
     }
 
--- each row's is one
+-- that of each row is one
 pub rows_are : (row : Row) → is_entry (entry_of row) ≡ true
 unfolding number_of
 rows_are lock_addb_mi = refl
 rows_are _ = refl
 
--- and so is each of a list
-abbrev pub all_entries : List ℕ → Bool
-all_entries [] = true
-all_entries (packed ∷ more) = is_entry packed && all_entries more
+-- what holds of each entry
 
-same_if_not : (a b c : Bool) → (a || same_bool b c) ≡ true → a ≡ false → b ≡ c
-same_if_not true b c h e = cc
-same_if_not false b c h e = bool_same b c h
+pub facts_of : (e : Entry) → EntryFacts e.packed (entry_line e)
+facts_of e = entry_facts e.packed (unpacked e.packed) e.is
 
-pub uses_8bit_of : (packed : ℕ) (line : Line) → is_entry_of packed line ≡ true → is_vex line.prefix ≡ false → flag_at packed 12 ≡ has_8bit line.tail
-uses_8bit_of packed line h = same_if_not (is_vex line.prefix) (flag_at packed 12) (has_8bit line.tail) (entry_facts packed line h).uses_8bit
-
--- the line of an entry can be encoded
+-- its line can be encoded
 pub entry_is_line : (e : Entry) → is_line (entry_line e) ≡ true
-entry_is_line e = (entry_facts e.packed (unpacked e.packed) e.is).encodes
+entry_is_line e = (facts_of e).encodes
 
 pub entry_imm_len : (e : Entry) → has_imm_len (imm_bytes (entry_line e).imm) ≡ true
-entry_imm_len e = (entry_facts e.packed (unpacked e.packed) e.is).size
+entry_imm_len e = (facts_of e).size

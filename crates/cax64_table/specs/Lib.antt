@@ -5,9 +5,9 @@ pub mod LegacyNumber
 pub mod PrefixNumbers
 pub mod Digit
 pub mod Numbers
--- Steps of the proofs.
 pub mod Packed
 pub mod Entry
 pub mod EntryLine
+-- Steps of the proofs.
 pub mod Slot
 pub mod Matching

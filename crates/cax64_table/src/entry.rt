@@ -1,6 +1,6 @@
 //! A line of a table as one number, whose ready parts are its line's.
 
-ghost use Rattle.std.specs.Prelude.{◌≡◌, ◌≤◌, ◌<◌, ◌^◌, true, false, IsTrue};
+ghost use Rattle.std.specs.Prelude.{◌≡◌, ◌≤◌, ◌<◌, ◌^◌, ◌↔◌, true, false, IsTrue, IsSome, IfSome};
 ghost use Rattle.cax64_machine_code.specs.Len.{is_w1};
 ghost use Rattle.cax64_machine_code.specs.Line.{imm_bytes, opcode_bytes};
 ghost use Rattle.cax64_machine_code.specs.Rows.{line_of};
@@ -10,6 +10,7 @@ ghost use Rattle.cax64_table.specs.Numbers.{digit_of, has_8bit, has_l, has_map, 
 
 use crate::numbers::HeldBytes;
 use crate::packed::{bits, entry, flag, half_word};
+use crate::ready::is_entry;
 use cax64_machine_code::row::Row;
 
 /// A line of a table as one number, whose ready parts are its line's, and which can be encoded.
@@ -21,6 +22,18 @@ pub struct Entry {
 
 impl Entry {
     ghost use Rattle.cax64_table.specs.EntryLine.{entry_line};
+
+    /// That of a number, where it is one.
+    pub fn of(packed: u64) -> Option<Entry>
+        ensures is { IsSome result ↔ IsTrue (is_entry packed) }
+        ensures line { IfSome result (λ entry. entry_line entry ≡ unpacked packed) }
+    {
+        if is_entry(packed) {
+            Some(Entry { packed })
+        } else {
+            None
+        }
+    }
 
     /// That of a row.
     #[inline(always)]
@@ -125,15 +138,6 @@ impl Entry {
         ensures below { result < 2 }
     {
         bits(self.packed, 11, 1)
-    }
-
-    /// That of a number that is one.
-    #[inline(always)]
-    pub(crate) fn of_core(packed: u64) -> Entry
-        requires { is_entry packed ≡ true }
-        ensures { entry_line result ≡ unpacked packed }
-    {
-        Entry { packed }
     }
 
     /// Whether a register stands in the reg field.

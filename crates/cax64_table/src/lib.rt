@@ -2,10 +2,9 @@
 #![tactic(auto)]
 
 pub mod cursor;
-pub mod any_table;
-pub mod core_lines;
-pub mod op;
+mod encodable;
 pub mod entry;
+mod fields;
 mod index;
 pub mod laws;
 pub mod legacy;
@@ -13,5 +12,6 @@ pub mod lookup;
 pub mod numbers;
 mod packed;
 pub mod prefix;
+mod ready;
 
 pub use packed::line;

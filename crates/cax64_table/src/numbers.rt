@@ -6,7 +6,7 @@ ghost use Rattle.cax64_machine_code.specs.Line.{imm_bytes, opcode_bytes};
 ghost use Rattle.cax64_machine_code.specs.Rows.{line_of};
 ghost use Rattle.cax64_table.specs.Numbers.{digit_of, has_8bit, has_register, has_vvvv, is_vex, held, legacy_bytes_of, has_pp, has_map, has_l};
 
-use crate::packed::{bits, entry, flag, half_word};
+use crate::entry::Entry;
 use cax64_machine_code::row::Row;
 
 /// A few bytes as a word, the first one the lowest, and how many they are.
@@ -24,8 +24,7 @@ pub fn digit(row: Row) -> u8
     ensures value { result ≡ digit_of (line_of row).tail }
     ensures below { result < 8 }
 {
-    // Of 8, which stands for no digit, the lowest bits are 0.
-    bits(entry(row), 17, 3)
+    Entry::of_row(row).digit()
 }
 
 /// Whether a register stands in the reg field.
@@ -33,7 +32,7 @@ pub fn digit(row: Row) -> u8
 pub fn has_register(row: Row) -> bool
     ensures { result ≡ has_register (line_of row).tail }
 {
-    flag(entry(row), 16)
+    Entry::of_row(row).has_register()
 }
 
 /// Whether a register stands in vvvv.
@@ -41,8 +40,7 @@ pub fn has_register(row: Row) -> bool
 pub fn has_vvvv(row: Row) -> bool
     ensures { result ≡ has_vvvv (line_of row).prefix }
 {
-    let packed = entry(row);
-    flag(packed, 6) & flag(packed, 12)
+    Entry::of_row(row).has_vvvv()
 }
 
 /// How many bytes of immediate there are.
@@ -50,7 +48,7 @@ pub fn has_vvvv(row: Row) -> bool
 pub fn imm_len(row: Row) -> u8
     ensures { result ≡ imm_bytes (line_of row).imm }
 {
-    bits(entry(row), 0, 3)
+    Entry::of_row(row).imm_len()
 }
 
 /// Whether a VEX prefix stands before the opcode, and no legacy prefix.
@@ -58,7 +56,7 @@ pub fn imm_len(row: Row) -> u8
 pub fn is_vex(row: Row) -> bool
     ensures { result ≡ is_vex (line_of row).prefix }
 {
-    flag(entry(row), 6)
+    Entry::of_row(row).is_vex()
 }
 
 /// Whether W has to be 1.
@@ -66,8 +64,7 @@ pub fn is_vex(row: Row) -> bool
 pub fn w(row: Row) -> bool
     ensures { result ≡ is_w1 (line_of row).w }
 {
-    // Of 2, which stands for either value, the lowest bit is 0.
-    flag(entry(row), 4)
+    Entry::of_row(row).w()
 }
 
 /// Whether a row without VEX has an 8-bit register field.
@@ -75,7 +72,7 @@ pub fn w(row: Row) -> bool
 pub fn uses_8bit(row: Row) -> bool
     ensures { is_vex (line_of row).prefix ≡ false → result ≡ has_8bit (line_of row).tail }
 {
-    flag(entry(row), 12)
+    Entry::of_row(row).uses_8bit()
 }
 
 /// The legacy prefixes but REX: F0, 66, F2 and F3, in this order. A row with VEX has none.
@@ -85,11 +82,7 @@ pub fn legacy(row: Row) -> HeldBytes
     ensures few { result.len ≤ 3 }
     ensures below { result.word < 256 ^ result.len }
 {
-    let packed = entry(row);
-    HeldBytes {
-        word: half_word(packed, 46),
-        len: bits(packed, 62, 2),
-    }
+    Entry::of_row(row).legacy()
 }
 
 /// The opcode, with the 0F before it where the row has one.
@@ -100,11 +93,7 @@ pub fn opcode(row: Row) -> HeldBytes
     ensures few { result.len ≤ 2 }
     ensures below { result.word < 256 ^ result.len }
 {
-    let packed = entry(row);
-    HeldBytes {
-        word: half_word(packed, 30),
-        len: 1 + bits(packed, 29, 1),
-    }
+    Entry::of_row(row).opcode()
 }
 
 /// The field pp of a row with VEX.
@@ -113,7 +102,7 @@ pub fn pp(row: Row) -> u8
     ensures is { IsTrue (has_pp (line_of row).prefix result) }
     ensures below { result < 4 }
 {
-    bits(entry(row), 7, 2)
+    Entry::of_row(row).pp()
 }
 
 /// The opcode map of a row with VEX.
@@ -122,7 +111,7 @@ pub fn map(row: Row) -> u8
     ensures is { IsTrue (has_map (line_of row).prefix result) }
     ensures below { result < 4 }
 {
-    bits(entry(row), 9, 2)
+    Entry::of_row(row).map()
 }
 
 /// The bit L of a row with VEX.
@@ -131,5 +120,5 @@ pub fn l(row: Row) -> u8
     ensures is { IsTrue (has_l (line_of row).prefix result) }
     ensures below { result < 2 }
 {
-    bits(entry(row), 11, 1)
+    Entry::of_row(row).l()
 }

@@ -291,7 +291,7 @@ fn imm(packed: u64) -> ImmField
 }
 
 #[inline(always)]
-fn unpack(packed: u64) -> Line
+pub(crate) fn unpack(packed: u64) -> Line
     ensures { result ≡ unpacked packed }
 {
     Line {

@@ -1,6 +1,5 @@
-use Rattle.cax64_table.specs.Packed.{unpacked}
-use Rattle.cax64_table.proofs.EntryFacts.{entry_facts}
+use Rattle.cax64_table.proofs.EntryFacts.{facts_of}
 use Rattle.cax64_table.proofs.entry.Entry.w.Goals as goal
 
 pub returns : goal.returns
-returns c = rw c.flag.ensures (entry_facts c.args.self.packed (unpacked c.args.self.packed) c.args.self.is).w
+returns c = rw c.flag.ensures (facts_of c.args.self).w

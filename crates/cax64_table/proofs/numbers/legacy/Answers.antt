@@ -1,8 +1,0 @@
-use Rattle.cax64_table.proofs.Held.{legacy_is, legacy_below}
-use Rattle.cax64_table.proofs.numbers.legacy.Goals as goal
-
-pub returns-clause-bytes : goal.returns-clause-bytes
-returns-clause-bytes c = rw (c.half_word.ensures, c.bits.ensures, c.entry-packed.ensures) (legacy_is c.args.row)
-
-pub returns-clause-below : goal.returns-clause-below
-returns-clause-below c = rw (c.half_word.ensures, c.bits.ensures, c.entry-packed.ensures) (legacy_below c.args.row)
