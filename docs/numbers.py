@@ -77,6 +77,18 @@ def prefixes():
     return sum(map(cases, ("rex", "vex", "evex", "apx")))
 
 
+def all_cases():
+    names = "tails relative disp rex vex evex apx immediates addresses instructions faults refusals buffers patched reader program"
+    return sum(map(cases, names.split()))
+
+
+def executed():
+    """The cases of instructions, and the readings that are no `none`."""
+    text = (ROOT / "crates/vectors/data/reader.tsv").read_text(encoding="utf-8")
+    readings = [line for line in text.splitlines()[1:] if line.split("\t")[2] != "none"]
+    return cases("instructions") + len(readings)
+
+
 def headline():
     """The lines of the words of the headline: those of the table that lists them."""
     return sum(counted for _, _, _, counted in words("Words of the headline"))
@@ -93,7 +105,9 @@ SENTENCES = (
     (rf"{NUMBER} lines are written by it", written_lines),
     (rf"a table of {NUMBER} lines and scripts of {NUMBER}", table_lines, script_lines),
     (rf"(?:the|all|of) {NUMBER} rows", rows),
-    (rf"{NUMBER} (?:structs\b(?! with)|instructions\b(?= of one stated table))", structs),
+    (rf"{NUMBER} cases from outside", all_cases),
+    (rf"{NUMBER} cases are executed", executed),
+    (rf"all {NUMBER} (?:structs|kinds|variants|instructions)", structs),
     (rf"{NUMBER} tails, {NUMBER} relative places, {NUMBER} displacements", of("tails"), of("relative"), of("disp")),
     (rf"{NUMBER} prefixes of the four forms, {NUMBER} immediates", prefixes, of("immediates")),
     (rf"{NUMBER} addresses as text, {NUMBER} instructions", of("addresses"), of("instructions")),

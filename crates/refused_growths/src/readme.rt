@@ -1,11 +1,10 @@
 //! The README's example.
 
-use client::encode_all_if_encodable;
 use cranelift_assembler_x64::inst::{andb_i, lock_addl_mr};
 use cranelift_assembler_x64::reader::{RegView, read_inst};
 use cranelift_assembler_x64::{
     Amode, AmodeOffset, AmodeOffsetPlusKnownOffset, Fixed, Gpr, Imm8, Inst, InstructionText,
-    Notice, Numbers, Recorder, Row, TrapCode,
+    Notice, Numbers, Recorder, Row, TrapCode, encode_each_checked,
 };
 use std::alloc::{AllocError, Global};
 use std::num::NonZeroU8;
@@ -33,7 +32,7 @@ fn an_atomic_addition_and_a_mask(rt: HostRuntime) -> Result<(), Fail> {
         andb_i::new(Fixed(0), Imm8::new(0xAA)).into(),
     ];
     let mut sink = Recorder::new(rt.alloc());
-    assert_eq!(rt; encode_all_if_encodable(&insts, &mut sink), Ok(true));
+    assert_eq!(rt; encode_each_checked(&insts, &mut sink), Ok(()));
     assert_eq!(rt;
         sink.bytes(),
         [0xF0, 0x45, 0x01, 0x4C, 0x24, 0x80, 0x24, 0xAA].as_slice()
