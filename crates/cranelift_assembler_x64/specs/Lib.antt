@@ -40,6 +40,8 @@ pub use Rattle.cax64_machine_code.specs.Apx as MachineApx
 pub use Rattle.cax64_machine_code.specs.Line
 pub use Rattle.cax64_machine_code.specs.Rows
 pub use Rattle.cax64_machine_code.specs.Reading
+pub use Rattle.cax64_machine_code.specs.Apart
+pub use Rattle.cax64_machine_code.specs.ReadLine
 pub use Rattle.cax64_machine_code.specs.Sequence
 pub use Rattle.cax64_machine_code.specs.Shortest
 pub use Rattle.cax64_machine_code.specs.Len
