@@ -4,6 +4,8 @@
 #[cfg(test)]
 mod by_hand;
 #[cfg(test)]
+mod classes;
+#[cfg(test)]
 mod counted_loop;
 #[cfg(test)]
 mod data;

@@ -1,2 +1,3 @@
 -- The words that the clauses of public functions cite.
 pub mod Homes
+pub mod Classes

@@ -4,6 +4,7 @@
 
 pub mod assignment;
 mod back_end;
+pub mod classes;
 pub mod notices;
 pub mod places;
 mod read_back;
