@@ -21,7 +21,7 @@ use Rattle.cax64_encoder.specs.Instruction.{AddsInstruction, LeavesInstruction}
 use Rattle.cax64_encoder.specs.Meant.{Meant, len}
 use Rattle.cax64_encoder.specs.Notices.{notices_of, memory_notices, notice_count}
 
-told_same : (records : Bool) (old a b : List Notice) → a ≡ b → (if records then old ++ a else old) ≡ (if records then old ++ b else old)
+pub told_same : (records : Bool) (old a b : List Notice) → a ≡ b → (if records then old ++ a else old) ≡ (if records then old ++ b else old)
 told_same records old a b e = rw e refl
 
 -- a run of an instruction's actions that succeeded
@@ -38,7 +38,7 @@ run_adds {acts = acts} {s} {t} (Ok tt) h run = record {
 }
 run_adds (Err e) h run = tt
 
-not_empty : {A : Type 0} (xs : List A) → 0 < length xs → xs ≢ []
+pub not_empty : {A : Type 0} (xs : List A) → 0 < length xs → xs ≢ []
 not_empty [] h e = omega arith
 not_empty (x ∷ xs) h e = cc
 

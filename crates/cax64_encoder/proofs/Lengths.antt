@@ -1,4 +1,4 @@
-use Rattle.std.proofs.Common.{◌≡◌, ℕ, arith, Bool, true, false, refl, ◌∙◌, ap, sym, Option, Some, None, List, length, ℤ}
+use Rattle.std.proofs.Common.{◌≡◌, ℕ, ◌+◌, arith, Bool, true, false, refl, ◌∙◌, ap, sym, Option, Some, None, List, length, ℤ}
 use Rattle.std.specs.Prelude.{◌&&◌, ◌||◌, nat_le, option_map}
 use Rattle.std.proofs.lemmas.Bool.{and_parts}
 use Rattle.cax64_sink.specs.Run.{all_bytes}
@@ -6,9 +6,10 @@ use Rattle.cax64_sink.specs.Call.{Action}
 use Rattle.cax64_address.specs.Address.{displaced_place}
 use Rattle.cax64_address.specs.declared.amode.Amode.{Amode}
 use Rattle.cax64_address.specs.declared.amode.Amode.TheVariants.{ImmReg, ImmRegRegShift, RipRelative}
-use Rattle.cax64_machine_code.specs.Len.{is_w1, reg_is_high, place_is_high, reg_is_special, place_is_special, has_rex_byte, prefix_len, opcode_len, tail_len, line_len, len_of}
+use Rattle.cax64_machine_code.specs.Len.{is_w1, reg_is_high, place_is_high, reg_is_special, place_is_special, has_rex_byte, prefix_len, opcode_len, tail_len, line_len}
 use Rattle.cax64_machine_code.specs.Line.{imm_bytes}
-use Rattle.cax64_machine_code.specs.Rows.{line_of}
+use Rattle.cax64_machine_code.specs.Reading.{PartsOf}
+use Rattle.cax64_machine_code.specs.ReadLine.{parts_as}
 use Rattle.cax64_machine_code.specs.declared.line.Line.{Line}
 use Rattle.cax64_machine_code.specs.declared.line.PrefixField.{PrefixField}
 use Rattle.cax64_machine_code.specs.declared.line.PrefixField.TheVariants.{LegacyField, VexField}
@@ -20,11 +21,10 @@ use Rattle.cax64_machine_code.specs.declared.line.TailField.TheVariants.{NoTail,
 use Rattle.cax64_machine_code.specs.declared.reading.Place.{Place}
 use Rattle.cax64_machine_code.specs.declared.reading.RegView.{RegView}
 use Rattle.cax64_machine_code.specs.declared.reading.RegView.TheVariants.{Low}
-use Rattle.cax64_machine_code.specs.declared.row.Row.{Row}
 use Rattle.cax64_sink.specs.declared.TrapCode.{TrapCode}
 use Rattle.cax64_encoder.specs.Code.{trap_actions}
 use Rattle.cax64_encoder.proofs.Opcode.{opcode_actions}
-use Rattle.cax64_encoder.specs.Encodes.{form_parts}
+use Rattle.cax64_encoder.specs.EncodesLine.{line_form_parts}
 use Rattle.cax64_encoder.specs.Form.{Form, tail_fits, vvvv_fits, fits}
 use Rattle.cax64_encoder.specs.ImmActions.{optional_imm_actions}
 use Rattle.cax64_table.specs.Entry.{is_8bit_once, is_line}
@@ -41,7 +41,7 @@ use Rattle.cax64_encoder.proofs.Lines.{line_facts}
 use Rattle.cax64_encoder.proofs.Encodes.{imm_same, imm_length, opcode_part, opcode_length, trap_bytes, five_lengths}
 use Rattle.cax64_encoder.proofs.Whole.{instruction_actions}
 
--- The number of bytes that are written is the one that the row and the numbers have.
+-- The number of bytes that are written is the one that the line and the numbers have.
 
 amode_high_same : {M : Type 0} (enc : M → ℕ) (disp : ℤ) (at_end : ℕ) (amode : Amode M) → amode_high enc amode ≡ place_is_high (Some (displaced_place enc disp at_end amode))
 amode_high_same enc disp at_end (ImmReg base simm32 trap) = refl
@@ -93,24 +93,30 @@ but_w_same enc disp at_end (Modrm Register Memory) (Some n) operand hf ho = rw (
 but_w_same enc disp at_end (Modrm Register RegisterOrMemory) (Some n) operand hf ho = rw (place_high_same enc disp at_end operand) refl
 but_w_same enc disp at_end (Modrm Register Register8OrMemory) (Some n) operand hf ho = cc
 
-rex_same : {M : Type 0} (enc : M → ℕ) (row : Row) (disp : ℤ) (line : Line) (o : Form M) → is_line line ≡ true → fits line o ≡ true → rex_stands enc (is_w1 line.w) (has_8bit line.tail) (register_number o.reg) o.place ≡ has_rex_byte line (form_parts enc row disp o)
-rex_same enc row disp line o hl hf =
+rex_same : {M : Type 0} (enc : M → ℕ) (disp : ℤ) (line : Line) (o : Form M) → is_line line ≡ true → fits line o ≡ true → rex_stands enc (is_w1 line.w) (has_8bit line.tail) (register_number o.reg) o.place ≡ has_rex_byte line (line_form_parts enc line disp o)
+rex_same enc disp line o hl hf =
     let facts = line_facts line hl in
     ap (λ (x : Bool). is_w1 line.w || x) (but_w_same enc disp (imm_size o.imm) line.tail o.reg o.place (and_parts (tail_fits line.tail o.reg o.place) _ hf).0 facts.once)
 
-prefix_same : {M : Type 0} (enc : M → ℕ) (row : Row) (disp : ℤ) (line : Line) (o : Form M) (field : PrefixField) → is_line line ≡ true → fits line o ≡ true → written_prefix_len enc field line (register_number o.reg) o.place ≡ prefix_len field line (form_parts enc row disp o)
-prefix_same enc row disp line o (LegacyField set rex) hl hf = rw (rex_same enc row disp line o hl hf) refl
-prefix_same enc row disp line o (VexField pp map l vvvv) hl hf = rw (place_high_same enc disp (imm_size o.imm) o.place) refl
+prefix_same : {M : Type 0} (enc : M → ℕ) (disp : ℤ) (line : Line) (o : Form M) (field : PrefixField) → is_line line ≡ true → fits line o ≡ true → written_prefix_len enc field line (register_number o.reg) o.place ≡ prefix_len field line (line_form_parts enc line disp o)
+prefix_same enc disp line o (LegacyField set rex) hl hf = rw (rex_same enc disp line o hl hf) refl
+prefix_same enc disp line o (VexField pp map l vvvv) hl hf = rw (place_high_same enc disp (imm_size o.imm) o.place) refl
 
-pub line_is : {M : Type 0} (enc : M → ℕ) (row : Row) (line : Line) (o : Form M) (disp : ℤ) (trap : Option TrapCode) (pre tail : List Action) → is_line line ≡ true → fits line o ≡ true → length (all_bytes pre) ≡ written_prefix_len enc line.prefix line (register_number o.reg) o.place → length (all_bytes tail) ≡ tail_len (place_read enc disp (imm_size o.imm) o.place) → length (all_bytes (instruction_actions line trap pre tail o)) ≡ line_len line (form_parts enc row disp o)
-line_is enc row line o disp trap pre tail hl hf hp ht =
+-- as many bytes as the instruction has
+pub line_is : {M : Type 0} (enc : M → ℕ) (line : Line) (o : Form M) (disp : ℤ) (trap : Option TrapCode) (pre tail : List Action) → is_line line ≡ true → fits line o ≡ true → length (all_bytes pre) ≡ written_prefix_len enc line.prefix line (register_number o.reg) o.place → length (all_bytes tail) ≡ tail_len (place_read enc disp (imm_size o.imm) o.place) → length (all_bytes (instruction_actions line trap pre tail o)) ≡ line_len line (line_form_parts enc line disp o)
+line_is enc line o disp trap pre tail hl hf hp ht =
     let q = and_parts (vvvv_fits line.prefix o.vvvv) (imm_fits line.imm o.imm) (and_parts (tail_fits line.tail o.reg o.place) _ hf).1 in
     let whole = five_lengths (trap_actions trap) pre (opcode_actions line.opcode) tail (optional_imm_actions o.imm) (trap_bytes trap) in
     let op : length (all_bytes (opcode_actions line.opcode)) ≡ opcode_len line.opcode = ap length (opcode_part line.opcode) ∙ opcode_length line.opcode in
     let imm : length (all_bytes (optional_imm_actions o.imm)) ≡ imm_bytes line.imm = imm_length o.imm ∙ sym (imm_same line.imm o.imm q.1) in
-    let prefix = hp ∙ prefix_same enc row disp line o line.prefix hl hf in
+    let prefix = hp ∙ prefix_same enc disp line o line.prefix hl hf in
     omega (arith, whole, op, imm, prefix, ht)
 
--- as many bytes as the instruction has
-pub length_is : {M : Type 0} (enc : M → ℕ) (row : Row) (line : Line) (o : Form M) (disp : ℤ) (trap : Option TrapCode) (pre tail : List Action) → line_of row ≡ line → is_line line ≡ true → fits line o ≡ true → length (all_bytes pre) ≡ written_prefix_len enc line.prefix line (register_number o.reg) o.place → length (all_bytes tail) ≡ tail_len (place_read enc disp (imm_size o.imm) o.place) → length (all_bytes (instruction_actions line trap pre tail o)) ≡ len_of (form_parts enc row disp o)
-length_is enc row line o disp trap pre tail e hl hf hp ht = line_is enc row line o disp trap pre tail hl hf hp ht ∙ ap (λ (l : Line). line_len l (form_parts enc row disp o)) (sym e)
+-- and as many whatever names its line
+
+prefix_alike : {K L : Type 0} (key : L) (field : PrefixField) (line : Line) (parts : PartsOf K) → prefix_len field line parts ≡ prefix_len field line (parts_as key parts)
+prefix_alike key (LegacyField set rex) line parts = refl
+prefix_alike key (VexField pp map l vvvv) line parts = refl
+
+pub len_alike : {K L : Type 0} (key : L) (line : Line) (parts : PartsOf K) → line_len line parts ≡ line_len line (parts_as key parts)
+len_alike key line parts = ap (λ (n : ℕ). n + (opcode_len line.opcode + (tail_len parts.place + imm_bytes line.imm))) (prefix_alike key line.prefix line parts)

@@ -1,12 +1,12 @@
 //! From a row of the table and operands to the code of an instruction.
 
-ghost use Rattle.std.specs.Prelude.{◌≡◌, ◌∷◌, [], ◌==◌, ◌<◌, ◌≤◌, ◌/◌, ◌&&◌, ◌||◌, ◌↔◌, nat_le, IsTrue, IsSome, Option, OnOk, option_map, length};
+ghost use Rattle.std.specs.Prelude.{◌≡◌, ◌∷◌, [], ◌==◌, ◌<◌, ◌≤◌, ◌/◌, ◌&&◌, ◌||◌, ◌↔◌, nat_le, IsTrue, IsSome, IsOk, IfErr, true, Option, OnOk, OnErr, option_map, length};
 ghost use Rattle.std.specs.Int.{from_bool};
 ghost use Rattle.cax64_address.specs.Emitted as address;
 ghost use Rattle.cax64_address.specs.Memory.{memory_actions};
 ghost use Rattle.cax64_encoder.specs.Code.{IsCode, tail_actions, code_actions};
 ghost use Rattle.cax64_encoder.specs.Encodes.{TailPartOf, EncodesParts, EncodesAs, form_parts};
-ghost use Rattle.cax64_encoder.specs.AddsLine.{AddsLine};
+ghost use Rattle.cax64_encoder.specs.AddsLine.{AddsLine, LeavesLine};
 ghost use Rattle.cax64_encoder.specs.EncodesLine.{EncodesLine, line_form_parts};
 ghost use Rattle.cax64_encoder.specs.Form.{is_no_place, vvvv_fits, fits};
 ghost use Rattle.cax64_table.specs.Entry.{has_tail};
@@ -21,12 +21,13 @@ ghost use Rattle.cax64_machine_code.specs.Fields.{IsBytes};
 ghost use Rattle.cax64_machine_code.specs.Len.{tail_len, len_of, line_len};
 ghost use Rattle.cax64_machine_code.specs.Prefix.{rex_bits};
 ghost use Rattle.cax64_machine_code.specs.Rows.{line_of};
-ghost use Rattle.cax64_machine_code.specs.declared.row.Row.{Row};
 ghost use Rattle.cax64_table.specs.EntryLine.{entry_line};
 ghost use Rattle.cax64_prefix.specs.Rex.{is_special_if_8bit};
 ghost use Rattle.cax64_operand.specs.declared.operand.Operands.{Operands};
 ghost use Rattle.cax64_sink.specs.Call.{put};
+ghost use Rattle.cax64_sink.specs.Room.{HasRoom};
 ghost use Rattle.cax64_sink.specs.Run.{all_bytes};
+ghost use Rattle.cax64_sink.specs.Keeps.{Keeps};
 
 use crate::code::{Code, TailPart};
 use crate::content::Content;
@@ -175,7 +176,7 @@ pub fn code_of_entry(entry: Entry, form: &NumberedForm, displacement: i32) -> Co
     requires imm { HasImmWord (entry_line entry) form.now }
     requires real { IsTrue (form_is_real form.now) }
     ensures encodes { EncodesLine (line_form_parts plain.enc (entry_line entry) displacement (form_named (entry_line entry) form.now)) (memory_in (place_named form.now.place)) (code_actions result) }
-    ensures length { (row : Row) → length (all_bytes (code_actions result)) ≡ line_len (entry_line entry) (form_parts plain.enc row displacement (form_named (entry_line entry) form.now)) }
+    ensures length { length (all_bytes (code_actions result)) ≡ line_len (entry_line entry) (line_form_parts plain.enc (entry_line entry) displacement (form_named (entry_line entry) form.now)) }
     ensures is { IsCode result }
 {
     let register = register_number(form.reg);
@@ -194,7 +195,7 @@ pub fn code_of_entry(entry: Entry, form: &NumberedForm, displacement: i32) -> Co
     }
 }
 
-/// Puts an instruction of a line of whatever table.
+/// Puts the instruction of a line, of whatever table, with these operands, whose memory operand has this displacement.
 #[inline(always)]
 pub fn encode_entry<S: CodeSink>(
     entry: Entry,
@@ -207,6 +208,10 @@ pub fn encode_entry<S: CodeSink>(
     requires imm { HasImmWord (entry_line entry) form.now }
     requires real { IsTrue (form_is_real form.now) }
     ensures adds { OnOk result (AddsLine (line_form_parts plain.enc (entry_line entry) displacement (form_named (entry_line entry) form.now)) (memory_in (place_named form.now.place)) (S.state sink.old) (S.state sink.new)) }
+    ensures leaves { OnErr result (LeavesLine (line_form_parts plain.enc (entry_line entry) displacement (form_named (entry_line entry) form.now)) (memory_in (place_named form.now.place)) (S.state sink.old) (S.state sink.new)) }
+    ensures error { IfErr result (λ e. (S.state sink.old).answers e ≡ true) }
+    ensures keeps { Keeps (S.state sink.old) (S.state sink.new) }
+    ensures enough { HasRoom (S.state sink.old).byte_room 13 → HasRoom (S.state sink.old).notice_room 1 → IsOk result }
     ensures beside { S.may_become sink.old sink.new }
 {
     code_of_entry(entry, form, displacement).put(sink)

@@ -69,7 +69,7 @@ impl NumberedPlace {
 
     /// The place of a register of this number.
     #[inline(always)]
-    fn of_register(number: u8) -> NumberedPlace
+    pub(crate) fn of_register(number: u8) -> NumberedPlace
         ensures { result ≡ register_place number }
     {
         let mut numbers = NumberedPlace::none();

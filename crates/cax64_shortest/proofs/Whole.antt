@@ -1,4 +1,4 @@
-use Rattle.std.proofs.Common.{◌≡◌, ℕ, zero, suc, ◌+◌, ◌-◌, ◌*◌, ◌≤◌, arith, List, [], ◌∷◌, Bool, true, false, Some, None, Option, refl, ap, ◌∙◌, ℤ, pos, length}
+use Rattle.std.proofs.Common.{◌≡◌, ℕ, zero, suc, ◌+◌, ◌-◌, ◌*◌, ◌≤◌, arith, List, [], ◌∷◌, Bool, true, false, Some, None, Option, refl, ap, subst, ℤ, pos, length}
 use Rattle.std.specs.Prelude.{◌==◌, ◌&&◌, ◌||◌, if◌then◌else◌, option_map, option_and_then}
 use Rattle.std.proofs.lemmas.Bool.{and_parts}
 use Rattle.std.proofs.lemmas.Bool.Decides.{nat_tests}
@@ -7,8 +7,9 @@ use Rattle.cax64_machine_code.specs.Fields.{IsBytes, number_at, signed_of}
 use Rattle.cax64_machine_code.specs.Len.{one_if, is_w1, reg_is_high, place_is_high, reg_is_special, place_is_special, has_rex_byte, fits_two_byte_vex, legacy_len, prefix_len, opcode_len, least_tail, tail_len, line_len, len_of}
 use Rattle.cax64_machine_code.specs.Line.{w_matches, vvvv_matches, same_legacy, field_matches, prefix_matches, after, opcode_at, opcode_bytes, imm_bytes}
 use Rattle.cax64_machine_code.specs.Prefix.{Vex, Prefix, legacy_prefix, vex_prefix, has_rex, w_of, r_of, x_of, b_of}
-use Rattle.cax64_machine_code.specs.Reading.{Parts, Found, read, find, vvvv_at, reg_view, place_at, imm_at, operands_of, operands_at}
-use Rattle.cax64_machine_code.specs.Rows.{line_of, all_rows}
+use Rattle.cax64_machine_code.specs.ReadLine.{LineReading, find_line, line_reading_of, read_line, with_line}
+use Rattle.cax64_machine_code.specs.Reading.{Parts, PartsOf, FoundOf, read, vvvv_at, reg_view, place_at, imm_at, operands_of}
+use Rattle.cax64_machine_code.specs.Rows.{line_of}
 use Rattle.cax64_machine_code.specs.Sequence.{parts_of, Same}
 use Rattle.cax64_machine_code.specs.Tail.{Tail, read_tail}
 use Rattle.cax64_machine_code.specs.declared.line.ImmField.{ImmField}
@@ -27,18 +28,19 @@ use Rattle.cax64_machine_code.specs.declared.reading.Place.{Place}
 use Rattle.cax64_machine_code.specs.declared.reading.Place.TheVariants.{Reg, Mem, Rip}
 use Rattle.cax64_machine_code.specs.declared.reading.Reading.{Reading}
 use Rattle.cax64_machine_code.specs.declared.reading.RegView.TheVariants.{Low, High}
-use Rattle.cax64_machine_code.specs.declared.row.Row.{Row}
 use Rattle.cax64_machine_code.proofs.Forms.{later_bytes, true_is}
 use Rattle.cax64_machine_code.proofs.NoShorter.{no_shorter}
+use Rattle.cax64_machine_code.proofs.ReadLine.{line_steps, reads_line}
+use Rattle.cax64_encoder.proofs.Lengths.{len_alike}
 use Rattle.cax64_machine_code.proofs.Uniqueness.{behind, legacy_same, some_if}
-use Rattle.cax64_machine_code.proofs.Whole.{read_found, row_matches, steps}
+use Rattle.cax64_shortest.specs.LineParts.{line_parts}
 use Rattle.cax64_shortest.proofs.Numbers.{tail_low, tail_reg, reg_low, reg_plain, place_low, place_plain}
 use Rattle.cax64_shortest.proofs.PrefixLength.{Before, is_short_vex, prefix_least, prefix_length}
 
 -- a whole instruction: its prefix, its opcode, its tail and its immediate
 
 -- what the operands of a line say of the prefix that they were read under
-record Fits (line : Line) (p : Prefix) (parts : Parts) : Type 0 where
+record Fits (line : Line) (p : Prefix) (parts : PartsOf Line) : Type 0 where
   reg_low : r_of p ≡ 0 → reg_is_high parts.reg ≡ false
   place_low : x_of p ≡ 0 → b_of p ≡ 0 → place_is_high parts.place ≡ false
   reg_plain : has_rex p ≡ false → reg_is_special line.tail parts.reg ≡ false
@@ -55,7 +57,7 @@ one_most false = omega arith
 none_needed : (w r p s q : Bool) → w ≡ false → r ≡ false → p ≡ false → s ≡ false → q ≡ false → one_if (w || (r || (p || (s || q)))) ≡ 0
 none_needed w r p s q hw hr hp hs hq = rw (hw, hr, hp, hs, hq) refl
 
-without_rex : (line : Line) (found : LegacySet) (parts : Parts) → prefix_matches line (legacy_prefix found None) ≡ true → Fits line (legacy_prefix found None) parts → one_if (has_rex_byte line parts) ≡ 0
+without_rex : (line : Line) (found : LegacySet) (parts : PartsOf Line) → prefix_matches line (legacy_prefix found None) ≡ true → Fits line (legacy_prefix found None) parts → one_if (has_rex_byte line parts) ≡ 0
 without_rex line found parts h f =
     let w = not_w1 line.w (and_parts (field_matches line.prefix (legacy_prefix found None)) (w_matches line.w 0) h).1 in
     none_needed (is_w1 line.w) (reg_is_high parts.reg) (place_is_high parts.place) (reg_is_special line.tail parts.reg) (place_is_special line.tail parts.place)
@@ -75,7 +77,7 @@ short_parts a b c d h =
     let r = and_parts c d q.1 in
     (p.0, q.0, r.0, r.1)
 
-vex_counted : (line : Line) (vex : Vex) (map : ℕ) (parts : Parts) (short : Bool) → is_short_vex vex ≡ short → (vex.map == map) ≡ true → w_matches line.w vex.w ≡ true → Fits line (vex_prefix vex) parts → (if fits_two_byte_vex map line.w parts.place then 2 else 3) ≤ (if short then 2 else 3)
+vex_counted : (line : Line) (vex : Vex) (map : ℕ) (parts : PartsOf Line) (short : Bool) → is_short_vex vex ≡ short → (vex.map == map) ≡ true → w_matches line.w vex.w ≡ true → Fits line (vex_prefix vex) parts → (if fits_two_byte_vex map line.w parts.place then 2 else 3) ≤ (if short then 2 else 3)
 vex_counted line vex map parts false e hm hw f = choice_most (fits_two_byte_vex map line.w parts.place)
 vex_counted line vex map parts true e hm hw f =
     let s = short_parts (vex.map == 1) (vex.x == 0) (vex.b == 0) (vex.w == 0) e in
@@ -89,7 +91,7 @@ vex_facts : (a b c d : Bool) → a && (b && (c && d)) ≡ true → b ≡ true
 vex_facts a b c d h = (and_parts b (c && d) (and_parts a (b && (c && d)) h).1).0
 
 -- no prefix that the line's operands are read under is shorter than is counted
-prefix_counted : (line : Line) (field : PrefixField) (p : Prefix) (parts : Parts) → line.prefix ≡ field → prefix_matches line p ≡ true → Fits line p parts → prefix_len field line parts ≤ prefix_least p
+prefix_counted : (line : Line) (field : PrefixField) (p : Prefix) (parts : PartsOf Line) → line.prefix ≡ field → prefix_matches line p ≡ true → Fits line p parts → prefix_len field line parts ≤ prefix_least p
 prefix_counted line (LegacyField set rex) (legacy_prefix found None) parts is h f =
     let set_is : legacy_len set ≡ legacy_len found = same_set set found _ (and_parts _ (w_matches line.w 0) (rw is at h)).0 in
     let byte = without_rex line found parts h f in
@@ -149,18 +151,16 @@ imm_length (Imm size) bytes r h = mapped_length (λ (n : ℕ). Some (pos n)) siz
 imm_length (Simm size) bytes r h = mapped_length (λ (n : ℕ). Some (signed_of size n)) size bytes (number_at size bytes) r refl h
 
 -- what is found behind an opcode
-record Operands (row : Row) (line : Line) (p : Prefix) (bytes : List ℕ) (found : Found) : Type 0 where
+record Operands (line : Line) (p : Prefix) (bytes : List ℕ) (found : FoundOf Line) : Type 0 where
   size : tail_len found.parts.place + (imm_bytes line.imm + length found.rest) ≤ length bytes
-  row_is : found.parts.row ≡ row
   fits : Fits line p found.parts
 
-bare_found : (row : Row) (line : Line) (p : Prefix) (bytes : List ℕ) (o : Option (Option ℤ × List ℕ)) (found : Found) → line.tail ≡ NoTail → imm_at line.imm bytes ≡ o → option_map {T = Option ℤ × List ℕ} {U = Found} (λ i. record { parts = record { row = row; reg = None; vvvv = vvvv_at line.prefix p; place = None; imm = i.0 }; tail = 0; rest = i.1 }) o ≡ Some found → Operands row line p bytes found
-bare_found row line p bytes None found is e h = cc
-bare_found row line p bytes (Some i) found is e h =
+bare_found : (line : Line) (p : Prefix) (bytes : List ℕ) (o : Option (Option ℤ × List ℕ)) (found : FoundOf Line) → line.tail ≡ NoTail → imm_at line.imm bytes ≡ o → option_map {T = Option ℤ × List ℕ} {U = FoundOf Line} (λ i. record { parts = record { row = line; reg = None; vvvv = vvvv_at line.prefix p; place = None; imm = i.0 }; tail = 0; rest = i.1 }) o ≡ Some found → Operands line p bytes found
+bare_found line p bytes None found is e h = cc
+bare_found line p bytes (Some i) found is e h =
     let size = imm_length line.imm bytes i e in
     rw (← same_Some _ _ h) (record {
       size = omega (arith, size);
-      row_is = refl;
       fits = record { reg_low = λ _. refl; place_low = λ _ _. refl; reg_plain = λ _. rw is refl; place_plain = λ _. rw is refl };
     })
 
@@ -172,16 +172,15 @@ least_same Register8OrMemory p (Reg (High n)) place h = rw (← same_Some _ _ h)
 least_same field p (Mem base index disp) place h = rw (← same_Some _ _ h) refl
 least_same field p (Rip disp) place h = rw (← same_Some _ _ h) refl
 
-imm_found : (row : Row) (line : Line) (reg : RegField) (field : PlaceField) (p : Prefix) (bytes : List ℕ) (t : Tail) (place : Place) (o : Option (Option ℤ × List ℕ)) (found : Found) → line.tail ≡ Modrm reg field → IsBytes bytes → read_tail (x_of p) (b_of p) 1 bytes ≡ Some t → place_at field p t.place ≡ Some place → imm_at line.imm t.rest ≡ o → option_map {T = Option ℤ × List ℕ} {U = Found} (λ i. record { parts = record { row = row; reg = reg_view reg p t.reg; vvvv = vvvv_at line.prefix p; place = Some place; imm = i.0 }; tail = length bytes - length t.rest; rest = i.1 }) o ≡ Some found → Operands row line p bytes found
-imm_found row line reg field p bytes t place None found is hb ht hp e h = cc
-imm_found row line reg field p bytes t place (Some i) found is hb ht hp e h =
+imm_found : (line : Line) (reg : RegField) (field : PlaceField) (p : Prefix) (bytes : List ℕ) (t : Tail) (place : Place) (o : Option (Option ℤ × List ℕ)) (found : FoundOf Line) → line.tail ≡ Modrm reg field → IsBytes bytes → read_tail (x_of p) (b_of p) 1 bytes ≡ Some t → place_at field p t.place ≡ Some place → imm_at line.imm t.rest ≡ o → option_map {T = Option ℤ × List ℕ} {U = FoundOf Line} (λ i. record { parts = record { row = line; reg = reg_view reg p t.reg; vvvv = vvvv_at line.prefix p; place = Some place; imm = i.0 }; tail = length bytes - length t.rest; rest = i.1 }) o ≡ Some found → Operands line p bytes found
+imm_found line reg field p bytes t place None found is hb ht hp e h = cc
+imm_found line reg field p bytes t place (Some i) found is hb ht hp e h =
     let tail = no_shorter (x_of p) (b_of p) bytes t hb ht in
     let same : least_tail place ≡ least_tail t.place = least_same field p t.place place hp in
     let imm = imm_length line.imm t.rest i e in
     let below = tail_reg (x_of p) (b_of p) bytes t ht in
     rw (← same_Some _ _ h) (record {
       size = omega (arith, tail, same, imm);
-      row_is = refl;
       fits = record {
         reg_low = λ r. reg_low reg p t.reg below r;
         place_low = λ x b. place_low field p t.place place (tail_low (x_of p) (b_of p) bytes t x b ht) hp;
@@ -190,64 +189,74 @@ imm_found row line reg field p bytes t place (Some i) found is hb ht hp e h =
       };
     })
 
-place_found : (row : Row) (line : Line) (reg : RegField) (field : PlaceField) (p : Prefix) (bytes : List ℕ) (t : Tail) (o : Option Place) (found : Found) → line.tail ≡ Modrm reg field → IsBytes bytes → read_tail (x_of p) (b_of p) 1 bytes ≡ Some t → place_at field p t.place ≡ o → option_and_then {T = Place} {U = Found} (λ place. option_map (λ i. record { parts = record { row = row; reg = reg_view reg p t.reg; vvvv = vvvv_at line.prefix p; place = Some place; imm = i.0 }; tail = length bytes - length t.rest; rest = i.1 }) (imm_at line.imm t.rest)) o ≡ Some found → Operands row line p bytes found
-place_found row line reg field p bytes t None found is hb ht hp h = cc
-place_found row line reg field p bytes t (Some place) found is hb ht hp h = imm_found row line reg field p bytes t place (imm_at line.imm t.rest) found is hb ht hp refl h
+place_found : (line : Line) (reg : RegField) (field : PlaceField) (p : Prefix) (bytes : List ℕ) (t : Tail) (o : Option Place) (found : FoundOf Line) → line.tail ≡ Modrm reg field → IsBytes bytes → read_tail (x_of p) (b_of p) 1 bytes ≡ Some t → place_at field p t.place ≡ o → option_and_then {T = Place} {U = FoundOf Line} (λ place. option_map (λ i. record { parts = record { row = line; reg = reg_view reg p t.reg; vvvv = vvvv_at line.prefix p; place = Some place; imm = i.0 }; tail = length bytes - length t.rest; rest = i.1 }) (imm_at line.imm t.rest)) o ≡ Some found → Operands line p bytes found
+place_found line reg field p bytes t None found is hb ht hp h = cc
+place_found line reg field p bytes t (Some place) found is hb ht hp h = imm_found line reg field p bytes t place (imm_at line.imm t.rest) found is hb ht hp refl h
 
-tail_found : (row : Row) (line : Line) (reg : RegField) (field : PlaceField) (p : Prefix) (bytes : List ℕ) (o : Option Tail) (found : Found) → line.tail ≡ Modrm reg field → IsBytes bytes → read_tail (x_of p) (b_of p) 1 bytes ≡ o → option_and_then {T = Tail} {U = Found} (λ t. option_and_then (λ place. option_map (λ i. record { parts = record { row = row; reg = reg_view reg p t.reg; vvvv = vvvv_at line.prefix p; place = Some place; imm = i.0 }; tail = length bytes - length t.rest; rest = i.1 }) (imm_at line.imm t.rest)) (place_at field p t.place)) o ≡ Some found → Operands row line p bytes found
-tail_found row line reg field p bytes None found is hb ht h = cc
-tail_found row line reg field p bytes (Some t) found is hb ht h = place_found row line reg field p bytes t (place_at field p t.place) found is hb ht refl h
+tail_found : (line : Line) (reg : RegField) (field : PlaceField) (p : Prefix) (bytes : List ℕ) (o : Option Tail) (found : FoundOf Line) → line.tail ≡ Modrm reg field → IsBytes bytes → read_tail (x_of p) (b_of p) 1 bytes ≡ o → option_and_then {T = Tail} {U = FoundOf Line} (λ t. option_and_then (λ place. option_map (λ i. record { parts = record { row = line; reg = reg_view reg p t.reg; vvvv = vvvv_at line.prefix p; place = Some place; imm = i.0 }; tail = length bytes - length t.rest; rest = i.1 }) (imm_at line.imm t.rest)) (place_at field p t.place)) o ≡ Some found → Operands line p bytes found
+tail_found line reg field p bytes None found is hb ht h = cc
+tail_found line reg field p bytes (Some t) found is hb ht h = place_found line reg field p bytes t (place_at field p t.place) found is hb ht refl h
 
-operands_found : (tail : TailField) (row : Row) (line : Line) (p : Prefix) (bytes : List ℕ) (found : Found) → line.tail ≡ tail → IsBytes bytes → operands_of tail row line p bytes ≡ Some found → Operands row line p bytes found
-operands_found NoTail row line p bytes found is hb h = bare_found row line p bytes (imm_at line.imm bytes) found is refl h
-operands_found (Modrm reg field) row line p bytes found is hb h = tail_found row line reg field p bytes (read_tail (x_of p) (b_of p) 1 bytes) found is hb refl h
-
-at_row : (row : Row) (p : Prefix) (bytes : List ℕ) (found : Found) → IsBytes bytes → operands_at row p bytes ≡ Some found → Operands row (line_of row) p bytes found
-unfolding operands_at
-at_row row p bytes found hb h = operands_found (line_of row).tail row (line_of row) p bytes found refl hb h
+operands_found : (tail : TailField) (line : Line) (p : Prefix) (bytes : List ℕ) (found : FoundOf Line) → line.tail ≡ tail → IsBytes bytes → operands_of tail line line p bytes ≡ Some found → Operands line p bytes found
+operands_found NoTail line p bytes found is hb h = bare_found line p bytes (imm_at line.imm bytes) found is refl h
+operands_found (Modrm reg field) line p bytes found is hb h = tail_found line reg field p bytes (read_tail (x_of p) (b_of p) 1 bytes) found is hb refl h
 
 -- an instruction that is found, and what is left, are at least so many bytes
-whole_by : (row : Row) (p : Prefix) (bytes left rest : List ℕ) (found : Found) → found.parts.row ≡ row → prefix_matches (line_of row) p ≡ true → Before (prefix_least p) bytes left → Before (length (opcode_bytes (line_of row).opcode)) left rest → Operands row (line_of row) p rest found → len_of found.parts + length found.rest ≤ length bytes
-whole_by row p bytes left rest found is matches pre opcode operands =
-    let prefix = prefix_counted (line_of row) (line_of row).prefix p found.parts refl matches operands.fits in
+whole_by : (line : Line) (p : Prefix) (bytes left rest : List ℕ) (found : FoundOf Line) → prefix_matches line p ≡ true → Before (prefix_least p) bytes left → Before (length (opcode_bytes line.opcode)) left rest → Operands line p rest found → line_len line found.parts + length found.rest ≤ length bytes
+whole_by line p bytes left rest found matches pre opcode operands =
+    let prefix = prefix_counted line line.prefix p found.parts refl matches operands.fits in
     let before = pre.0 in
     let size = operands.size in
     let code = opcode.0 in
-    let op : length (opcode_bytes (line_of row).opcode) ≡ opcode_len (line_of row).opcode = opcode_length (line_of row).opcode in
-    let len : len_of found.parts ≡ line_len (line_of row) found.parts = ap (λ (r : Row). line_len (line_of r) found.parts) is in
-    rw len (omega (arith, prefix, before, size, code, op))
+    let op : length (opcode_bytes line.opcode) ≡ opcode_len line.opcode = opcode_length line.opcode in
+    omega (arith, prefix, before, size, code, op)
 
-whole_found : (bytes : List ℕ) (found : Found) → IsBytes bytes → find bytes ≡ Some found → len_of found.parts + length found.rest ≤ length bytes
-whole_found bytes found hb h =
-    let s = steps bytes found h in
+whole_found : (line : Line) (bytes : List ℕ) (found : FoundOf Line) → IsBytes bytes → find_line line bytes ≡ Some found → line_len line found.parts + length found.rest ≤ length bytes
+whole_found line bytes found hb h =
+    let s = line_steps line bytes found h in
     let pre = prefix_length bytes s.prefix s.behind hb s.prefix_is in
-    let m = some_if (prefix_matches (line_of s.row) s.prefix) (opcode_at (line_of s.row) s.behind) s.rest (row_matches s.prefix s.behind all_rows s.row s.rest s.row_is) in
-    let b = behind (line_of s.row) s.behind s.rest m.1 in
-    let code = after_length (opcode_bytes (line_of s.row).opcode) s.behind s.rest pre.1 b.opcode in
-    let operands = at_row s.row s.prefix s.rest found code.1 s.operands_are in
-    whole_by s.row s.prefix bytes s.behind s.rest found operands.row_is m.0 pre code operands
+    let m = some_if (prefix_matches line s.prefix) (opcode_at line s.behind) s.rest s.matched in
+    let b = behind line s.behind s.rest m.1 in
+    let code = after_length (opcode_bytes line.opcode) s.behind s.rest pre.1 b.opcode in
+    let operands = operands_found line.tail line s.prefix s.rest found refl code.1 s.operands_are in
+    whole_by line s.prefix bytes s.behind s.rest found m.0 pre code operands
 
--- what is read as these parts has no fewer bytes than are counted
-pub reading_least : (parts : Parts) (bytes : List ℕ) (reading : Reading) → IsBytes bytes → read bytes ≡ Some reading → Same reading parts → len_of parts ≤ reading.length
-reading_least parts bytes reading hb h same =
-    let a = read_found bytes reading h in
-    let found = a.0 in
-    let least = whole_found bytes found hb a.1 in
-    let is : length bytes - length found.rest ≡ reading.length = ap (λ (z : Reading). z.length) a.2 in
-    let parts_are : found.parts ≡ parts = ap parts_of a.2 ∙ same in
-    let counted : len_of parts + length found.rest ≤ length bytes = rw parts_are at least in
-    omega (arith, counted, is)
+found_by : (bytes : List ℕ) (o : Option (FoundOf Line)) (r : LineReading) → option_map {T = FoundOf Line} {U = LineReading} (line_reading_of bytes) o ≡ Some r → (found : FoundOf Line) × (o ≡ Some found) × (line_reading_of bytes found ≡ r)
+found_by bytes None r h = cc
+found_by bytes (Some found) r h = (found, refl, same_Some _ _ h)
 
-reading_most : (bytes : List ℕ) (reading : Reading) → read bytes ≡ Some reading → reading.length ≤ length bytes
-reading_most bytes reading h =
-    let a = read_found bytes reading h in
-    let found = a.0 in
-    let is : length bytes - length found.rest ≡ reading.length = ap (λ (z : Reading). z.length) a.2 in
-    omega (arith, is)
+-- what a line reads has no fewer bytes than are counted
+line_least : (line : Line) (bytes : List ℕ) (r : LineReading) → IsBytes bytes → read_line line bytes ≡ Some r → (line_len line (line_parts r) ≤ r.length) × (r.length ≤ length bytes)
+unfolding read_line
+line_least line bytes r hb h =
+    let f = found_by bytes (find_line line bytes) r h in
+    let least = whole_found line bytes f.0 hb f.1 in
+    let is : length bytes - length f.0.rest ≡ r.length = ap (λ (z : LineReading). z.length) f.2 in
+    let parts_are : f.0.parts ≡ line_parts r = ap line_parts f.2 in
+    let counted : line_len line (line_parts r) + length f.0.rest ≤ length bytes = rw parts_are at least in
+    (omega (arith, counted, is), omega (arith, is))
+
+pub line_reading_least : (line : Line) (parts : PartsOf Line) (bytes : List ℕ) (r : LineReading) → IsBytes bytes → read_line line bytes ≡ Some r → line_parts r ≡ parts → line_len line parts ≤ r.length
+line_reading_least line parts bytes r hb h same = rw (← same) (line_least line bytes r hb h).0
 
 -- nor has the string
+pub line_string_least : (line : Line) (parts : PartsOf Line) (bytes : List ℕ) (r : LineReading) → IsBytes bytes → read_line line bytes ≡ Some r → line_parts r ≡ parts → line_len line parts ≤ length bytes
+line_string_least line parts bytes r hb h same =
+    let least = line_reading_least line parts bytes r hb h same in
+    let most = (line_least line bytes r hb h).1 in
+    omega (arith, least, most)
+
+-- the same of a row, by its line
+
+pub reading_least : (parts : Parts) (bytes : List ℕ) (reading : Reading) → IsBytes bytes → read bytes ≡ Some reading → Same reading parts → len_of parts ≤ reading.length
+reading_least parts bytes reading hb h same =
+    let line = line_of reading.row in
+    let alike : line_len line (line_parts (with_line reading)) ≡ len_of (parts_of reading) = len_alike reading.row line (line_parts (with_line reading)) in
+    let least : len_of (parts_of reading) ≤ reading.length = rw alike at (line_least line bytes (with_line reading) hb (reads_line bytes reading h)).0 in
+    subst (λ (p : Parts). len_of p ≤ reading.length) same least
+
 pub string_least : (parts : Parts) (bytes : List ℕ) (reading : Reading) → IsBytes bytes → read bytes ≡ Some reading → Same reading parts → len_of parts ≤ length bytes
 string_least parts bytes reading hb h same =
     let least = reading_least parts bytes reading hb h same in
-    let most = reading_most bytes reading h in
+    let most : reading.length ≤ length bytes = (line_least (line_of reading.row) bytes (with_line reading) hb (reads_line bytes reading h)).1 in
     omega (arith, least, most)

@@ -3,12 +3,27 @@
 ghost use Rattle.std.specs.Prelude.{◌≡◌, ◌≤◌, ℕ, ℤ, Option, Some, List, length, IfSome};
 ghost use Rattle.cax64_encoder.specs.Meant.{len};
 ghost use Rattle.cax64_machine_code.specs.Fields.{IsBytes};
-ghost use Rattle.cax64_machine_code.specs.Len.{len_of};
-ghost use Rattle.cax64_machine_code.specs.Reading.{Parts, read};
+ghost use Rattle.cax64_machine_code.specs.Len.{len_of, line_len};
+ghost use Rattle.cax64_machine_code.specs.ReadLine.{LineReading, read_line};
+ghost use Rattle.cax64_machine_code.specs.Reading.{Parts, PartsOf, read};
 ghost use Rattle.cax64_machine_code.specs.Sequence.{Same};
+ghost use Rattle.cax64_machine_code.specs.declared.line.Line.{Line};
 ghost use Rattle.cax64_machine_code.specs.declared.reading.Reading.{Reading};
+ghost use Rattle.cax64_shortest.specs.LineParts.{line_parts};
 
 use cax64_encoder::Instruction;
+
+/// `line_len` is the least number of bytes of an instruction of any line: no string of bytes that the line reads as these
+/// parts is shorter, and what it reads of it has no fewer. It does nothing: its clauses are the law.
+#[tactic(auto, using(crate::proofs::Whole::line_string_least, crate::proofs::Whole::line_reading_least))]
+pub fn line_len_is_least()
+    ensures no_shorter { (line : Line) (parts : PartsOf Line) (bytes : List ℕ) (reading : LineReading)
+        → IsBytes bytes → read_line line bytes ≡ Some reading → line_parts reading ≡ parts
+        → line_len line parts ≤ length bytes }
+    ensures no_shorter_reading { (line : Line) (parts : PartsOf Line) (bytes : List ℕ) (reading : LineReading)
+        → IsBytes bytes → read_line line bytes ≡ Some reading → line_parts reading ≡ parts
+        → line_len line parts ≤ reading.length }
+{}
 
 /// `len_of` is the least number of bytes of an instruction: no string of bytes that is read as these parts is shorter,
 /// and what is read of it has no fewer. It does nothing: its clauses are the law.

@@ -3,11 +3,14 @@
 ghost use Rattle.std.specs.Prelude.{◌≡◌, ◌≤◌, ◌+◌, ℕ, List, [], ◌∷◌, length, Some, None, pos, IsTrue, OnOk, OnErr, IsOk, IfSome};
 ghost use Rattle.cax64_encoder.specs.Instruction.{can_encode_in, Adds, Leaves};
 ghost use Rattle.cax64_machine_code.specs.Fields.{IsBytes};
+ghost use Rattle.cax64_machine_code.specs.ReadLine.{LineReading, read_line};
 ghost use Rattle.cax64_machine_code.specs.Reading.{read};
 ghost use Rattle.cax64_machine_code.specs.Sequence.{Same};
+ghost use Rattle.cax64_machine_code.specs.WorkedLine.{reg_and_rm};
+ghost use Rattle.cax64_shortest.specs.LineParts.{line_parts};
 ghost use Rattle.cax64_sink.specs.Room.{HasRoom};
 
-use crate::laws::{len_is_least, whole_instruction_is_shortest};
+use crate::laws::{len_is_least, line_len_is_least, whole_instruction_is_shortest};
 use cax64_encoder::Instruction;
 use cax64_machine_code::reading::{Place, Reading, RegView};
 use cax64_machine_code::row::Row;
@@ -28,6 +31,16 @@ pub fn least_lengths()
         → Same reading (record { row = Row.mulxq_rvm; reg = Some (RegView.Low 1); vvvv = Some 2; place = Some (Place.Reg (RegView.Low 8)); imm = None }) → 5 ≤ length bytes }
 {
     len_is_least();
+}
+
+/// The same by a line that no row has: `addq` of a register to a register, and of memory beside a base of number 13.
+pub fn least_lengths_by_a_line()
+    ensures register { (bytes : List ℕ) (reading : LineReading) → IsBytes bytes → read_line (reg_and_rm 0x03) bytes ≡ Some reading
+        → line_parts reading ≡ record { row = reg_and_rm 0x03; reg = Some (RegView.Low 0); vvvv = None; place = Some (Place.Reg (RegView.Low 7)); imm = None } → 3 ≤ length bytes }
+    ensures memory { (bytes : List ℕ) (reading : LineReading) → IsBytes bytes → read_line (reg_and_rm 0x03) bytes ≡ Some reading
+        → line_parts reading ≡ record { row = reg_and_rm 0x03; reg = Some (RegView.Low 0); vvvv = None; place = Some (Place.Mem (Some 13) None (pos 0)); imm = None } → 4 ≤ length bytes }
+{
+    line_len_is_least();
 }
 
 /// A shift of `%al` is read with a byte 40 before it, which it doesn't need, and without.

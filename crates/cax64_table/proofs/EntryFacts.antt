@@ -1,4 +1,4 @@
-use Rattle.std.proofs.Common.{◌≡◌, ℕ, ◌+◌, ◌*◌, ◌/◌, ◌%◌, ◌<◌, ◌^◌, arith, refl, Bool, true, false, take, w64}
+use Rattle.std.proofs.Common.{◌≡◌, ℕ, ◌+◌, ◌*◌, ◌/◌, ◌%◌, ◌<◌, ◌^◌, arith, refl, subst, Bool, true, false, take, w64}
 use Rattle.std.specs.Int.{to_le_bytes}
 use Rattle.std.specs.Prelude.{◌==◌, ◌&&◌, ◌||◌, nat_lt}
 use Rattle.std.proofs.lemmas.Bool.{and_parts, eqb-true, ltb-true}
@@ -8,6 +8,7 @@ use Rattle.cax64_machine_code.specs.declared.line.Line.{Line}
 use Rattle.cax64_machine_code.specs.declared.line.Opcode.{Opcode}
 use Rattle.cax64_machine_code.specs.declared.line.PrefixField.{PrefixField}
 use Rattle.cax64_machine_code.specs.declared.line.PrefixField.TheVariants.{LegacyField, VexField}
+use Rattle.cax64_machine_code.specs.Rows.{line_of}
 use Rattle.cax64_machine_code.specs.declared.row.Row.{Row}
 use Rattle.cax64_machine_code.specs.declared.row.Row.TheVariants.{lock_addb_mi}
 use Rattle.cax64_table.specs.Entry.{legacy_word_of, legacy_len_of, opcode_word, is_ready_tail, is_ready_prefix, is_ready_legacy, is_ready_opcode, is_ready, is_plain, first_byte, is_line, has_imm_len, is_entry, is_entry_of}
@@ -15,6 +16,7 @@ use Rattle.cax64_table.specs.Numbers.{digit_of, has_register, has_vvvv, has_8bit
 use Rattle.cax64_table.specs.EntryLine.{entry_line}
 use Rattle.cax64_table.specs.declared.entry.Entry.{Entry}
 use Rattle.cax64_table.specs.Packed.{bits_at, flag_at, unpacked, number_of, entry_of}
+use Rattle.cax64_table.proofs.Table.{entry_is}
 
 -- What is tested of an entry.
 
@@ -156,3 +158,14 @@ entry_is_line e = (facts_of e).encodes
 
 pub entry_imm_len : (e : Entry) → has_imm_len (imm_bytes (entry_line e).imm) ≡ true
 entry_imm_len e = (facts_of e).size
+
+-- and of that of a row
+
+row_facts : (row : Row) → EntryFacts (entry_of row) (line_of row)
+row_facts row = subst (EntryFacts (entry_of row)) (entry_is row) (entry_facts (entry_of row) (unpacked (entry_of row)) (rows_are row))
+
+pub row_is_line : (row : Row) → is_line (line_of row) ≡ true
+row_is_line row = (row_facts row).encodes
+
+pub row_imm_len : (row : Row) → has_imm_len (imm_bytes (line_of row).imm) ≡ true
+row_imm_len row = (row_facts row).size

@@ -1,9 +1,8 @@
-use Rattle.std.proofs.Common.{◌≡◌, ◌∙◌, ap, refl, length, w32, arith, List}
+use Rattle.std.proofs.Common.{◌≡◌, ◌∙◌, ap, length, w32, arith, List}
 use Rattle.std.proofs.lemmas.Int.{to_z-of_z}
 use Rattle.cax64_address.specs.Emitted.{target_actions}
 use Rattle.cax64_machine_code.specs.Len.{tail_len}
 use Rattle.cax64_machine_code.specs.Line.{imm_bytes, opcode_bytes}
-use Rattle.cax64_machine_code.specs.declared.row.Row.{Row}
 use Rattle.cax64_table.specs.EntryLine.{entry_line}
 use Rattle.cax64_table.proofs.EntryFacts.{entry_is_line, entry_imm_len}
 use Rattle.cax64_operand.specs.Immediate.{imm_size}
@@ -22,8 +21,7 @@ use Rattle.cax64_encoder.specs.Real.{trap_in}
 use Rattle.cax64_encoder.proofs.Fronts.{code_is, front_few, opcode_some}
 use Rattle.cax64_encoder.proofs.Lengths.{line_is}
 use Rattle.cax64_encoder.proofs.Numbers.{numbers_are, imm_put, imm_fit}
-use Rattle.cax64_encoder.proofs.Whole.{place_real, bare_is, vvvv_fit, reg_below, digit_or_register, imm_sized_as}
-use Rattle.cax64_encoder.proofs.WholeLine.{encodes, line_same}
+use Rattle.cax64_encoder.proofs.Whole.{encodes, line_same, place_real, bare_is, vvvv_fit, reg_below, digit_or_register, imm_sized_as}
 use Rattle.cax64_encoder.proofs.encoder.code_of_entry.Goals as goal
 
 pub prefix_of-prefix-requires-clause-vvvv_fits : goal.prefix_of-prefix-requires-clause-vvvv_fits
@@ -64,14 +62,14 @@ returns-clause-encodes c =
     line_same _ _ _ _ is (encodes plain.enc (entry_line c.args.entry) form c.args.displacement (puts c.prefix_of-prefix.result) (tail_actions c.tail_part-tail.result) (entry_is_line c.args.entry) c.requires.fits prefix (all_notices-puts c.prefix_of-prefix.result) tail c.tail_part-tail.ensures.bytes)
 
 pub returns-clause-length : goal.returns-clause-length
-returns-clause-length c = λ row.
+returns-clause-length c =
     let form = form_named (entry_line c.args.entry) c.args.form.now in
     let prefix : PrefixFor plain.enc (entry_line c.args.entry) (register_number form.reg) form.vvvv form.place (all_bytes (puts c.prefix_of-prefix.result)) = rw (all_bytes-puts c.prefix_of-prefix.result) (rw c.register_number-register.ensures.number at c.prefix_of-prefix.ensures) in
     let tail : length (all_bytes (tail_actions c.tail_part-tail.result)) ≡ tail_len (place_read plain.enc c.args.displacement (imm_size form.imm) form.place) = rw (c.imm_len-imm_len.ensures, imm_sized_as (entry_line c.args.entry) form c.requires.fits, to_z-of_z w32 c.args.displacement c.ranges.displacement) at c.tail_part-tail.ensures.length in
     let front = rw (c.append.ensures.bytes, c.opcode.ensures) at c.append-2.ensures.bytes in
     let imm : word_actions c.imm_len-imm_len.result c.args.form.now.imm ≡ optional_imm_actions form.imm = rw c.imm_len-imm_len.ensures (ap (word_actions (imm_bytes (entry_line c.args.entry).imm)) c.requires.imm ∙ imm_put (entry_line c.args.entry).imm form.imm (imm_fit (entry_line c.args.entry) form c.requires.fits)) in
     let is = code_is c.args.form.now.place.trap (trap_in form.place) c.prefix_of-prefix.result (opcode_bytes (entry_line c.args.entry).opcode) c.tail_part-tail.result.front c.append-2.result (target_actions c.tail_part-tail.result.target) (long_actions c.tail_part-tail.result.long) (word_actions c.imm_len-imm_len.result c.args.form.now.imm) (optional_imm_actions form.imm) imm (numbers_are c.args.form.now.place c.requires.numbered).trap front in
-    ap (λ (acts : List Action). length (all_bytes acts)) is ∙ (line_is plain.enc row (entry_line c.args.entry) form c.args.displacement (trap_in form.place) (puts c.prefix_of-prefix.result) (tail_actions c.tail_part-tail.result) (entry_is_line c.args.entry) c.requires.fits prefix.length tail)
+    ap (λ (acts : List Action). length (all_bytes acts)) is ∙ (line_is plain.enc (entry_line c.args.entry) form c.args.displacement (trap_in form.place) (puts c.prefix_of-prefix.result) (tail_actions c.tail_part-tail.result) (entry_is_line c.args.entry) c.requires.fits prefix.length tail)
 
 pub returns-clause-is : goal.returns-clause-is
 returns-clause-is c =
