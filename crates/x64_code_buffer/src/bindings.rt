@@ -21,9 +21,6 @@ type Places<A> = HashMap<u32, usize, BuildHasherDefault<FoldHasher>, A>;
 /// For how many labels a first block is, as `Vec::push` would ask for it.
 const FIRST_LABELS: usize = 4;
 
-/// Where there are fewer labels than this, room is made for three times as many more.
-const MANY_LABELS: usize = 64;
-
 /// The places of the labels that were given, by number, and of the constants that are bound.
 ///
 /// Constants are mostly numbered from 0 on, and bound in about this order. One with a key of the list, or near behind it, is
@@ -115,13 +112,10 @@ impl<A: Allocator> Bindings<A> {
         if self.labels.len() == u32::MAX as usize {
             return Err(SinkError::Full);
         }
-        let room = self.labels.capacity();
-        if room == 0 {
+        if self.labels.capacity() == 0 {
             self.labels
                 .reserve_exact(FIRST_LABELS)
                 .map_err(|_| SinkError::NoMemory)?;
-        } else if self.labels.len() == room {
-            take_larger_block(&mut self.labels);
         }
         let label = Label(self.labels.len() as u32);
         self.labels.push(None).map_err(|_| SinkError::NoMemory)?;
@@ -222,19 +216,6 @@ impl<A: Allocator + Clone> Bindings<A> {
             return Ok(());
         }
         self.listed.resize(key + 1, None)
-    }
-}
-
-/// Makes room for three times as many labels as there are, where they are few. Where that is refused, there is as much room as
-/// before.
-#[inline(never)]
-fn take_larger_block<A: Allocator>(labels: &mut Vec<Option<usize>, A>)
-    ensures items { labels.new.items ≡ labels.old.items }
-    ensures capacity { vec_capacity labels.old ≤ vec_capacity labels.new }
-{
-    let count = labels.len();
-    if count < MANY_LABELS {
-        let _ = labels.reserve_exact(3 * count);
     }
 }
 

@@ -165,8 +165,8 @@ impl<A: Allocator> CodeBuffer<A> {
     /// Puts an instruction, and tells of its trap or target.
     ///
     /// It makes room for thirteen bytes and a notice first, so a refusal leaves all as it was but the rooms. Where no byte was
-    /// put yet it asks for 64, and later for four times as many bytes as there are, below a kilobyte, or twice as many; where
-    /// these are refused it does with thirteen. Takes constant time, over many instructions.
+    /// put yet it asks for 64, and later for twice its room; where these are refused it does with thirteen. Takes constant
+    /// time, over many instructions.
     pub fn push<I: Instruction>(&mut self, inst: &I) -> Result<(), SinkError>
         requires { IsTrue (can_encode_in (buffer_state self.old) (I.meant inst.now)) }
         ensures adds { OnOk result (Adds (I.meant inst.now) (buffer_state self.old) (buffer_state self.new)) }

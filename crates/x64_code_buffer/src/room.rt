@@ -12,35 +12,8 @@ use std::alloc::Allocator;
 /// For how many bytes the first instruction makes room: a stub or a small function has about as many.
 const FIRST_ROOM: usize = 64;
 
-/// Where there are fewer bytes or notices than these, room is made for three times as many more: so a function of a usual
-/// length grows half as often.
-const MANY_BYTES: usize = 1024;
-
-const MANY_NOTICES: usize = 128;
-
-/// Makes room for more than one instruction, where there is memory for it: at the first for a notice, and then for the
-/// first bytes, and later for three times as many bytes or notices as there are. Where that is refused, there may still be
-/// memory for a single instruction.
-fn take_larger_blocks<A: Allocator>(recorder: &mut Recorder<A>, is_fresh: &mut bool)
-    ensures { AsBefore (recorder_state recorder.old) (recorder_state recorder.new) }
-{
-    if *is_fresh {
-        *is_fresh = false;
-        recorder.reserve_first(FIRST_ROOM);
-        return;
-    }
-    let bytes = recorder.bytes().len();
-    if bytes < MANY_BYTES && !recorder.has_room(13, 0) {
-        let _ = recorder.reserve(3 * bytes, 0);
-        return;
-    }
-    let notices = recorder.notices().len();
-    if notices < MANY_NOTICES && !recorder.has_room(0, 1) {
-        let _ = recorder.reserve(0, 3 * notices);
-    }
-}
-
-/// Makes room for an instruction where there is none: for more than one, if there is memory for it.
+/// Makes room for an instruction where there is none: at the first one for a notice and then for a stub's bytes, if there is
+/// memory for these, and later as `Vec` grows.
 #[inline(never)]
 fn grow<A: Allocator>(recorder: &mut Recorder<A>, is_fresh: &mut bool) -> Result<(), SinkError>
     ensures as_before { AsBefore (recorder_state recorder.old) (recorder_state recorder.new) }
@@ -49,7 +22,10 @@ fn grow<A: Allocator>(recorder: &mut Recorder<A>, is_fresh: &mut bool) -> Result
     ensures succeeds { HasRoom (recorder_state recorder.old).byte_room 13 → HasRoom (recorder_state recorder.old).notice_room 1 → IsOk result }
     ensures no_memory { IfErr result (λ e. e ≡ SinkError.NoMemory) }
 {
-    take_larger_blocks(recorder, is_fresh);
+    if *is_fresh {
+        *is_fresh = false;
+        recorder.reserve_first(FIRST_ROOM);
+    }
     recorder.reserve_ahead(13, 1)
 }
 
