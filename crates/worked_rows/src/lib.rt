@@ -19,6 +19,8 @@ mod families;
 #[cfg(test)]
 mod fixed_sinks;
 #[cfg(test)]
+mod lines;
+#[cfg(test)]
 mod messages;
 #[cfg(test)]
 mod patched;

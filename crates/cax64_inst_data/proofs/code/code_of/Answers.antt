@@ -14,6 +14,7 @@ use Rattle.cax64_sink.proofs.PutRuns.{all_bytes-puts, all_notices-puts}
 use Rattle.cax64_table.specs.Numbers.{has_register, has_vvvv}
 use Rattle.cax64_encoder.specs.Code.{tail_actions}
 use Rattle.cax64_encoder.specs.Encodes.{TailPartOf}
+use Rattle.cax64_encoder.specs.EncodesLine.{line_form_parts}
 use Rattle.cax64_encoder.specs.Form.{tail_fits}
 use Rattle.cax64_encoder.specs.ImmActions.{optional_imm_actions}
 use Rattle.cax64_encoder.specs.Numbered.{plain, form_named}
@@ -21,10 +22,10 @@ use Rattle.cax64_encoder.specs.Place.{place_read}
 use Rattle.cax64_encoder.specs.Prefix.{reg_number, register_number, PrefixFor}
 use Rattle.cax64_encoder.specs.Real.{trap_in}
 use Rattle.cax64_encoder.proofs.Fronts.{code_is, encodes_same, front_few, opcode_some}
-use Rattle.cax64_encoder.proofs.Lengths.{length_is}
+use Rattle.cax64_encoder.proofs.Lengths.{line_is, len_alike}
 use Rattle.cax64_encoder.proofs.Numbers.{numbers_are, numbers_below, imm_put, imm_fit}
-use Rattle.cax64_encoder.proofs.Table.{row_imm_len, row_is_line}
-use Rattle.cax64_encoder.proofs.Whole.{bare_is, vvvv_fit, digit_or_register, imm_sized_as, line_encodes}
+use Rattle.cax64_table.proofs.EntryFacts.{row_imm_len, row_is_line}
+use Rattle.cax64_encoder.proofs.Whole.{bare_is, vvvv_fit, digit_or_register, imm_sized_as, encodes, row_encodes}
 use Rattle.cax64_inst_data.specs.Code.{placed_form}
 use Rattle.cax64_inst_data.specs.Placed.{placed}
 use Rattle.cax64_inst_data.proofs.CodeParts.{head_length, number_when, real_when, real_parts, index_not_four, bare_reg, low_reg}
@@ -92,7 +93,7 @@ returns-clause-encodes c =
     let front = rw c.head.ensures.is at c.append.ensures.bytes in
     let imm : word_actions c.imm_len-imm_len.result c.args.imm ≡ optional_imm_actions form.imm = rw c.imm_len-imm_len.ensures (ap (word_actions (imm_bytes line.imm)) c.requires.imm ∙ imm_put line.imm form.imm (imm_fit line form c.requires.fits)) in
     let is = code_is c.args.place.now.trap (trap_in form.place) c.head.ensures.pre (opcode_bytes line.opcode) c.tail_part-tail.result.front c.append.result (target_actions c.tail_part-tail.result.target) (long_actions c.tail_part-tail.result.long) (word_actions c.imm_len-imm_len.result c.args.imm) (optional_imm_actions form.imm) imm (numbers_are numbers.place (is_numbered c.args.place.now)).trap front in
-    encodes_same _ _ _ _ is (line_encodes plain.enc c.args.row line form c.args.displacement (puts c.head.ensures.pre) (tail_actions c.tail_part-tail.result) refl (row_is_line c.args.row) c.requires.fits prefix (all_notices-puts c.head.ensures.pre) tail part.bytes)
+    encodes_same _ _ _ _ is (row_encodes c.args.row (line_form_parts plain.enc line c.args.displacement form) _ _ refl (encodes plain.enc line form c.args.displacement (puts c.head.ensures.pre) (tail_actions c.tail_part-tail.result) (row_is_line c.args.row) c.requires.fits prefix (all_notices-puts c.head.ensures.pre) tail part.bytes))
 
 pub returns-clause-length : goal.returns-clause-length
 returns-clause-length c =
@@ -107,7 +108,7 @@ returns-clause-length c =
     let front = rw c.head.ensures.is at c.append.ensures.bytes in
     let imm : word_actions c.imm_len-imm_len.result c.args.imm ≡ optional_imm_actions form.imm = rw c.imm_len-imm_len.ensures (ap (word_actions (imm_bytes line.imm)) c.requires.imm ∙ imm_put line.imm form.imm (imm_fit line form c.requires.fits)) in
     let is = code_is c.args.place.now.trap (trap_in form.place) c.head.ensures.pre (opcode_bytes line.opcode) c.tail_part-tail.result.front c.append.result (target_actions c.tail_part-tail.result.target) (long_actions c.tail_part-tail.result.long) (word_actions c.imm_len-imm_len.result c.args.imm) (optional_imm_actions form.imm) imm (numbers_are numbers.place (is_numbered c.args.place.now)).trap front in
-    ap (λ (acts : List Action). length (all_bytes acts)) is ∙ (length_is plain.enc c.args.row line form c.args.displacement (trap_in form.place) (puts c.head.ensures.pre) (tail_actions c.tail_part-tail.result) refl (row_is_line c.args.row) c.requires.fits prefix.length tail)
+    ap (λ (acts : List Action). length (all_bytes acts)) is ∙ line_is plain.enc line form c.args.displacement (trap_in form.place) (puts c.head.ensures.pre) (tail_actions c.tail_part-tail.result) (row_is_line c.args.row) c.requires.fits prefix.length tail ∙ len_alike c.args.row line (line_form_parts plain.enc line c.args.displacement form)
 
 pub returns-clause-is : goal.returns-clause-is
 returns-clause-is c =

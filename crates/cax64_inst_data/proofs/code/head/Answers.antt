@@ -1,6 +1,6 @@
 use Rattle.std.proofs.Common.{◌∙◌, refl, sym}
 use Rattle.cax64_machine_code.specs.Rows.{line_of}
-use Rattle.cax64_encoder.proofs.Table.{row_is_line}
+use Rattle.cax64_table.proofs.EntryFacts.{row_is_line}
 use Rattle.cax64_inst_data.proofs.HeadParts.{legacy_is_head}
 use Rattle.cax64_inst_data.proofs.code.head.Goals as goal
 

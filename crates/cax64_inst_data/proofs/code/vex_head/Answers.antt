@@ -11,7 +11,7 @@ use Rattle.cax64_encoder.specs.declared.number.Number.TheVariants.{Settled}
 use Rattle.cax64_encoder.proofs.Lines.{line_facts, w_fits}
 use Rattle.cax64_encoder.proofs.Numbers.{numbers_are}
 use Rattle.cax64_encoder.proofs.PrefixParts.{VexIs, vex_is, vex_for}
-use Rattle.cax64_encoder.proofs.Table.{row_is_line}
+use Rattle.cax64_table.proofs.EntryFacts.{row_is_line}
 use Rattle.cax64_inst_data.specs.Placed.{placed}
 use Rattle.cax64_inst_data.specs.When.{when}
 use Rattle.cax64_inst_data.proofs.HeadParts.{is_numbered}
