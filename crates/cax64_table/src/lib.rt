@@ -2,9 +2,6 @@
 #![tactic(auto)]
 
 pub mod cursor;
-pub mod any_table;
-pub mod core_lines;
-pub mod op;
 pub mod entry;
 mod index;
 pub mod laws;
