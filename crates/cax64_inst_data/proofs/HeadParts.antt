@@ -10,7 +10,7 @@ use Rattle.cax64_prefix.specs.Rex.{is_special_if_8bit, rex_bytes}
 use Rattle.cax64_prefix.proofs.Prefixes.{legacy_bytes}
 use Rattle.cax64_table.specs.Numbers.{has_8bit, is_vex}
 use Rattle.cax64_encoder.specs.Form.{is_no_place, vvvv_fits}
-use Rattle.cax64_encoder.specs.Line.{has_tail, is_line}
+use Rattle.cax64_table.specs.Entry.{has_tail, is_line}
 use Rattle.cax64_encoder.specs.Numbered.{IsNumbered, plain, numbered_place, place_is_real, place_named}
 use Rattle.cax64_encoder.specs.Prefix.{rex_stands}
 use Rattle.cax64_encoder.specs.declared.number.Number.{Number}

@@ -4,7 +4,7 @@ ghost use Rattle.std.specs.Prelude.{◌≡◌, ◌<◌, ◌||◌, ◌&&◌, ◌=
 ghost use Rattle.cax64_encoder.specs.Code.{IsCode, code_actions};
 ghost use Rattle.cax64_encoder.specs.Encodes.{EncodesParts, form_parts};
 ghost use Rattle.cax64_encoder.specs.Form.{fits, is_no_place, vvvv_fits};
-ghost use Rattle.cax64_encoder.specs.Line.{has_tail};
+ghost use Rattle.cax64_table.specs.Entry.{has_tail};
 ghost use Rattle.cax64_encoder.specs.Numbered.{HasImmWord, plain, form_is_real, form_named, place_is_real, place_named};
 ghost use Rattle.cax64_encoder.specs.Place.{memory_in};
 ghost use Rattle.cax64_machine_code.specs.Len.{len_of};
