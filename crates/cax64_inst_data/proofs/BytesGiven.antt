@@ -1,4 +1,4 @@
-use Rattle.std.proofs.Common.{◌≡◌, ℕ, ◌+◌, ◌-◌, ◌*◌, ◌<◌, ◌^◌, arith, refl, ap, sym, subst, ◌≤◌, Bool, true, false, Option, Some, None, List, ℤ, pos, negsuc, ◌≤ℤ◌, length}
+use Rattle.std.proofs.Common.{◌≡◌, ◌∙◌, ℕ, ◌+◌, ◌-◌, ◌*◌, ◌<◌, ◌^◌, arith, refl, ap, sym, subst, ◌≤◌, Bool, true, false, Option, Some, None, List, ℤ, pos, negsuc, ◌≤ℤ◌, length}
 use Rattle.std.specs.Prelude.{◌-ℤ◌, ◌<ℤ◌, ◌==◌, ◌&&◌, ◌||◌, not, nat_le, nat_lt, if◌then◌else◌, is_none, is_some, option_and_then, option_map}
 use Rattle.std.proofs.lemmas.Bool.Decides.{nat_tests}
 use Rattle.std.proofs.lemmas.Int.{ints}
@@ -35,13 +35,15 @@ use Rattle.cax64_operand.specs.Immediate.{signed_below}
 use Rattle.cax64_operand.specs.declared.nop.Nop.{Nop}
 use Rattle.cax64_operand.specs.declared.nop.Nop.TheVariants.{One, Two, Three, Four, Five, Six, Seven, Eight, Nine}
 use Rattle.cax64_table.specs.Numbers.{has_register, has_vvvv}
+use Rattle.cax64_inst_data.specs.Lengths.{has_length}
 use Rattle.cax64_inst_data.specs.OfReading.{imm_given, is_data, is_high_byte, is_left_out, is_low, is_other_nop, lacks_base, nop_at, nop_for, number_given, operand_given, operands_given, place_given, place_is_high_byte, register_given}
 use Rattle.cax64_inst_data.specs.ReadOperands.{has_size}
 use Rattle.cax64_inst_data.specs.Refusal.{is_nop_row, unsigned_below}
 use Rattle.cax64_inst_data.proofs.PrefixBytes.{Prefixed, after_kept, prefixed}
 use Rattle.cax64_inst_data.proofs.ReadAgain.{row_has_size}
+use Rattle.cax64_inst_data.proofs.ReadLengths.{lengths_hold}
 use Rattle.cax64_inst_data.proofs.ReadNops.{nop_place_is}
-use Rattle.cax64_inst_data.proofs.TailBytes.{Given, low_below, tail_given}
+use Rattle.cax64_inst_data.proofs.TailBytes.{Given, below_signed, low_below, tail_given}
 use Rattle.cax64_inst_data.proofs.TailBytes as tails
 
 -- What bytes are read as is data but for a few reasons.
@@ -125,17 +127,6 @@ one_of_three size h P a b c = by_one (size == 1) (size == 2) refl refl
 
 unsigned : (size n : ℕ) → ((size == 1) || ((size == 2) || (size == 4))) ≡ true → n < 256 ^ size → unsigned_below (2 ^ (8 * size)) (pos n) ≡ true
 unsigned size n h = one_of_three size h (λ (s : ℕ). n < 256 ^ s → unsigned_below (2 ^ (8 * s)) (pos n) ≡ true) (λ k. grind (arith, nat_tests, k)) (λ k. grind (arith, nat_tests, k)) (λ k. grind (arith, nat_tests, k))
-
-below_signed : (half n : ℕ) → n < half + half → signed_below half (if nat_lt n half then pos n else (pos n -ℤ pos (half + half))) ≡ true
-below_signed half n h = by_test (nat_lt n half) refl
-  where
-    by_test : (t : Bool) → nat_lt n half ≡ t → signed_below half (if t then pos n else (pos n -ℤ pos (half + half))) ≡ true
-    by_test true e = e
-    by_test false e = negative (pos n -ℤ pos (half + half)) (omega (arith, ints, h)) (let k : half ≤ n = grind (arith, nat_tests, e) in omega (arith, ints, k, h))
-      where
-        negative : (v : ℤ) → v <ℤ pos 0 → (pos 0 -ℤ pos half) ≤ℤ v → signed_below half v ≡ true
-        negative (pos m) a b = absurd (omega (arith, ints, a))
-        negative (negsuc m) a b = let k : m < half = omega (arith, ints, b) in grind (arith, nat_tests, k)
 
 signed : (size n : ℕ) → ((size == 1) || (size == 4)) ≡ true → n < 256 ^ size → signed_below (2 ^ (8 * size - 1)) (signed_of size n) ≡ true
 signed size n h = one_of_two size h (λ (s : ℕ). n < 256 ^ s → signed_below (2 ^ (8 * s - 1)) (signed_of s n) ≡ true) (λ k. below_signed 128 n k) (λ k. below_signed 2147483648 n k)
@@ -294,6 +285,9 @@ by_row : (b : Bool) (r : Reading) → Facts (line_of r.row) (parts_of r) → is_
 by_row true r f e = nop_given r f e
 by_row false r f e = given_is r f e
 
+with_length : (r : Reading) → has_length (line_of r.row) r ≡ true → is_data r ≡ (if is_nop_row r.row then is_some (nop_for r) else operands_given (line_of r.row) r)
+with_length r e = rw e refl
+
 -- a reading that bytes have is data unless it is left out
 pub bytes_are_data : (bytes : List ℕ) (r : Reading) → IsBytes bytes → read bytes ≡ Some r → is_data r ≡ not (is_left_out r)
-bytes_are_data bytes r hb h = by_row (is_nop_row r.row) r (read_facts bytes r hb h) refl
+bytes_are_data bytes r hb h = with_length r (lengths_hold bytes r hb h) ∙ by_row (is_nop_row r.row) r (read_facts bytes r hb h) refl

@@ -12,7 +12,7 @@ use Rattle.cax64_operand.specs.Signature.{HasSignature, signature_of}
 use Rattle.cax64_operand.specs.declared.nop.Nop.{Nop}
 use Rattle.cax64_operand.specs.declared.operand.Operands.{Operands}
 use Rattle.cax64_operand.specs.declared.instruction.Numbers.{Numbers}
-use Rattle.cax64_operand.proofs.Taken.{registers_in}
+use Rattle.cax64_inst_data.specs.Takes.{registers_in}
 use Rattle.cax64_sink.specs.Call.{Action}
 use Rattle.cax64_sink.specs.Run.{all_bytes}
 use Rattle.cax64_table.specs.Numbers.{has_register, has_vvvv}

@@ -14,7 +14,7 @@ use Rattle.cax64_operand.specs.OperandList.{list_of}
 use Rattle.cax64_operand.specs.declared.instruction.Numbers.{Numbers}
 use Rattle.cax64_operand.specs.declared.nop.Nop.{Nop}
 use Rattle.cax64_operand.specs.declared.operand.Operand.{Operand}
-use Rattle.cax64_operand.proofs.Taken.{registers_in, rest_in, imm_field_in}
+use Rattle.cax64_inst_data.specs.Takes.{registers_in, rest_in, imm_field_in}
 use Rattle.cax64_operand.specs.Signature.{signature_of}
 use Rattle.cax64_operand.specs.declared.kind.OperandKind.{OperandKind}
 use Rattle.cax64_inst_data.specs.Data.{kept_of, operands_by, data_operands, row_by, data_row}

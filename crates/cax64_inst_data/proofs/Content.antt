@@ -8,7 +8,8 @@ use Rattle.cax64_machine_code.specs.declared.row.Row.TheVariants.{lock_addb_mi}
 use Rattle.cax64_operand.specs.OperandList.{list_of, nop_of}
 use Rattle.cax64_operand.specs.declared.instruction.Numbers.{Numbers}
 use Rattle.cax64_operand.specs.declared.operand.Operand.{Operand}
-use Rattle.cax64_operand.proofs.Taken.{registers_in, rest_in, imm_field_in, is_few}
+use Rattle.cax64_inst_data.specs.Takes.{registers_in, rest_in, imm_field_in}
+use Rattle.cax64_operand.proofs.Taken.{is_few}
 use Rattle.cax64_operand.specs.Kind.{kinds_of}
 use Rattle.cax64_operand.specs.Signature.{signature_of}
 use Rattle.cax64_operand.specs.declared.kind.OperandKind.{OperandKind}

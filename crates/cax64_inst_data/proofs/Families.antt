@@ -8,7 +8,7 @@ use Rattle.cax64_address.specs.declared.operand.GprMem.TheVariants as gpr_mem
 use Rattle.cax64_address.specs.declared.operand.XmmMem.{XmmMem}
 use Rattle.cax64_address.specs.declared.operand.XmmMem.TheVariants as xmm_mem
 use Rattle.cax64_machine_code.specs.declared.row.Row.{Row}
-use Rattle.cax64_operand.proofs.Taken.{registers_in}
+use Rattle.cax64_inst_data.specs.Takes.{registers_in}
 use Rattle.cax64_operand.specs.Family.{Family, Numbering}
 use Rattle.cax64_operand.specs.Kind.{is_in_range, kind_of, kinds_of, imms_in_range}
 use Rattle.cax64_operand.specs.NopRow.{nop_row}

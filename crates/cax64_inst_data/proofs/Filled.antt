@@ -23,7 +23,7 @@ use Rattle.cax64_operand.specs.declared.kind.ImmediateKind.{ImmediateKind}
 use Rattle.cax64_operand.specs.declared.kind.ImmediateKind.TheVariants.{Imm8, Imm16, Imm32, Simm8, Simm32, Distance8, Distance32, Predicate, VexPredicate}
 use Rattle.cax64_operand.specs.declared.kind.OperandKind.{OperandKind}
 use Rattle.cax64_operand.specs.declared.kind.OperandKind.TheVariants.{ReadGpr, ReadWriteGpr, WriteGpr, WriteTwoGprs, FixedReadGpr, FixedReadWriteGpr, ReadXmm, ReadWriteXmm, WriteXmm, ReadAmode, ReadGprMem, ReadWriteGprMem, ReadXmmMem, Imm}
-use Rattle.cax64_operand.proofs.Taken.{registers_in, rest_in, field_of, imm_field_in}
+use Rattle.cax64_inst_data.specs.Takes.{registers_in, rest_in, field_of, imm_field_in}
 use Rattle.cax64_inst_data.specs.Operands.{Kept, filled, head, tail, next, next_fixed, imm_by, amode_by, amode_of, is_register}
 use Rattle.cax64_inst_data.specs.Fits.{imm_fits}
 use Rattle.cax64_inst_data.specs.declared.place.DataPlace.{DataPlace}

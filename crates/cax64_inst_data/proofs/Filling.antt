@@ -1,7 +1,7 @@
 use Rattle.std.proofs.Common.{◌≡◌, ℕ, ◌+◌, ◌≤◌, refl, ◌∙◌, ap, sym, arith, Bool, true, false, Result, Ok, Err, List, ◌∷◌, ◌++◌, length, take, drop}
 use Rattle.std.specs.Prelude.{OnOk}
 use Rattle.std.proofs.lemmas.List.{drop-drop}
-use Rattle.cax64_operand.proofs.Taken.{registers_in, rest_in, imm_field_in}
+use Rattle.cax64_inst_data.specs.Takes.{registers_in, rest_in, imm_field_in}
 use Rattle.cax64_operand.specs.declared.instruction.Numbers.{Numbers}
 use Rattle.cax64_operand.specs.declared.operand.Operand.{Operand}
 use Rattle.cax64_operand.specs.declared.kind.OperandKind.{OperandKind}

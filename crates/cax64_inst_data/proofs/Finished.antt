@@ -2,12 +2,14 @@ use Rattle.std.proofs.Common.{◌≡◌, ℕ, zero, suc, refl, ◌∙◌, ap, Bo
 use Rattle.std.specs.Prelude.{◌&&◌, ◌==◌}
 use Rattle.cax64_machine_code.specs.declared.line.ImmField.TheVariants as field
 use Rattle.cax64_machine_code.specs.declared.row.Row.{Row}
-use Rattle.cax64_machine_code.specs.declared.row.Row.TheVariants.{nop_1b}
-use Rattle.cax64_operand.proofs.Taken.{registers_in, rest_in, imm_field_in}
+use Rattle.cax64_inst_data.specs.Takes.{registers_in, rest_in, imm_field_in}
 use Rattle.cax64_operand.specs.OperandList.{list_of}
+use Rattle.cax64_operand.specs.NopRow.{nop_row}
 use Rattle.cax64_operand.specs.Shape.{nothing}
 use Rattle.cax64_operand.specs.Signature.{signature_of}
 use Rattle.cax64_operand.specs.declared.instruction.Numbers.{Numbers}
+use Rattle.cax64_operand.specs.declared.nop.Nop.{Nop}
+use Rattle.cax64_operand.specs.declared.nop.Nop.TheVariants.{One, Two, Three, Four, Five, Six, Seven, Eight, Nine}
 use Rattle.cax64_operand.specs.declared.operand.Operand.{Operand}
 use Rattle.cax64_operand.specs.declared.kind.OperandKind.{OperandKind}
 use Rattle.cax64_operand.specs.declared.kind.OperandKind.TheVariants.{ReadGpr, ReadWriteGpr, WriteGpr, WriteTwoGprs, FixedReadGpr, FixedReadWriteGpr, ReadXmm, ReadWriteXmm, WriteXmm, ReadAmode, ReadGprMem, ReadWriteGprMem, ReadXmmMem, Imm}
@@ -105,7 +107,15 @@ made_given row kinds p rs fs word operands is two h =
     let g : all_given (filled (signature_of row) p (record { registers = rs; fixed = fs; imm = word })) ≡ operands = rw is at h in
     rw (two_of rs two) (ap (λ (x : List (Operand Numbers ℕ ℕ ℕ ℕ ℕ ℕ)). all_given x) (filled_back row p (record { registers = rs; fixed = fs; imm = word })) ∙ g)
 
--- the row that data of a no-operation keeps fixes no register
-pub nop_expects : is_empty (expected_of (signature_of nop_1b)) ≡ true
+-- the row of a no-operation fixes no register
+pub nop_expects : (nop : Nop) → is_empty (expected_of (signature_of (nop_row nop))) ≡ true
 unfolding signature_of
-nop_expects = refl
+nop_expects One = refl
+nop_expects Two = refl
+nop_expects Three = refl
+nop_expects Four = refl
+nop_expects Five = refl
+nop_expects Six = refl
+nop_expects Seven = refl
+nop_expects Eight = refl
+nop_expects Nine = refl

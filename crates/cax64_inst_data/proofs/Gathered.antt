@@ -10,7 +10,7 @@ use Rattle.cax64_address.specs.declared.operand.GprMem.TheVariants as gpr_mem
 use Rattle.cax64_address.specs.declared.operand.XmmMem.{XmmMem}
 use Rattle.cax64_address.specs.declared.operand.XmmMem.TheVariants as xmm_mem
 use Rattle.cax64_encoder.specs.ImmActions.{imm_word}
-use Rattle.cax64_operand.proofs.Taken.{field_of, imm_field_in, registers_in, rest_in}
+use Rattle.cax64_inst_data.specs.Takes.{field_of, imm_field_in, registers_in, rest_in}
 use Rattle.cax64_operand.specs.Immediate.{imm_of, imm_in_range, signed_below}
 use Rattle.cax64_operand.specs.Kind.{kind_of_imm, kinds_of, imms_in_range}
 use Rattle.cax64_operand.specs.declared.immediate.Immediate.{Immediate}

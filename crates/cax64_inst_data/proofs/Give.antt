@@ -1,5 +1,5 @@
 use Rattle.std.proofs.Common.{◌≡◌, ℕ, ◌≤◌, refl, ap, arith, true, false, List, [], ◌∷◌, length, slice_set}
-use Rattle.cax64_operand.proofs.Taken.{imm_field_in}
+use Rattle.cax64_inst_data.specs.Takes.{imm_field_in}
 use Rattle.cax64_operand.specs.declared.kind.OperandKind.{OperandKind}
 use Rattle.cax64_operand.specs.declared.kind.OperandKind.TheVariants.{ReadGpr, ReadWriteGpr, WriteGpr, WriteTwoGprs, FixedReadGpr, FixedReadWriteGpr, ReadXmm, ReadWriteXmm, WriteXmm, ReadAmode, ReadGprMem, ReadWriteGprMem, ReadXmmMem, Imm}
 use Rattle.cax64_inst_data.specs.Given.{given_of}

@@ -21,6 +21,10 @@ pub mod ReadNops
 pub mod OfClass
 pub mod PrefixBytes
 pub mod TailBytes
+pub mod ReadLengths
+pub mod SomeParts
+pub mod SomeBytes
+pub mod ReadPlain
 pub mod BytesGiven
 pub mod HeadTable
 pub mod TailTable
@@ -28,3 +32,5 @@ pub mod Tailed
 pub mod HeadParts
 pub mod CodeParts
 pub mod Coded
+pub mod Equality
+pub mod Exact

@@ -6,7 +6,7 @@ use Rattle.cax64_address.specs.declared.amode.Amode.{Amode}
 use Rattle.cax64_address.specs.declared.operand.GprMem.TheVariants as gpr_mem
 use Rattle.cax64_address.specs.declared.operand.XmmMem.TheVariants as xmm_mem
 use Rattle.cax64_machine_code.specs.declared.row.Row.{Row}
-use Rattle.cax64_operand.proofs.Taken.{registers_in, rest_in, field_of, imm_field_in}
+use Rattle.cax64_inst_data.specs.Takes.{registers_in, rest_in, field_of, imm_field_in}
 use Rattle.cax64_operand.specs.Immediate.{imm_of, imm_value}
 use Rattle.cax64_operand.specs.Signature.{signature_of}
 use Rattle.cax64_operand.specs.declared.instruction.Numbers.{Numbers}

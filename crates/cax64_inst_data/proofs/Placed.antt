@@ -7,7 +7,8 @@ use Rattle.cax64_address.specs.declared.amode.Scale.TheVariants.{One, Two, Four,
 use Rattle.cax64_encoder.specs.Numbered.{plain, numbered_place}
 use Rattle.cax64_sink.specs.declared.TrapCode.{TrapCode}
 use Rattle.cax64_inst_data.specs.Form.{operand_by, place_operand}
-use Rattle.cax64_inst_data.specs.Place.{is_one, is_zero, nothing_more, is_plain}
+use Rattle.cax64_inst_data.specs.Lengths.{is_zero}
+use Rattle.cax64_inst_data.specs.Place.{is_one, nothing_more, is_plain}
 use Rattle.cax64_inst_data.specs.Placed.{placed_by, placed}
 use Rattle.cax64_inst_data.specs.declared.place.DataPlace.{DataPlace}
 use Rattle.cax64_inst_data.specs.declared.place.PlaceKind.{PlaceKind}

@@ -1,6 +1,8 @@
 use Rattle.std.proofs.Common.{◌≡◌, ℕ, zero, suc, refl, ◌∙◌, ap, sym, Bool, true, false, Option, Some, None, List, [], ◌∷◌, ℤ, length, drop}
-use Rattle.std.specs.Prelude.{◌==◌, if◌then◌else◌, nat_le, option_map}
+use Rattle.std.specs.Prelude.{◌==◌, ◌&&◌, not, if◌then◌else◌, is_none, nat_le, option_map}
+use Rattle.std.proofs.lemmas.Bool.{and_parts}
 use Rattle.cax64_address.specs.declared.amode.Amode.{Amode}
+use Rattle.cax64_address.specs.declared.amode.Amode.TheVariants.{ImmReg, ImmRegRegShift, RipRelative}
 use Rattle.cax64_address.specs.declared.operand.GprMem.{GprMem}
 use Rattle.cax64_address.specs.declared.operand.GprMem.TheVariants as gpr_mem
 use Rattle.cax64_address.specs.declared.operand.XmmMem.TheVariants as xmm_mem
@@ -8,7 +10,7 @@ use Rattle.cax64_encoder.specs.ImmActions.{imm_named}
 use Rattle.cax64_encoder.specs.Meant.{first, imm_in, low, meant_of, nop_or, numbers_in, operands_meant, place_in, second}
 use Rattle.cax64_encoder.specs.Number.{number_value}
 use Rattle.cax64_encoder.specs.Numbered.{plain}
-use Rattle.cax64_encoder.specs.Place.{displacement_in, gpr_mem_place, place_read, xmm_mem_place}
+use Rattle.cax64_encoder.specs.Place.{displacement_in, gpr_mem_place, memory_in, place_read, xmm_mem_place}
 use Rattle.cax64_encoder.specs.Role.{roles_of}
 use Rattle.cax64_encoder.specs.declared.number.Number.{Number}
 use Rattle.cax64_encoder.specs.declared.number.Number.TheVariants.{Settled}
@@ -28,7 +30,7 @@ use Rattle.cax64_machine_code.specs.declared.reading.RegView.{RegView}
 use Rattle.cax64_machine_code.specs.declared.reading.RegView.TheVariants.{Low}
 use Rattle.cax64_machine_code.specs.declared.row.Row.{Row}
 use Rattle.cax64_machine_code.specs.declared.row.Row.TheVariants.{lock_addb_mi}
-use Rattle.cax64_operand.proofs.Taken.{field_of, imm_field_in, registers_in, rest_in}
+use Rattle.cax64_inst_data.specs.Takes.{field_of, imm_field_in, registers_in, rest_in}
 use Rattle.cax64_operand.specs.Family.{Numbering}
 use Rattle.cax64_operand.specs.Immediate.{imm_of, imm_size, imm_value}
 use Rattle.cax64_operand.specs.OperandList.{list_of}
@@ -43,12 +45,13 @@ use Rattle.cax64_operand.specs.declared.kind.OperandKind.TheVariants.{ReadGpr, R
 use Rattle.cax64_operand.specs.declared.nop.Nop.{Nop}
 use Rattle.cax64_operand.specs.declared.operand.Operand.{Operand}
 use Rattle.cax64_table.specs.Numbers.{has_register, has_vvvv}
-use Rattle.cax64_inst_data.specs.Encodable.{four}
+use Rattle.cax64_inst_data.specs.Encodable.{four, real}
 use Rattle.cax64_inst_data.specs.Fits.{all_zero, expected_of, fixed_in, imm_fits, is_memory, kinds_fit, place_fits}
 use Rattle.cax64_inst_data.specs.Form.{operand_by}
 use Rattle.cax64_inst_data.specs.Gathered.{IsPlace}
 use Rattle.cax64_inst_data.specs.Operands.{Kept, amode_by, amode_of, filled, imm_by, is_register, listed, next, next_fixed}
-use Rattle.cax64_inst_data.specs.ReadOperands.{PlaceOf, ReadsAs, has_size, rest_of}
+use Rattle.cax64_inst_data.specs.OfReading.{is_bare_memory}
+use Rattle.cax64_inst_data.specs.ReadOperands.{PlaceOf, ReadsAs, amode_plain, has_size, operand_plain, rest_of}
 use Rattle.cax64_inst_data.specs.When.{when}
 use Rattle.cax64_inst_data.specs.declared.place.DataPlace.{DataPlace}
 use Rattle.cax64_inst_data.specs.declared.place.PlaceKind.{PlaceKind}
@@ -77,7 +80,7 @@ unfolding line_of
 row_has_size lock_addb_mi = refl
 row_has_size _ = refl
 
-expected_in_row : (row : Row) → length (expected_of (signature_of row)) ≡ fixed_in (signature_of row)
+pub expected_in_row : (row : Row) → length (expected_of (signature_of row)) ≡ fixed_in (signature_of row)
 unfolding signature_of
 expected_in_row lock_addb_mi = refl
 expected_in_row _ = refl
@@ -226,6 +229,16 @@ read_as offsets at_end None place h = sym h
 read_as offsets at_end (Some (gpr_mem.Gpr reg)) place h = sym (h.1 ∙ ap (λ (x : Place). Some x) h.2)
 read_as offsets at_end (Some (gpr_mem.Mem amode)) place h = sym (h.1 ∙ ap (λ (x : Place). Some x) (h.2 offsets at_end))
 
+bare_memory : (amode : Amode ℕ) → amode_plain amode ≡ true → is_bare_memory (Some amode) ≡ true
+bare_memory (ImmReg base simm32 trap) h = (and_parts (real base) _ h).1
+bare_memory (ImmRegRegShift base index scale simm32 trap) h = (and_parts (not (index == 4)) _ (and_parts (real index) _ (and_parts (real base) _ h).1).1).1
+bare_memory (RipRelative target) h = refl
+
+bare_operand : (o : Option (GprMem ℕ ℕ)) → operand_plain o ≡ true → is_bare_memory (memory_in (plain_operand o)) ≡ true
+bare_operand None h = refl
+bare_operand (Some (gpr_mem.Gpr reg)) h = refl
+bare_operand (Some (gpr_mem.Mem amode)) h = bare_memory amode h
+
 -- The immediate that is meant.
 
 imm_is_named : (kind : ImmediateKind) (word : ℕ) → Some (imm_of (imm_by kind word)) ≡ imm_named (field_of kind) word
@@ -303,6 +316,16 @@ module _ (r : Reading) (p : DataPlace) (reg vvvv word : ℕ) (fixed : List ℕ)
       let own : parts_of r ≡ parts None l = same_parts reg_same vvvv_same (place_same offsets (imm_size (imm_in roles))) imm_same in
       own ∙ ap (λ (x : List (Operand Numbers ℕ ℕ ℕ ℕ ℕ ℕ)). parts None x) (sym (filled_back r.row p kept)) ∙ ap (λ (x : Option Nop). parts x (list_of (listed l))) (sym (none_listed l))
 
+  -- and its memory has no trap code and no late offset
+  pub bare_read : operand_plain place_kept.operand ≡ true → (offsets : ℕ → Option ℤ) → is_bare_memory (meant_of (numbers ◌==◌) r.row (listed (filled kinds p kept)) offsets).memory ≡ true
+  bare_read plain_kept offsets =
+      let l : List (Operand Numbers ℕ ℕ ℕ ℕ ℕ ℕ) = filled kinds p kept in
+      let bare : Option Nop → List (Operand Numbers ℕ ℕ ℕ ℕ ℕ ℕ) → Bool = λ nop list. is_bare_memory (nop_or r.row nop (operands_meant plain r.row (roles_of (numbers ◌==◌) list) offsets)).memory in
+      ap (λ (x : Option Nop). bare x (list_of (listed l))) (none_listed l)
+      ∙ ap (λ (x : List (Operand Numbers ℕ ℕ ℕ ℕ ℕ ℕ)). bare None x) (filled_back r.row p kept)
+      ∙ ap (λ (x : PlaceOperand ℕ). is_bare_memory (memory_in x)) operand_same
+      ∙ bare_operand place_kept.operand plain_kept
+
 -- the same by the parts that the code has
 
 pub fits_by : (row : Row) (line : Line) (has_reg has_number : Bool) (reg vvvv : ℕ) (kind : PlaceKind) (word : ℕ) (fixed : List ℕ)
@@ -326,6 +349,19 @@ means_by r line has_reg has_number p reg vvvv word fixed is has hasv reg_read vv
     (ap (λ (l : Line). place_fits (rest_of l.tail) p.kind) (sym is) ∙ fits)
     (imm_read ∙ ap (λ (l : Line). option_map imm_value (imm_named l.imm word)) is)
     offsets
+
+pub bare_by : (r : Reading) (line : Line) (has_reg has_number : Bool) (p : DataPlace) (reg vvvv word : ℕ) (fixed : List ℕ)
+    → line ≡ line_of r.row → has_reg ≡ has_register (line_of r.row).tail → has_number ≡ has_vvvv (line_of r.row).prefix
+    → r.reg ≡ option_map Low (when has_reg reg) → r.vvvv ≡ when has_number vvvv → PlaceOf r.place p → place_fits (rest_of line.tail) p.kind ≡ true → r.imm ≡ option_map imm_value (imm_named line.imm word)
+    → (offsets : ℕ → Option ℤ) → is_bare_memory (meant_of (numbers ◌==◌) r.row (listed (filled (signature_of r.row) p (record { registers = reg ∷ vvvv ∷ []; fixed = fixed; imm = word }))) offsets).memory ≡ true
+bare_by r line has_reg has_number p reg vvvv word fixed is has hasv reg_read vvvv_read place_kept fits imm_read offsets =
+    bare_read r p reg vvvv word fixed
+    (reg_read ∙ ap (λ (b : Bool). option_map Low (when b reg)) has)
+    (vvvv_read ∙ ap (λ (b : Bool). when b vvvv) hasv)
+    place_kept
+    (ap (λ (l : Line). place_fits (rest_of l.tail) p.kind) (sym is) ∙ fits)
+    (imm_read ∙ ap (λ (l : Line). option_map imm_value (imm_named l.imm word)) is)
+    place_kept.plain offsets
 
 pub sized_by : (row : Row) (line : Line) → line ≡ line_of row → has_size line.imm ≡ true
 sized_by row line is = ap (λ (l : Line). has_size l.imm) is ∙ row_has_size row

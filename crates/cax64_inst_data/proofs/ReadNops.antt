@@ -1,26 +1,33 @@
 use Rattle.std.proofs.Common.{◌≡◌, ℕ, refl, ◌∙◌, ap, sym, arith, Bool, true, false, Option, Some, None, ℤ, pos, negsuc}
-use Rattle.std.specs.Prelude.{◌==◌, if◌then◌else◌, is_none}
+use Rattle.std.specs.Prelude.{◌==◌, ◌&&◌, if◌then◌else◌, is_none, is_some, option_and_then, option_map}
 use Rattle.std.proofs.lemmas.Bool.{and_parts}
 use Rattle.std.proofs.lemmas.Bool.Decides.{nat_tests}
 use Rattle.std.proofs.lemmas.Option.{same_Some}
+use Rattle.cax64_encoder.specs.Fault.{is_encodable}
 use Rattle.cax64_encoder.specs.Meant.{meant_of}
-use Rattle.cax64_encoder.specs.Nop.{nop_parts, nop_place, rax_alone, rax_twice}
-use Rattle.cax64_machine_code.specs.Reading.{Parts}
+use Rattle.cax64_encoder.specs.Nop.{nop_bytes, nop_parts, nop_place, rax_alone, rax_twice}
+use Rattle.cax64_machine_code.specs.Fields.{number_at}
+use Rattle.cax64_machine_code.specs.Line.{after}
+use Rattle.cax64_machine_code.specs.Prefix.{legacy_at, prefix_at, rex_at, vex_at}
+use Rattle.cax64_machine_code.specs.Reading.{Parts, find, operands_at, read, row_at}
 use Rattle.cax64_machine_code.specs.Sequence.{Same}
+use Rattle.cax64_machine_code.specs.Tail.{disp_at, read_tail, sib_at}
 use Rattle.cax64_machine_code.specs.declared.reading.Place.{Place}
 use Rattle.cax64_machine_code.specs.declared.reading.Place.TheVariants.{Reg, Mem, Rip}
 use Rattle.cax64_machine_code.specs.declared.reading.Reading.{Reading}
 use Rattle.cax64_machine_code.specs.declared.reading.RegView.{RegView}
 use Rattle.cax64_machine_code.specs.declared.row.Row.{Row}
 use Rattle.cax64_machine_code.specs.declared.row.Row.TheVariants.{lock_addb_mi, nop_1b, nop_2b, nopl_rm, nopw_rm}
+use Rattle.cax64_machine_code.specs.Rows.{all_rows, line_of}
 use Rattle.cax64_operand.specs.NopRow.{nop_row}
+use Rattle.cax64_operand.specs.OperandList.{list_of}
 use Rattle.cax64_operand.specs.declared.instruction.Numbers.{Numbers}
 use Rattle.cax64_operand.specs.declared.nop.Nop.{Nop}
 use Rattle.cax64_operand.specs.declared.nop.Nop.TheVariants.{One, Two, Three, Four, Five, Six, Seven, Eight, Nine}
 use Rattle.cax64_operand.specs.declared.operand.Operands.{Operands}
 use Rattle.cax64_operand.specs.declared.operand.Operands.TheVariants as operands
-use Rattle.cax64_inst_data.specs.OfReading.{is_bare, is_rax_alone, is_rax_twice, nop_at, nop_for}
-use Rattle.cax64_inst_data.specs.Place.{is_zero}
+use Rattle.cax64_inst_data.specs.Lengths.{has_length, is_zero}
+use Rattle.cax64_inst_data.specs.OfReading.{all_own, is_bare, is_bare_memory, is_data, is_rax_alone, is_rax_twice, nop_at, nop_for}
 use Rattle.cax64_inst_data.specs.Refusal.{is_nop_row}
 use Rattle.cax64_inst_data.proofs.Filled.{numbers}
 
@@ -129,3 +136,63 @@ nop_means r nop row o h e f offsets = rw (e, f) (nop_read r nop h)
 
 pub nop_place_is : (row : Row) (place : Option Place) (length : ℕ) (nop : Nop) → nop_at row place length ≡ Some nop → nop_place nop ≡ place
 nop_place_is row place length nop h = (nop_is row place length nop h).place_is
+
+pub nop_row_is : (row : Row) (place : Option Place) (length : ℕ) (nop : Nop) → nop_at row place length ≡ Some nop → nop_row nop ≡ row
+nop_row_is row place length nop h = (nop_is row place length nop h).row_is
+
+-- what else holds of data of a no-operation
+
+pub nop_bare : (nop : Nop) (row : Row) (o : Operands Numbers ℕ ℕ ℕ ℕ ℕ ℕ) → o ≡ operands.Nop nop → (offsets : ℕ → Option ℤ) → is_bare_memory (meant_of (numbers ◌==◌) row o offsets).memory ≡ true
+nop_bare nop row o e offsets = rw e refl
+
+pub nop_own : (nop : Nop) (o : Operands Numbers ℕ ℕ ℕ ℕ ℕ ℕ) → o ≡ operands.Nop nop → all_own (list_of o) ≡ true
+nop_own nop o e = rw e refl
+
+pub nop_encodable : (nop : Nop) (row : Row) (o : Operands Numbers ℕ ℕ ℕ ℕ ℕ ℕ) → o ≡ operands.Nop nop → (offsets : ℕ → Option ℤ) → is_encodable offsets (meant_of (numbers ◌==◌) row o offsets) ≡ true
+nop_encodable nop row o e offsets = rw e refl
+
+-- a no-operation with another place is none of these
+pub other_place : (row : Row) (place : Option Place) (length : ℕ) → ((nop : Nop) → nop_row nop ≡ row → nop_place nop ≡ place → ⊥) → nop_at row place length ≡ None
+other_place row place length none = by_found (nop_at row place length) refl
+  where
+    by_found : (o : Option Nop) → nop_at row place length ≡ o → o ≡ None
+    by_found None e = refl
+    by_found (Some nop) e = let is = nop_is row place length nop e in absurd (none nop is.row_is is.place_is)
+
+no_other_nop : (r : Reading) → ((nop : Nop) → nop_row nop ≡ r.row → nop_place nop ≡ r.place → ⊥) → nop_for r ≡ None
+no_other_nop r none = either (is_bare r) _ (other_place r.row r.place r.length none)
+
+pub no_other : (r : Reading) → is_nop_row r.row ≡ true → ((nop : Nop) → nop_row nop ≡ r.row → nop_place nop ≡ r.place → ⊥) → is_data r ≡ false
+no_other r e none =
+    let no : is_some (nop_for r) ≡ false = rw (no_other_nop r none) refl in
+    rw (e, no) (with_false (has_length (line_of r.row) r))
+  where
+    with_false : (a : Bool) → (a && false) ≡ false
+    with_false true = refl
+    with_false false = refl
+
+-- what the bytes of each read as
+
+pub nops_found : (nop : Nop) → option_and_then {T = Reading} {U = Nop} (λ reading. nop_for reading) (read (nop_bytes nop)) ≡ Some nop
+unfolding read find row_at operands_at line_of all_rows after prefix_at legacy_at rex_at vex_at number_at read_tail sib_at disp_at
+nops_found One = refl
+nops_found Two = refl
+nops_found Three = refl
+nops_found Four = refl
+nops_found Five = refl
+nops_found Six = refl
+nops_found Seven = refl
+nops_found Eight = refl
+nops_found Nine = refl
+
+pub nops_are_data : (nop : Nop) → option_map {T = Reading} {U = Bool} (λ reading. is_data reading) (read (nop_bytes nop)) ≡ Some true
+unfolding read find row_at operands_at line_of all_rows after prefix_at legacy_at rex_at vex_at number_at read_tail sib_at disp_at
+nops_are_data One = refl
+nops_are_data Two = refl
+nops_are_data Three = refl
+nops_are_data Four = refl
+nops_are_data Five = refl
+nops_are_data Six = refl
+nops_are_data Seven = refl
+nops_are_data Eight = refl
+nops_are_data Nine = refl

@@ -6,7 +6,7 @@ use Rattle.cax64_address.specs.declared.amode.Amode.{Amode}
 use Rattle.cax64_address.specs.declared.operand.GprMem.{GprMem}
 use Rattle.cax64_address.specs.declared.operand.XmmMem.{XmmMem}
 use Rattle.cax64_machine_code.specs.Rows.{line_of}
-use Rattle.cax64_operand.proofs.Taken.{registers_in, rest_in}
+use Rattle.cax64_inst_data.specs.Takes.{registers_in, rest_in}
 use Rattle.cax64_operand.specs.Signature.{signature_of}
 use Rattle.cax64_operand.specs.declared.instruction.Numbers.{Numbers}
 use Rattle.cax64_operand.specs.declared.operand.Operand.{Operand}

@@ -10,7 +10,7 @@ use Rattle.cax64_operand.specs.Immediate.{imm_of, imm_in_range, signed_below}
 use Rattle.cax64_operand.specs.declared.instruction.Numbers.{Numbers}
 use Rattle.cax64_operand.specs.declared.nop.Nop.{Nop}
 use Rattle.cax64_operand.specs.declared.operand.Operand.{Operand}
-use Rattle.cax64_operand.proofs.Taken.{field_of, imm_field_in, registers_in, rest_in}
+use Rattle.cax64_inst_data.specs.Takes.{field_of, imm_field_in, registers_in, rest_in}
 use Rattle.cax64_operand.specs.Kind.{imms_in_range}
 use Rattle.cax64_operand.specs.Signature.{signature_of, HasSignature}
 use Rattle.cax64_operand.specs.declared.kind.ImmediateKind.{ImmediateKind}

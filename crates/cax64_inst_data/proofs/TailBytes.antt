@@ -1,7 +1,8 @@
-use Rattle.std.proofs.Common.{◌≡◌, ℕ, zero, suc, ◌+◌, ◌*◌, ◌^◌, ◌<◌, arith, refl, ap, Bool, true, false, Option, Some, None, List, [], ◌∷◌, ℤ, pos, ◌*ℤ◌}
-use Rattle.std.specs.Prelude.{◌==◌, ◌&&◌, not, nat_lt, if◌then◌else◌, option_map}
+use Rattle.std.proofs.Common.{◌≡◌, ℕ, zero, suc, ◌+◌, ◌*◌, ◌^◌, ◌<◌, arith, refl, ap, Bool, true, false, Option, Some, None, List, [], ◌∷◌, ℤ, pos, negsuc, ◌*ℤ◌, ◌≤◌, ◌≤ℤ◌}
+use Rattle.std.specs.Prelude.{◌-ℤ◌, ◌<ℤ◌, ◌==◌, ◌&&◌, not, nat_lt, if◌then◌else◌, option_map}
 use Rattle.std.proofs.Math.Nat.{pow-succ'}
 use Rattle.std.proofs.lemmas.Bool.Decides.{nat_tests}
+use Rattle.std.proofs.lemmas.Int.{ints}
 use Rattle.std.proofs.lemmas.Option.{same_Some}
 use Rattle.cax64_machine_code.specs.Fields.{IsBytes, base_of, index_of, mod_of, number_at, reg_of, rm_of, s32, s8, scale_of}
 use Rattle.cax64_machine_code.specs.Tail.{Tail, disp32_at, disp8_at, disp_at, displaced, read_tail, scaled_index, sib_at}
@@ -11,6 +12,7 @@ use Rattle.cax64_machine_code.specs.declared.reading.Place.TheVariants.{Reg, Mem
 use Rattle.cax64_machine_code.specs.declared.reading.RegView.TheVariants.{Low}
 use Rattle.cax64_machine_code.proofs.Forms.{first_byte, later_bytes}
 use Rattle.cax64_machine_code.proofs.NoShorter.{displaced_is}
+use Rattle.cax64_operand.specs.Immediate.{signed_below}
 use Rattle.cax64_inst_data.specs.OfReading.{index_given, is_factor, lacks_base, operand_given, place_is_high_byte}
 use Rattle.cax64_inst_data.proofs.PrefixBytes.{choose}
 
@@ -56,6 +58,19 @@ unfolding disp_at
 disp_kept mode bytes d hb h =
     choose (mode == 0) _ _ _ (λ t e. nothing_read bytes d hb e)
     (choose (mode == 1) _ _ _ (λ t e. disp8_kept bytes d hb e) (λ e. disp32_kept bytes d hb e)) h
+
+-- a number of so many bytes as a signed one
+
+pub below_signed : (half n : ℕ) → n < half + half → signed_below half (if nat_lt n half then pos n else (pos n -ℤ pos (half + half))) ≡ true
+below_signed half n h = by_test (nat_lt n half) refl
+  where
+    by_test : (t : Bool) → nat_lt n half ≡ t → signed_below half (if t then pos n else (pos n -ℤ pos (half + half))) ≡ true
+    by_test true e = e
+    by_test false e = negative (pos n -ℤ pos (half + half)) (omega (arith, ints, h)) (let k : half ≤ n = grind (arith, nat_tests, e) in omega (arith, ints, k, h))
+      where
+        negative : (v : ℤ) → v <ℤ pos 0 → (pos 0 -ℤ pos half) ≤ℤ v → signed_below half v ≡ true
+        negative (pos m) a b = absurd (omega (arith, ints, a))
+        negative (negsuc m) a b = let k : m < half = omega (arith, ints, b) in grind (arith, nat_tests, k)
 
 -- base and index
 

@@ -3,7 +3,7 @@ use Rattle.std.specs.Prelude.{nat_le, not, is_some, false}
 use Rattle.std.proofs.lemmas.Bool.Decides.{nat_tests}
 use Rattle.cax64_machine_code.specs.declared.row.Row.{Row}
 use Rattle.cax64_machine_code.specs.declared.row.Row.TheVariants.{lock_addb_mi}
-use Rattle.cax64_operand.proofs.Taken.{registers_in}
+use Rattle.cax64_inst_data.specs.Takes.{registers_in}
 use Rattle.cax64_operand.specs.Signature.{signature_of}
 use Rattle.cax64_operand.specs.Visit.{Run, OperandsRun}
 use Rattle.cax64_operand.specs.VisitSteps.{Steps}

@@ -1,7 +1,7 @@
 use Rattle.std.proofs.Common.{◌≡◌, ℕ, ◌+◌, ◌-◌, ◌≤◌, refl, ◌∙◌, ap, sym, arith, Bool, true, false, List, [], ◌∷◌, ◌++◌, length, take, drop}
 use Rattle.std.proofs.lemmas.List.{drop-drop, drop_all, length-drop}
 use borrow.Rule.Slice.PartMut.{post_of}
-use Rattle.cax64_operand.proofs.Taken.{registers_in, rest_in}
+use Rattle.cax64_inst_data.specs.Takes.{registers_in, rest_in}
 use Rattle.cax64_operand.specs.declared.kind.OperandKind.{OperandKind}
 use Rattle.cax64_operand.specs.Visit.{OperandRun, Run}
 use Rattle.cax64_operand.specs.VisitSteps.{Steps}

@@ -1,7 +1,18 @@
-pub mod Place
-pub mod Fits
+-- What the clauses of public functions say.
 pub mod Operands
 pub mod Data
+pub mod Given
+pub mod Refusal
+pub mod Made
+pub mod Homes
+pub mod Numbered
+pub mod Lengths
+pub mod OfReading
+pub mod Message
+-- Steps of the proofs.
+pub mod Place
+pub mod Takes
+pub mod Fits
 pub mod When
 pub mod Form
 pub mod Placed
@@ -9,15 +20,8 @@ pub mod Encodable
 pub mod Registers
 pub mod Alike
 pub mod Own
-pub mod Given
-pub mod Refusal
-pub mod Message
-pub mod Homes
-pub mod Numbered
-pub mod OfReading
 pub mod Gathered
 pub mod ReadOperands
-pub mod Made
 pub mod Class
 pub mod Head
 pub mod Tail

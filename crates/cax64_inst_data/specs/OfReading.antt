@@ -1,4 +1,8 @@
-use Rattle.std.specs.Prelude.{ℕ, ◌*◌, ◌-◌, ◌^◌, ◌==◌, ◌&&◌, ◌||◌, not, nat_lt, Bool, true, false, if◌then◌else◌, Option, Some, None, is_none, is_some, ℤ}
+use Rattle.std.specs.Prelude.{◌≡◌, ℕ, ◌*◌, ◌-◌, ◌^◌, ◌==◌, ◌&&◌, ◌||◌, not, nat_lt, Bool, true, false, if◌then◌else◌, Option, Some, None, is_none, is_some, ℤ, List, [], ◌∷◌}
+use Rattle.cax64_address.specs.declared.amode.Amode.{Amode}
+use Rattle.cax64_address.specs.declared.amode.Amode.TheVariants.{ImmReg, ImmRegRegShift, RipRelative}
+use Rattle.cax64_machine_code.specs.Fields.{IsBytes}
+use Rattle.cax64_machine_code.specs.Reading.{read}
 use Rattle.cax64_machine_code.specs.Rows.{line_of}
 use Rattle.cax64_machine_code.specs.declared.line.ImmField.{ImmField}
 use Rattle.cax64_machine_code.specs.declared.line.ImmField.TheVariants.{NoImm, Imm, Simm}
@@ -15,10 +19,13 @@ use Rattle.cax64_machine_code.specs.declared.reading.RegView.TheVariants.{Low, H
 use Rattle.cax64_machine_code.specs.declared.row.Row.{Row}
 use Rattle.cax64_machine_code.specs.declared.row.Row.TheVariants.{nop_1b, nop_2b, nopl_rm, nopw_rm}
 use Rattle.cax64_operand.specs.Immediate.{signed_below}
+use Rattle.cax64_operand.specs.declared.instruction.Numbers.{Numbers}
 use Rattle.cax64_operand.specs.declared.nop.Nop.{Nop}
 use Rattle.cax64_operand.specs.declared.nop.Nop.TheVariants.{One, Two, Three, Four, Five, Six, Seven, Eight, Nine}
+use Rattle.cax64_operand.specs.declared.operand.Operand.{Operand}
+use Rattle.cax64_operand.specs.declared.operand.Operand.TheVariants as operand
 use Rattle.cax64_table.specs.Numbers.{has_register, has_vvvv}
-use Rattle.cax64_inst_data.specs.Place.{is_zero}
+use Rattle.cax64_inst_data.specs.Lengths.{has_length, is_zero}
 use Rattle.cax64_inst_data.specs.Refusal.{is_nop_row, unsigned_below}
 
 -- Of which readings data is made.
@@ -103,7 +110,37 @@ abbrev pub nop_for : Reading → Option Nop
 nop_for r = if is_bare r then nop_at r.row r.place r.length else None
 
 abbrev pub is_data : Reading → Bool
-is_data r = if is_nop_row r.row then is_some (nop_for r) else operands_given (line_of r.row) r
+is_data r = has_length (line_of r.row) r && (if is_nop_row r.row then is_some (nop_for r) else operands_given (line_of r.row) r)
+
+-- What else holds of data of a reading.
+
+-- memory without a trap code and without a late offset
+abbrev pub is_bare_memory : Option (Amode ℕ) → Bool
+is_bare_memory None = true
+is_bare_memory (Some (ImmReg base simm32 trap)) = is_none trap && is_none simm32.offset
+is_bare_memory (Some (ImmRegRegShift base index scale simm32 trap)) = is_none trap
+is_bare_memory (Some (RipRelative target)) = true
+
+-- a fixed register is the one that the signature has there
+abbrev pub is_own : Operand Numbers ℕ ℕ ℕ ℕ ℕ ℕ → Bool
+is_own (operand.FixedReadGpr reg expected size) = reg == expected
+is_own (operand.FixedReadWriteGpr reg expected size) = reg == expected
+is_own (operand.ReadGpr reg size) = true
+is_own (operand.ReadWriteGpr reg size) = true
+is_own (operand.WriteGpr reg size) = true
+is_own (operand.WriteTwoGprs high low size) = true
+is_own (operand.ReadXmm reg) = true
+is_own (operand.ReadWriteXmm reg) = true
+is_own (operand.WriteXmm reg) = true
+is_own (operand.ReadAmode amode) = true
+is_own (operand.ReadGprMem place size) = true
+is_own (operand.ReadWriteGprMem place size) = true
+is_own (operand.ReadXmmMem place) = true
+is_own (operand.Imm imm) = true
+
+abbrev pub all_own : List (Operand Numbers ℕ ℕ ℕ ℕ ℕ ℕ) → Bool
+all_own [] = true
+all_own (o ∷ later) = is_own o && all_own later
 
 -- Why there is no data of a reading that bytes have.
 
@@ -128,3 +165,9 @@ is_other_nop r = is_nop_row r.row && is_none (nop_at r.row r.place r.length)
 
 abbrev pub is_left_out : Reading → Bool
 is_left_out r = is_high_byte r.reg || (place_is_high_byte r.place || (lacks_base r.place || is_other_nop r))
+
+-- some bytes are read as this reading
+pub record IsRead (r : Reading) : Type 0 where
+  pub bytes : List ℕ
+  pub are_bytes : IsBytes bytes
+  pub reads : read bytes ≡ Some r

@@ -1,7 +1,8 @@
-use Rattle.std.specs.Prelude.{ℕ, ◌==◌, ◌&&◌, Bool, true, false, Option, is_none, ℤ, pos, negsuc}
+use Rattle.std.specs.Prelude.{ℕ, ◌==◌, ◌&&◌, Bool, true, false, Option, is_none, ℤ}
 use Rattle.cax64_address.specs.declared.amode.Scale.{Scale}
 use Rattle.cax64_address.specs.declared.amode.Scale.TheVariants.{One, Two, Four, Eight}
 use Rattle.cax64_sink.specs.declared.TrapCode.{TrapCode}
+use Rattle.cax64_inst_data.specs.Lengths.{is_zero}
 use Rattle.cax64_inst_data.specs.declared.place.PlaceKind.{PlaceKind}
 use Rattle.cax64_inst_data.specs.declared.place.PlaceKind.TheVariants.{Absent, Register, Base, BaseAndIndex, Label, Constant, NoTarget}
 
@@ -10,10 +11,6 @@ is_one One = true
 is_one Two = false
 is_one Four = false
 is_one Eight = false
-
-abbrev pub is_zero : ℤ → Bool
-is_zero (pos n) = n == 0
-is_zero (negsuc n) = false
 
 -- no factor, no trap, no late offset and no displacement
 abbrev pub nothing_more : Scale → Option TrapCode → Option ℕ → ℤ → Bool

@@ -107,7 +107,7 @@ impl InstData {
         InstData {
             place: absent(),
             imm: 0,
-            row: Row::nop_1b,
+            row: nop_row(nop),
             nop: Some(nop),
             reg: 0,
             vvvv: 0,

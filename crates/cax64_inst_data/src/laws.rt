@@ -1,6 +1,6 @@
 //! Laws of the items here. The functions do nothing: their clauses are the laws.
 
-ghost use Rattle.std.specs.Prelude.{◌≡◌, ◌≤◌, ◌⊎◌, ℕ, ℤ, true, not, List, length, Option, Some, option_map};
+ghost use Rattle.std.specs.Prelude.{◌≡◌, ◌↔◌, ◌≤◌, ◌⊎◌, ℕ, ℤ, true, false, not, List, length, Option, Some, option_and_then, option_map};
 ghost use Rattle.cax64_encoder.specs.Fault.{is_encodable};
 ghost use Rattle.cax64_encoder.specs.Meant.{meant_of};
 ghost use Rattle.cax64_encoder.specs.Nop.{nop_bytes, nop_place};
@@ -13,7 +13,13 @@ ghost use Rattle.cax64_operand.specs.declared.nop.Nop.{Nop};
 ghost use Rattle.cax64_operand.specs.declared.operand.Operands.{Operands};
 ghost use Rattle.cax64_inst_data.specs.Numbered.{numbered_amode, numbered_operands, settled_operands};
 ghost use Rattle.cax64_inst_data.specs.OfReading.{is_data, is_left_out, nop_for};
+ghost use Rattle.cax64_inst_data.specs.Refusal.{is_nop_row};
+ghost use Rattle.cax64_inst_data.specs.declared.data.InstData.{InstData};
+ghost use Rattle.cax64_inst_data.specs.declared.operand.DataError.{DataError};
+ghost use Rattle.cax64_inst_data.specs.declared.operand.DataOperand.{DataOperand};
 
+use crate::data::InstData;
+use crate::operand::{DataError, DataOperand};
 use cax64_machine_code::reading::Reading;
 use cax64_operand::{Numbers, RegisterFamily};
 use cax64_register::Registers;
@@ -35,10 +41,27 @@ pub fn numbers_mean_the_same<R: Registers>()
         → (meant_of ⟦<Numbers as RegisterFamily>⟧.family row (numbered_operands ⟦<R as RegisterFamily>⟧.family o) offsets).visited ≡ (meant_of ⟦<R as RegisterFamily>⟧.family row o offsets).visited }
 {}
 
+/// Data, operands that data is made of, and refusals compare equal where they are equal, and nowhere else.
+pub fn laws_of_equality()
+    ensures data { (a b : InstData) → (⟦<InstData as PartialEq>⟧.eq a b ≡ true) ↔ (a ≡ b) }
+    ensures operands { (a b : DataOperand) → (⟦<DataOperand as PartialEq>⟧.eq a b ≡ true) ↔ (a ≡ b) }
+    ensures errors { (a b : DataError) → (⟦<DataError as PartialEq>⟧.eq a b ≡ true) ↔ (a ≡ b) }
+{}
+
 /// Of what is read of any bytes there is data but for four reasons: a high byte, a place relative to the end, memory
 /// without a base, and a no-operation with a place that none of the nine has.
 pub fn what_bytes_have_is_data(reading: Reading)
     ensures { (bytes : List ℕ) → IsBytes bytes → read bytes ≡ Some reading → is_data reading ≡ not (is_left_out reading) }
+{}
+
+/// Each of the nine no-operations is data, and is found from what its own bytes read as; of a no-operation with a row and
+/// a place that none of the nine has together there is no data.
+pub fn which_no_operations_are_data()
+    ensures data { (nop : Nop) → option_map (λ reading. is_data reading) (read (nop_bytes nop)) ≡ Some true }
+    ensures own { (nop : Nop) → option_and_then (λ reading. nop_for reading) (read (nop_bytes nop)) ≡ Some nop }
+    ensures other { (reading : Reading) → is_nop_row reading.row ≡ true
+        → ((nop : Nop) → nop_row nop ≡ reading.row → nop_place nop ≡ reading.place → ⊥)
+        → is_data reading ≡ false }
 {}
 
 /// The no-operation of a reading is the one of its length, where there is one with its row and its place; else none of

@@ -8,6 +8,7 @@ mod encode;
 mod fixed;
 mod heads;
 pub mod laws;
+mod lengths;
 mod listing;
 mod make;
 mod numbered;

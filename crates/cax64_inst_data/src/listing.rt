@@ -1,7 +1,7 @@
 //! The operands of data, listed.
 
 ghost use Rattle.std.specs.Prelude.{◌≡◌, ◌≤◌, true, [], ◌∷◌, length, ℕ};
-ghost use Rattle.cax64_operand.proofs.Taken.{field_of};
+ghost use Rattle.cax64_inst_data.specs.Takes.{field_of};
 ghost use Rattle.cax64_inst_data.specs.Fits.{each_fits, imm_fits, kind_fits};
 ghost use Rattle.cax64_inst_data.specs.Operands.{amode_of, behind, filled, gpr_mem_of, head, imm_by, listed, operand_by, tail, xmm_mem_of};
 

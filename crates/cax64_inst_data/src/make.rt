@@ -1,7 +1,7 @@
 //! Data made of a row and operands.
 
 ghost use Rattle.std.specs.Prelude.{◌≡◌, ◌≤◌, ◌+◌, ℕ, true, false, drop, length, None, Some, IfErr, OnOk};
-ghost use Rattle.cax64_operand.proofs.Taken.{imm_field_in, registers_in, rest_in};
+ghost use Rattle.cax64_inst_data.specs.Takes.{imm_field_in, registers_in, rest_in};
 ghost use Rattle.cax64_inst_data.specs.Fits.{fixed_in, imm_fits, place_fits};
 ghost use Rattle.cax64_inst_data.specs.Given.{all_given, given_of};
 ghost use Rattle.cax64_inst_data.specs.Operands.{filled, operand_by};

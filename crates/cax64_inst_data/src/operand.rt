@@ -1,7 +1,7 @@
 //! Operands that data is made of, and why none is made.
 
 ghost use Rattle.std.specs.Prelude.{◌≡◌, true, false, pos, Some, None, IfErr, IfOk, IfSome, OnOk, is_some};
-ghost use Rattle.cax64_operand.proofs.Taken.{field_of};
+ghost use Rattle.cax64_inst_data.specs.Takes.{field_of};
 ghost use Rattle.cax64_operand.specs.Immediate.{imm_of, imm_value};
 ghost use Rattle.cax64_address.specs.declared.operand.GprMem.TheVariants as gpr_mem;
 ghost use Rattle.cax64_address.specs.declared.operand.XmmMem.TheVariants as xmm_mem;

@@ -1,6 +1,7 @@
 //! The place of an instruction as data: a register, memory, or nothing.
 
-ghost use Rattle.std.specs.Prelude.{◌≡◌, true, slice_index};
+ghost use Rattle.std.specs.Prelude.{◌≡◌, IfSome, true, slice_index};
+ghost use Rattle.cax64_address.specs.declared.amode.Amode.TheVariants.{RipRelative};
 ghost use Rattle.cax64_inst_data.specs.Homes.{home_if};
 ghost use Rattle.cax64_inst_data.specs.Place.{is_plain};
 
@@ -58,7 +59,8 @@ impl DataPlace {
     /// The target of a place relative to the end.
     #[inline(always)]
     pub(crate) fn relative(&self) -> Option<DeferredTarget>
-        ensures { result ≡ relative_by self.now.kind self.now.target }
+        ensures target { IfSome result (λ target. amode_of self.now ≡ RipRelative target) }
+        ensures by_kind { result ≡ relative_by self.now.kind self.now.target }
     {
         match self.kind {
             PlaceKind::Absent | PlaceKind::Register | PlaceKind::Base | PlaceKind::BaseAndIndex =>
@@ -94,7 +96,7 @@ impl DataPlace {
 
     /// Whether base and index are real, and an index isn't the stack pointer. What there isn't is 0.
     #[inline(always)]
-    pub fn is_met(&self) -> bool
+    pub(crate) fn is_met(&self) -> bool
         ensures { result ≡ numbers_met self.now.kind self.now.base self.now.index }
     {
         (self.base < 16) & (self.index < 16) & !(self.kind.has_index() & (self.index == 4))
@@ -102,7 +104,7 @@ impl DataPlace {
 
     /// Whether the late offset is absent, or known to the sink with a sum that is an `i32`.
     #[inline(always)]
-    pub fn offset_fits<S: CodeSink>(&self, sink: &S) -> bool
+    pub(crate) fn offset_fits<S: CodeSink>(&self, sink: &S) -> bool
         ensures { result ≡ sum_fits (S.state sink.now).offsets self.now.offset self.now.displacement }
     {
         let displacement = AmodeOffsetPlusKnownOffset {
@@ -127,7 +129,7 @@ impl DataPlace {
     /// The numbers of the place that this stands for.
     #[tactic(auto, using(crate::proofs::Placed::numbers_are))]
     #[inline(always)]
-    pub fn numbered(&self) -> NumberedPlace
+    pub(crate) fn numbered(&self) -> NumberedPlace
         ensures { result ≡ numbered_place plain (place_operand self.now) }
     {
         self.placed()

@@ -1,26 +1,29 @@
 //! Data of what was read from bytes.
 
-ghost use Rattle.std.specs.Prelude.{◌≡◌, ◌^◌, ℕ, ℤ, Option, true, false, not, None, Some, IfSome, is_some, option_map};
+ghost use Rattle.std.specs.Prelude.{◌≡◌, ◌↔◌, ◌^◌, ℕ, ℤ, Option, true, false, not, None, Some, IfSome, is_some, option_map};
 ghost use Rattle.cax64_address.specs.Address.{scale_number};
 ghost use Rattle.cax64_address.specs.Operand.{is_gpr_mem};
+ghost use Rattle.cax64_encoder.specs.Fault.{is_encodable};
 ghost use Rattle.cax64_encoder.specs.ImmActions.{imm_named};
 ghost use Rattle.cax64_encoder.specs.Meant.{meant_of};
 ghost use Rattle.cax64_machine_code.specs.Sequence.{Same};
 ghost use Rattle.cax64_machine_code.specs.declared.line.PlaceField.TheVariants.{Memory};
 ghost use Rattle.cax64_machine_code.specs.declared.reading.Place.TheVariants.{Mem};
 ghost use Rattle.cax64_machine_code.specs.declared.reading.RegView.TheVariants.{Low};
-ghost use Rattle.cax64_operand.proofs.Taken.{field_of};
+ghost use Rattle.cax64_inst_data.specs.Takes.{field_of};
 ghost use Rattle.cax64_operand.specs.Immediate.{imm_value};
-ghost use Rattle.cax64_operand.specs.OperandList.{nop_of};
+ghost use Rattle.cax64_operand.specs.OperandList.{list_of, nop_of};
 ghost use Rattle.cax64_operand.specs.Shape.{is_no_imm};
 ghost use Rattle.cax64_inst_data.specs.Data.{data_operands, data_row};
+ghost use Rattle.cax64_inst_data.specs.Encodable.{real};
 ghost use Rattle.cax64_inst_data.specs.Fits.{imm_fits, place_fits};
-ghost use Rattle.cax64_inst_data.specs.OfReading.{imm_given, index_given, is_data, is_factor, is_low, is_rax_alone, is_rax_twice, memory_given, nop_at, nop_for, number_given, operand_given, place_given, register_given};
-ghost use Rattle.cax64_inst_data.specs.ReadOperands.{PlaceOf, Reads, ReadsMemory, has_size, rest_of};
+ghost use Rattle.cax64_inst_data.specs.OfReading.{IsRead, all_own, imm_given, index_given, is_bare_memory, is_data, is_factor, is_left_out, is_low, is_rax_alone, is_rax_twice, memory_given, nop_at, nop_for, number_given, operand_given, place_given, register_given};
+ghost use Rattle.cax64_inst_data.specs.ReadOperands.{PlaceOf, Reads, ReadsMemory, amode_plain, has_size, operand_plain, rest_of};
 ghost use Rattle.cax64_inst_data.specs.When.{when};
 
 use crate::data::{InstData, is_nop_row};
 use crate::fixed::expected;
+use crate::lengths::has_length;
 use crate::numbered::placed;
 use crate::operand::word_of;
 use crate::place::DataPlace;
@@ -38,6 +41,7 @@ use cax64_table::{line, numbers};
 fn low(view: RegView) -> Option<u8>
     ensures some { is_some result ≡ is_low view }
     ensures number { IfSome result (λ number. view ≡ Low number) }
+    ensures real { IfSome result (λ number. real number ≡ true) }
 {
     match view {
         RegView::Low(number) if number < 16 => Some(number),
@@ -49,6 +53,7 @@ fn low(view: RegView) -> Option<u8>
 fn register(present: bool, view: Option<RegView>) -> Option<u8>
     ensures some { is_some result ≡ register_given present view }
     ensures number { IfSome result (λ number. view ≡ option_map Low (when present number)) }
+    ensures real { IfSome result (λ number. real number ≡ true) }
     ensures absent { present ≡ false → IfSome result (λ number. number ≡ 0) }
 {
     match view {
@@ -61,6 +66,7 @@ fn register(present: bool, view: Option<RegView>) -> Option<u8>
 fn number(present: bool, number: Option<u8>) -> Option<u8>
     ensures some { is_some result ≡ number_given present number }
     ensures number { IfSome result (λ kept. number ≡ when present kept) }
+    ensures real { IfSome result (λ kept. real kept ≡ true) }
     ensures absent { present ≡ false → IfSome result (λ kept. kept ≡ 0) }
 {
     match number {
@@ -89,7 +95,9 @@ fn scale_of(factor: u8) -> Option<Scale>
 
 /// Memory at a base and a displacement.
 fn based(base: u8, disp: i32) -> Amode<u8>
-    ensures { ReadsMemory result (Mem (Some base) None disp) }
+    requires { real base ≡ true }
+    ensures reads { ReadsMemory result (Mem (Some base) None disp) }
+    ensures plain { amode_plain result ≡ true }
 {
     Amode::ImmReg {
         base,
@@ -103,8 +111,10 @@ fn based(base: u8, disp: i32) -> Amode<u8>
 
 /// Memory at a base, an index times its factor, and a displacement.
 fn indexed(base: u8, index: (u8, u8), disp: i32) -> Option<Amode<u8>>
+    requires { real base ≡ true }
     ensures some { is_some result ≡ index_given (Some index) }
     ensures reads { IfSome result (λ amode. ReadsMemory amode (Mem (Some base) (Some index) disp)) }
+    ensures plain { IfSome result (λ amode. amode_plain amode ≡ true) }
 {
     let (index, factor) = index;
     if index >= 16 || index == gpr::enc::RSP {
@@ -124,6 +134,7 @@ fn indexed(base: u8, index: (u8, u8), disp: i32) -> Option<Amode<u8>>
 fn memory(base: Option<u8>, index: Option<(u8, u8)>, disp: i32) -> Option<Amode<u8>>
     ensures some { is_some result ≡ memory_given base index }
     ensures reads { IfSome result (λ amode. ReadsMemory amode (Mem base index disp)) }
+    ensures plain { IfSome result (λ amode. amode_plain amode ≡ true) }
 {
     let base = base?;
     if base >= 16 {
@@ -140,6 +151,7 @@ fn operand(field: PlaceField, place: Place) -> Option<GprMem<u8, u8>>
     ensures some { is_some result ≡ operand_given field place }
     ensures reads { IfSome result (λ operand. Reads operand place) }
     ensures memory { field ≡ Memory → IfSome result (λ operand. is_gpr_mem operand ≡ true) }
+    ensures plain { IfSome result (λ operand. operand_plain (Some operand) ≡ true) }
 {
     match place {
         Place::Reg(view) => match field {
@@ -259,24 +271,44 @@ fn nop_for(reading: &Reading) -> Option<Nop>
 
 impl InstData {
     /// Data of an instruction that was read, which is what is read of it again. Each fixed register is its row's own,
-    /// and there is no trap and no late offset.
+    /// there is no trap and no late offset, and it can be encoded, whatever the sink.
     ///
-    /// There is none of a high byte, as `ah`, of a place relative to the end, nor of memory without a base; and none of
-    /// a reading that no bytes have. Of the no-operations of several bytes there is one for the places that they have
-    /// themselves: that of the reading's length, or else the shortest.
+    /// There is none of a reading that no bytes have, as one of another length than its row and operands can have; and of
+    /// those that bytes have there is none of a high byte, as `ah`, of a place relative to the end, of memory without a
+    /// base, nor of a no-operation with a place that none of the nine has. Of the no-operations of one row and place it's
+    /// that of the reading's length, or else the shortest.
     pub fn of_reading(reading: &Reading) -> Option<InstData>
+        ensures some { (is_some result ≡ true) ↔ (IsRead reading.now × (is_left_out reading.now ≡ false)) }
+        ensures test { is_some result ≡ is_data reading.now }
+        ensures means { IfSome result (λ d. (offsets : ℕ → Option ℤ) → Same reading.now (meant_of ⟦<Numbers as RegisterFamily>⟧.family (data_row d) (data_operands d) offsets).parts) }
+        ensures nop { IfSome result (λ d. nop_of (data_operands d) ≡ nop_for reading.now) }
+        ensures bare { IfSome result (λ d. (offsets : ℕ → Option ℤ) → is_bare_memory (meant_of ⟦<Numbers as RegisterFamily>⟧.family (data_row d) (data_operands d) offsets).memory ≡ true) }
+        ensures fixed { IfSome result (λ d. all_own (list_of (data_operands d)) ≡ true) }
+        ensures encodable { IfSome result (λ d. (offsets : ℕ → Option ℤ) → is_encodable offsets (meant_of ⟦<Numbers as RegisterFamily>⟧.family (data_row d) (data_operands d) offsets) ≡ true) }
+    {
+        InstData::of_given(reading)
+    }
+
+    /// The same, by a test of the reading's parts.
+    fn of_given(reading: &Reading) -> Option<InstData>
         ensures some { is_some result ≡ is_data reading.now }
         ensures means { IfSome result (λ d. (offsets : ℕ → Option ℤ) → Same reading.now (meant_of ⟦<Numbers as RegisterFamily>⟧.family (data_row d) (data_operands d) offsets).parts) }
         ensures nop { IfSome result (λ d. nop_of (data_operands d) ≡ nop_for reading.now) }
+        ensures bare { IfSome result (λ d. (offsets : ℕ → Option ℤ) → is_bare_memory (meant_of ⟦<Numbers as RegisterFamily>⟧.family (data_row d) (data_operands d) offsets).memory ≡ true) }
+        ensures fixed { IfSome result (λ d. all_own (list_of (data_operands d)) ≡ true) }
+        ensures encodable { IfSome result (λ d. (offsets : ℕ → Option ℤ) → is_encodable offsets (meant_of ⟦<Numbers as RegisterFamily>⟧.family (data_row d) (data_operands d) offsets) ≡ true) }
     {
         let row = reading.row;
+        let line = line(row);
+        if !has_length(&line, reading) {
+            return None;
+        }
         if is_nop_row(row) {
             return match nop_for(reading) {
                 Some(nop) => Some(InstData::nop(nop)),
                 None => None,
             };
         }
-        let line = line(row);
         let reg = register(numbers::has_register(row), reading.reg)?;
         let vvvv = number(numbers::has_vvvv(row), reading.vvvv)?;
         let place = place(line.tail, reading.place)?;

@@ -4,7 +4,7 @@ ghost use Rattle.std.specs.Prelude.{◌≡◌, ◌≤◌, ℕ, true, false, drop
 ghost use Rattle.cax64_operand.specs.Visit.{OperandRun, Run};
 ghost use Rattle.cax64_inst_data.specs.Own.{is_place, no_place, one_place, own_fixed, own_registers, own_rest};
 ghost use Rattle.cax64_operand.specs.VisitSteps.{AmodeRun, GprMemRun, XmmMemRun};
-ghost use Rattle.cax64_operand.proofs.Taken.{registers_in, rest_in};
+ghost use Rattle.cax64_inst_data.specs.Takes.{registers_in, rest_in};
 ghost use Rattle.cax64_inst_data.specs.Alike.{Alike, AlikeGprMem, AlikeXmmMem};
 ghost use Rattle.cax64_inst_data.specs.Fits.{fixed_in, is_memory, is_present, place_fits};
 ghost use Rattle.cax64_inst_data.specs.Operands.{amode_of, behind, filled, gpr_mem_of, operand_by, xmm_mem_of};

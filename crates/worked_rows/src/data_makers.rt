@@ -2,6 +2,7 @@
 
 use cax64_inst_data::laws::{
     numbers_mean_the_same, the_length_tells_a_no_operation, what_bytes_have_is_data,
+    which_no_operations_are_data,
 };
 use cax64_inst_data::{DataOperand, InstData};
 use cax64_machine_code::reading::{Place, Reading, RegView};
@@ -197,6 +198,7 @@ fn what_is_read_comes_back(rt: HostRuntime) {
 #[test]
 fn the_no_operations_come_back(rt: HostRuntime) {
     the_length_tells_a_no_operation();
+    which_no_operations_are_data();
     assert!(rt; read(&[0x90]) == Some(InstData::nop(Nop::One)));
     assert!(rt; read(&[0x66, 0x90]) == Some(InstData::nop(Nop::Two)));
     assert!(rt; read(&[0x0F, 0x1F, 0x00]) == Some(InstData::nop(Nop::Three)));
@@ -226,7 +228,7 @@ fn what_data_does_not_hold_is_none(rt: HostRuntime) {
 fn sum(base: u8, index: (u8, u8), register: u8, imm: Option<i64>) -> Reading {
     Reading {
         row: Row::lock_addl_mr,
-        length: 5,
+        length: 6,
         tail: 3,
         reg: Some(RegView::Low(register)),
         vvvv: None,
@@ -237,6 +239,95 @@ fn sum(base: u8, index: (u8, u8), register: u8, imm: Option<i64>) -> Reading {
         }),
         imm,
     }
+}
+
+/// Whether the data of what is read of these bytes is that of a row and operands.
+fn is_read_as(bytes: &[u8], row: Row, operands: &[DataOperand]) -> bool {
+    let found = read(bytes);
+    found.is_some() && found == InstData::new(row, operands).ok()
+}
+
+#[test]
+fn what_is_read_has_no_trap_and_its_own_fixed_registers(rt: HostRuntime) {
+    let sum = [
+        DataOperand::Memory(plain_indexed(13, 9)),
+        DataOperand::Register(8),
+    ];
+    let bytes = [0xF0, 0x47, 0x01, 0x44, 0x8D, 0x80];
+    assert!(rt; is_read_as(&bytes, Row::lock_addl_mr, &sum));
+    let place = DataOperand::Memory(Amode::ImmReg {
+        base: 6,
+        simm32: AmodeOffsetPlusKnownOffset::ZERO,
+        trap: None,
+    });
+    let exchange = [
+        place,
+        DataOperand::Register(0),
+        DataOperand::Register(2),
+        DataOperand::Register(1),
+        DataOperand::Register(3),
+    ];
+    let bytes = [0xF0, 0x48, 0x0F, 0xC7, 0x0E];
+    assert!(rt; is_read_as(&bytes, Row::lock_cmpxchg16b_m, &exchange));
+    let mask = [DataOperand::Register(0), DataOperand::Immediate(200)];
+    assert!(rt; is_read_as(&[0x24, 0xC8], Row::andb_i, &mask));
+    let product = [
+        DataOperand::TwoRegisters(3, 10),
+        DataOperand::Register(7),
+        DataOperand::Register(2),
+    ];
+    assert!(rt; is_read_as(&[0xC4, 0xE2, 0x2B, 0xF6, 0xDF], Row::mulxl_rvm, &product));
+}
+
+/// Whether there is data of an addition with this length and tail.
+fn has_size(base: u8, register: u8, length: u8, tail: u8) -> bool {
+    let mut reading = sum(base, (9, 4), register, None);
+    reading.length = length;
+    reading.tail = tail;
+    InstData::of_reading(&reading).is_some()
+}
+
+#[test]
+fn a_length_or_a_tail_of_no_bytes_is_no_data(rt: HostRuntime) {
+    // F0, REX, 01, ModR/M, SIB and a displacement of one byte, or of four.
+    assert!(rt; has_size(13, 8, 6, 3));
+    assert!(rt; has_size(13, 8, 9, 6));
+    assert!(rt; !has_size(13, 8, 5, 3));
+    assert!(rt; !has_size(13, 8, 7, 3));
+    assert!(rt; !has_size(13, 8, 77, 3));
+    assert!(rt; !has_size(13, 8, 6, 2));
+    assert!(rt; !has_size(13, 8, 7, 4));
+    assert!(rt; !has_size(13, 8, 8, 5));
+    assert!(rt; !has_size(13, 8, 6, 6));
+    assert!(rt; !has_size(13, 8, 10, 7));
+    let mut low = sum(3, (1, 4), 0, None);
+    // A REX byte may stand where none is needed.
+    assert!(rt; InstData::of_reading(&low).is_some());
+    low.length = 5;
+    assert!(rt; InstData::of_reading(&low).is_some());
+    low.length = 4;
+    assert!(rt; InstData::of_reading(&low).is_none());
+    // Without an index there are tails with a SIB byte and without one.
+    low.place = Some(Place::Mem {
+        base: Some(3),
+        index: None,
+        disp: 0,
+    });
+    low.tail = 1;
+    low.length = 3;
+    assert!(rt; InstData::of_reading(&low).is_some());
+    low.tail = 2;
+    low.length = 4;
+    assert!(rt; InstData::of_reading(&low).is_some());
+    low.tail = 4;
+    low.length = 6;
+    assert!(rt; InstData::of_reading(&low).is_none());
+    low.tail = 5;
+    low.length = 7;
+    assert!(rt; InstData::of_reading(&low).is_some());
+    low.tail = 0;
+    low.length = 2;
+    assert!(rt; InstData::of_reading(&low).is_none());
 }
 
 #[test]

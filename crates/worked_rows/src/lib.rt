@@ -15,6 +15,8 @@ mod data_short;
 #[cfg(test)]
 mod data_texts;
 #[cfg(test)]
+mod data_values;
+#[cfg(test)]
 mod families;
 #[cfg(test)]
 mod fixed_sinks;

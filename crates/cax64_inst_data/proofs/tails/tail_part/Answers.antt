@@ -10,4 +10,4 @@ returns-clause-tail c =
     let scale : scale_number p.scale < 4 = omega (arith, c.enc.ensures.number, c.enc.ensures.below) in
     let sib : c.encode_modrm-sib.result ≡ scale_number p.scale * 64 + p.index % 8 * 8 + p.base % 8 = rw c.enc.ensures.number at c.encode_modrm-sib.ensures in
     part_found p c.args.reg c.cast_unsigned-word.result c.encode_modrm-sib.result c.args.bytes_at_end c.class_of-class.result c.args.displacement _ _ _ c.requires.non_rsp c.requires.index c.requires.reg scale c.ranges.bytes_at_end.fits c.ranges.displacement
-    (rw (to_z-of_z w32 c.args.displacement c.ranges.displacement) at c.cast_unsigned-word.ensures) c.class_of-class.ensures.is sib c.front.ensures.bytes c.relative.ensures c.long.ensures
+    (rw (to_z-of_z w32 c.args.displacement c.ranges.displacement) at c.cast_unsigned-word.ensures) c.class_of-class.ensures.is sib c.front.ensures.bytes c.relative.ensures.by_kind c.long.ensures
