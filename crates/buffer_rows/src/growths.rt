@@ -330,6 +330,6 @@ fn requests_of(alloc: Global, labels: u32, count: u32) -> Option<usize> {
 fn a_function_takes_few_blocks(rt: HostRuntime) {
     // One for bytes, for notices and for labels.
     assert_eq!(rt; requests_of(rt.alloc(), 1, 1), Some(3));
-    // Four of each: of 64, 224, 864 and 3,424 bytes, and of 4, 16, 64 and 256 notices and labels.
-    assert_eq!(rt; requests_of(rt.alloc(), 100, 200), Some(12));
+    // Of 64, 128 and so on to 2,048 bytes, and of 4, 8 and so on to 256 notices and to 128 labels.
+    assert_eq!(rt; requests_of(rt.alloc(), 100, 200), Some(19));
 }

@@ -1,6 +1,6 @@
 //! What two plain vectors hold in a small heap, a recorder and a buffer hold too.
 
-use crate::making::{POOL, compare_with, push, shift};
+use crate::making::{POOL, compare_with, longest, push, shift};
 use cax64_sink::{CodeSink, Notice, Recorder, SinkError, TrapCode};
 use cax64_test_support::TestHeap;
 use std::alloc::{Allocator, Global};
@@ -36,6 +36,13 @@ const SHIFT: Step = Step {
 
 const BYTES_ALONE: Step = Step {
     notices: 0,
+    bytes: &[0x90; LONGEST],
+    is_told: false,
+};
+
+/// The longest instruction, without a notice.
+const ADD: Step = Step {
+    notices: 1,
     bytes: &[0x90; LONGEST],
     is_told: false,
 };
@@ -101,10 +108,10 @@ struct Pushes<A: Allocator>(CodeBuffer<A>);
 
 impl<A: Allocator> Holds for Pushes<A> {
     fn holds(&mut self, step: Step) -> bool {
-        let pushed = if step.is_told {
-            push(&mut self.0, &compare_with(POOL))
-        } else {
-            push(&mut self.0, &shift())
+        let pushed = match step.bytes.len() {
+            LONGEST => push(&mut self.0, &longest()),
+            2 => push(&mut self.0, &shift()),
+            _ => push(&mut self.0, &compare_with(POOL)),
         };
         pushed.is_ok()
     }
@@ -199,7 +206,7 @@ fn holds_as_much(alloc: Global, limit: usize, count: usize, step: Step) -> bool 
 #[test]
 fn a_small_heap_holds_as_much_as_in_plain_vectors(rt: HostRuntime) {
     for step in [COMPARE, SHIFT, BYTES_ALONE] {
-        for count in 0..2usize {
+        for count in 0..10usize {
             for limit in 0..1025usize {
                 assert!(rt;
                     holds_as_much(rt.alloc(), limit, count, step),
@@ -231,4 +238,68 @@ fn a_first_step_takes_one_block_of_each_kind(rt: HostRuntime) {
         least(rt.alloc(), 1, COMPARE),
         Some(LONGEST + notices + labels)
     );
+}
+
+/// How many steps are held before one is refused.
+fn held<H: Holds>(mut holder: H, step: Step) -> usize {
+    let mut count = 0usize;
+    while count < LARGEST && holder.holds(step) {
+        count = count.saturating_add(1);
+    }
+    count
+}
+
+/// The largest heap in which pushes are compared. It holds fewer steps.
+const LARGEST: usize = 4096;
+
+/// How many steps fewer are pushed than plain vectors hold: a first block of 64 bytes doubles to other sizes than one of 13.
+#[derive(Clone, Copy, Debug, PartialEq)]
+struct Fewer {
+    /// In so many heaps.
+    heaps: usize,
+    most: usize,
+    /// In so many heaps fewer than three quarters are pushed, even with one more.
+    below_three_quarters: usize,
+}
+
+/// In heaps of every eighth size.
+fn count_fewer(alloc: Global, step: Step) -> Fewer {
+    let mut fewer = Fewer {
+        heaps: 0,
+        most: 0,
+        below_three_quarters: 0,
+    };
+    for limit in (0..=LARGEST).step_by(8) {
+        let heap = TestHeap::holding(alloc, limit);
+        let plain = held(
+            Plain {
+                code: Vec::new(&heap),
+                told: Vec::new(&heap),
+            },
+            step,
+        );
+        let heap = TestHeap::holding(alloc, limit);
+        let pushed = held(Pushes(CodeBuffer::new(&heap)), step);
+        if pushed < plain {
+            fewer.heaps = fewer.heaps.saturating_add(1);
+            fewer.most = fewer.most.max(plain.saturating_sub(pushed));
+        }
+        if pushed.saturating_add(1).saturating_mul(4) < plain.saturating_mul(3) {
+            fewer.below_three_quarters = fewer.below_three_quarters.saturating_add(1);
+        }
+    }
+    fewer
+}
+
+#[test]
+fn a_small_heap_holds_three_quarters_of_the_pushes(rt: HostRuntime) {
+    // A list that can't double grows by what is missing, up to half of the heap. One that doubles takes two thirds at most.
+    for (step, heaps, most) in [(COMPARE, 19, 17), (SHIFT, 139, 207), (ADD, 139, 32)] {
+        let fewer = Fewer {
+            heaps,
+            most,
+            below_three_quarters: 0,
+        };
+        assert_eq!(rt; count_fewer(rt.alloc(), step), fewer, "{step:?}");
+    }
 }
