@@ -1,7 +1,6 @@
-use Rattle.std.proofs.Common.{◌≡◌, ◌∙◌, ℕ, ◌+◌, ◌-◌, ◌*◌, ◌<◌, ◌^◌, arith, refl, ap, sym, subst, ◌≤◌, Bool, true, false, Option, Some, None, List, ℤ, pos, negsuc, ◌≤ℤ◌, length}
-use Rattle.std.specs.Prelude.{◌-ℤ◌, ◌<ℤ◌, ◌==◌, ◌&&◌, ◌||◌, not, nat_le, nat_lt, if◌then◌else◌, is_none, is_some, option_and_then, option_map}
+use Rattle.std.proofs.Common.{◌≡◌, ◌∙◌, ℕ, ◌+◌, ◌-◌, ◌*◌, ◌<◌, ◌^◌, arith, refl, ap, sym, subst, Bool, true, false, Option, Some, None, List, ℤ, pos, length}
+use Rattle.std.specs.Prelude.{◌==◌, ◌&&◌, ◌||◌, not, nat_le, nat_lt, if◌then◌else◌, is_none, is_some, option_and_then, option_map}
 use Rattle.std.proofs.lemmas.Bool.Decides.{nat_tests}
-use Rattle.std.proofs.lemmas.Int.{ints}
 use Rattle.std.proofs.lemmas.Option.{same_Some}
 use Rattle.cax64_encoder.specs.Nop.{nop_place}
 use Rattle.cax64_machine_code.specs.Fields.{IsBytes, number_at, signed_of}

@@ -1,12 +1,10 @@
-use Rattle.std.proofs.Common.{◌≡◌, ◌↔◌, ◌&&◌, Bool, true, false, ℕ, ℤ, nat_eq, int_eq, refl, rules, ap, Option, Some, None, List, [], ◌∷◌}
+use Rattle.std.proofs.Common.{◌≡◌, ◌&&◌, Bool, true, false, ℕ, ℤ, nat_eq, int_eq, refl, rules, ap, Option, Some, None, List, [], ◌∷◌}
 use Rattle.std.specs.Option.{option_eq}
 use Rattle.std.proofs.lemmas.Option.{same_Some}
 use Rattle.std.proofs.Math.Bool.{Bool-set}
 use lib.Pointwise.{pointwise}
 use mathlib.Core.HLevel.{is_prop→PathP}
-
 use Rattle.cax64_address.specs.declared.amode.Scale.{Scale}
-use Rattle.cax64_machine_code.specs.declared.row.Row.{Row}
 use Rattle.cax64_machine_code.proofs.Equality.{Tells, tells_row}
 use Rattle.cax64_address.proofs.Equality.{tells_five, tells_late, tells_offset, tells_scale, tells_target, tells_three, tells_trap}
 use Rattle.cax64_address.specs.declared.amode.Amode.{Amode}

@@ -1,7 +1,6 @@
-use Rattle.std.proofs.Common.{◌≡◌, ◌↔◌, ℕ, refl, ◌∙◌, ap, sym, subst, Bool, true, false, Option, Some, None}
-use Rattle.std.specs.Prelude.{◌&&◌, not, if◌then◌else◌, is_none, is_some}
+use Rattle.std.proofs.Common.{◌≡◌, ◌↔◌, refl, ◌∙◌, ap, sym, Bool, true, false, Option, Some, None}
+use Rattle.std.specs.Prelude.{not, if◌then◌else◌, is_none, is_some}
 use Rattle.std.proofs.lemmas.Bool.{and_parts}
-use Rattle.std.proofs.lemmas.Option.{same_Some}
 use Rattle.cax64_encoder.specs.Nop.{nop_place}
 use Rattle.cax64_machine_code.specs.Rows.{line_of}
 use Rattle.cax64_machine_code.specs.declared.line.Line.{Line}
@@ -11,7 +10,7 @@ use Rattle.cax64_operand.specs.declared.nop.Nop.{Nop}
 use Rattle.cax64_operand.specs.declared.nop.Nop.TheVariants.{One, Two, Three, Four, Five, Six, Seven, Eight, Nine}
 use Rattle.cax64_table.specs.Numbers.{has_register, has_vvvv}
 use Rattle.cax64_inst_data.specs.Lengths.{has_length}
-use Rattle.cax64_inst_data.specs.OfReading.{IsRead, imm_given, is_bare, is_data, is_left_out, nop_at, nop_for, number_given, operands_given, place_given, register_given}
+use Rattle.cax64_inst_data.specs.OfReading.{IsRead, imm_given, is_bare, is_data, is_left_out, nop_for, number_given, operands_given, place_given, register_given}
 use Rattle.cax64_inst_data.specs.Refusal.{is_nop_row}
 use Rattle.cax64_inst_data.proofs.BytesGiven.{bytes_are_data}
 use Rattle.cax64_inst_data.proofs.ReadNops.{nop_place_is, nop_row_is}

@@ -1,5 +1,5 @@
 use Rattle.std.proofs.Common.{◌≡◌, ℕ, zero, suc, refl, ◌∙◌, ap, sym, Bool, true, false, Option, Some, None, List, [], ◌∷◌, ℤ, length, drop}
-use Rattle.std.specs.Prelude.{◌==◌, ◌&&◌, not, if◌then◌else◌, is_none, nat_le, option_map}
+use Rattle.std.specs.Prelude.{◌==◌, not, if◌then◌else◌, nat_le, option_map}
 use Rattle.std.proofs.lemmas.Bool.{and_parts}
 use Rattle.cax64_address.specs.declared.amode.Amode.{Amode}
 use Rattle.cax64_address.specs.declared.amode.Amode.TheVariants.{ImmReg, ImmRegRegShift, RipRelative}

@@ -1,16 +1,14 @@
-use Rattle.std.proofs.Common.{◌≡◌, ℕ, zero, suc, ◌+◌, ◌-◌, ◌*◌, ◌/◌, ◌<◌, ◌%◌, ◌^◌, ◌≤◌, arith, refl, ap, sym, subst, ◌∙◌, Bool, true, false, Option, Some, None, List, [], ◌∷◌, ℤ, pos, negsuc, ◌*ℤ◌, ◌⊎◌, inl, inr, length}
-use Rattle.std.specs.Prelude.{◌==◌, ◌&&◌, ◌||◌, not, nat_le, nat_lt, if◌then◌else◌, is_some, option_and_then, option_map}
+use Rattle.std.proofs.Common.{◌≡◌, ℕ, zero, suc, ◌+◌, ◌-◌, ◌*◌, ◌/◌, ◌<◌, ◌%◌, ◌^◌, ◌≤◌, arith, refl, ap, sym, subst, Bool, true, false, Option, Some, None, List, [], ◌∷◌, ℤ, pos, ◌*ℤ◌, ◌⊎◌, inl, inr, length}
+use Rattle.std.specs.Prelude.{◌==◌, ◌&&◌, ◌||◌, not, nat_le, if◌then◌else◌, is_some, option_and_then, option_map}
 use Rattle.std.proofs.lemmas.Bool.{and_parts}
 use Rattle.std.proofs.lemmas.Bool.Decides.{nat_tests}
-use Rattle.std.proofs.lemmas.Int.{ints}
 use Rattle.std.proofs.lemmas.Option.{same_Some}
 use Rattle.cax64_machine_code.specs.Fields.{IsBytes, base_of, index_of, mod_of, number_at, reg_of, rm_of, s32, s8, scale_of, signed_of}
-use Rattle.cax64_machine_code.specs.Len.{fits_two_byte_vex, has_rex_byte, index_is_high, is_high, is_special, is_w1, legacy_len, number_in, one_if, opcode_len, place_is_high, place_is_special, reg_is_high, reg_is_special}
+use Rattle.cax64_machine_code.specs.Len.{has_rex_byte, index_is_high, is_high, is_special, is_w1, legacy_len, number_in, one_if, opcode_len, place_is_high, place_is_special, reg_is_high, reg_is_special}
 use Rattle.cax64_machine_code.specs.Line.{after, field_matches, imm_bytes, opcode_at, opcode_bytes, prefix_matches, same_legacy, w_matches}
-use Rattle.cax64_machine_code.specs.Prefix.{Prefix, Rex, Vex, after_legacy, after_vex, b_of, begins_vex, has_rex, is_no_legacy, is_vex_map, legacy_at, legacy_prefix, no_legacy, no_rex, prefix_at, r_of, rex_at, rex_of, vex_at, vex_prefix, vex_three_byte, vex_two_byte, w_of, x_of}
+use Rattle.cax64_machine_code.specs.Prefix.{Prefix, Rex, Vex, after_legacy, after_vex, b_of, begins_vex, has_rex, is_no_legacy, is_vex_map, legacy_at, legacy_prefix, no_legacy, prefix_at, r_of, rex_at, rex_of, vex_at, vex_prefix, vex_three_byte, vex_two_byte, w_of, x_of}
 use Rattle.cax64_machine_code.specs.Reading.{Found, Parts, find, imm_at, operands_at, operands_of, place_at, read, reading_of, reg_view, view_of, vvvv_at}
 use Rattle.cax64_machine_code.specs.Rows.{all_rows, line_of}
-use Rattle.cax64_machine_code.specs.Sequence.{parts_of}
 use Rattle.cax64_machine_code.specs.Tail.{Tail, disp32_at, disp8_at, disp_at, displaced, read_tail, scaled_index, sib_at}
 use Rattle.cax64_machine_code.specs.declared.line.ImmField.{ImmField}
 use Rattle.cax64_machine_code.specs.declared.line.ImmField.TheVariants.{NoImm, Imm, Simm}
@@ -29,15 +27,14 @@ use Rattle.cax64_machine_code.specs.declared.line.VvvvField.{VvvvField}
 use Rattle.cax64_machine_code.specs.declared.reading.Place.{Place}
 use Rattle.cax64_machine_code.specs.declared.reading.Place.TheVariants.{Reg, Mem, Rip}
 use Rattle.cax64_machine_code.specs.declared.reading.Reading.{Reading}
-use Rattle.cax64_machine_code.specs.declared.reading.RegView.{RegView}
 use Rattle.cax64_machine_code.specs.declared.reading.RegView.TheVariants.{Low, High}
 use Rattle.cax64_machine_code.specs.declared.row.Row.{Row}
-use Rattle.cax64_machine_code.proofs.Forms.{first_byte, later_bytes}
+use Rattle.cax64_machine_code.proofs.Forms.{later_bytes}
 use Rattle.cax64_machine_code.proofs.NoShorter.{alone, displaced_is}
 use Rattle.cax64_machine_code.proofs.Uniqueness.{behind, legacy_same, some_if}
 use Rattle.cax64_machine_code.proofs.Whole.{read_found, row_matches, steps}
 use Rattle.cax64_operand.specs.Immediate.{signed_below}
-use Rattle.cax64_inst_data.specs.Lengths.{behind_prefix, disp_has, has_length, is_zero, memory_has, needs_no_sib, prefix_has, tail_has}
+use Rattle.cax64_inst_data.specs.Lengths.{behind_prefix, disp_has, has_length, memory_has, prefix_has, tail_has}
 use Rattle.cax64_inst_data.proofs.PrefixBytes.{Prefixed, after_kept, prefixed}
 use Rattle.cax64_inst_data.proofs.TailBytes.{below_signed, number_given, tail_given}
 
@@ -162,14 +159,14 @@ by_legacy : (all : List ℕ) (l : LegacySet × List ℕ) (p : Prefix) (rest : Li
 by_legacy all l p rest long h =
     choose (is_no_legacy l.0 && begins_vex l.1) _ _ _
     (λ t e.
-      let v = by_vex (vex_at l.1) l.1 p rest refl e in
-      let none = no_len l.0 (and_parts (is_no_legacy l.0) _ t).0 in
-      record { size = v.size; is = v.is; long = omega (arith, long, none, v.long) })
+    let v = by_vex (vex_at l.1) l.1 p rest refl e in
+    let none = no_len l.0 (and_parts (is_no_legacy l.0) _ t).0 in
+    record { size = v.size; is = v.is; long = omega (arith, long, none, v.long) })
     (λ t e.
-      let same : legacy_prefix l.0 (rex_at l.1).0 ≡ p = first_same _ _ _ _ (same_Some _ _ e) in
-      let left : (rex_at l.1).1 ≡ rest = second_same _ _ _ _ (same_Some _ _ e) in
-      let rex = rex_long l.1 (rex_at l.1).0 (rex_at l.1).1 refl in
-      rw (← same, ← left) (record { size = legacy_len l.0 + one_if (is_some (rex_at l.1).0); is = refl; long = omega (arith, long, rex) })) h
+    let same : legacy_prefix l.0 (rex_at l.1).0 ≡ p = first_same _ _ _ _ (same_Some _ _ e) in
+    let left : (rex_at l.1).1 ≡ rest = second_same _ _ _ _ (same_Some _ _ e) in
+    let rex = rex_long l.1 (rex_at l.1).0 (rex_at l.1).1 refl in
+    rw (← same, ← left) (record { size = legacy_len l.0 + one_if (is_some (rex_at l.1).0); is = refl; long = omega (arith, long, rex) })) h
 
 prefix_long : (bytes : List ℕ) (p : Prefix) (rest : List ℕ) → prefix_at bytes ≡ Some (p, rest) → Before p bytes rest
 unfolding prefix_at
@@ -266,9 +263,9 @@ unfolding disp_at
 disp_long low mode bytes d hb h =
     choose (mode == 0) _ _ _
     (λ t e.
-      let value : pos 0 ≡ d.0 = ap (λ (z : ℤ × List ℕ). z.0) (same_Some _ _ e) in
-      let left : bytes ≡ d.1 = ap (λ (z : ℤ × List ℕ). z.1) (same_Some _ _ e) in
-      record { size = 0; long = rw (← left) (omega arith); has = λ base same other. no_bytes_has base low mode d.0 value same t other })
+    let value : pos 0 ≡ d.0 = ap (λ (z : ℤ × List ℕ). z.0) (same_Some _ _ e) in
+    let left : bytes ≡ d.1 = ap (λ (z : ℤ × List ℕ). z.1) (same_Some _ _ e) in
+    record { size = 0; long = rw (← left) (omega arith); has = λ base same other. no_bytes_has base low mode d.0 value same t other })
     (λ _. choose (mode == 1) _ _ _
     (λ t e. record { size = 1; long = disp8_long bytes d e; has = λ base same other. rw (disp8_fits bytes d hb e) refl })
     (λ t e. record { size = 4; long = disp32_long bytes d e; has = λ base same other. rw (disp32_fits bytes d hb e) refl })) h
@@ -335,19 +332,19 @@ sib_long x b modrm [] t hb h = absurd cc
 sib_long x b modrm (sib ∷ bytes) t hb h =
     choose ((base_of sib == 5) && (mod_of modrm == 0)) _ _ _
     (λ _ e.
-      let d = displaced_is (reg_of modrm) (Mem None (scaled_index x sib)) (disp32_at bytes) t e in
-      let long = disp32_long bytes (d.disp, d.rest) d.found in
-      rw d.tail (record { size = 6; long = omega (arith, long); has = refl; low = λ f g. neither _ false (index_low x sib f) refl }))
+    let d = displaced_is (reg_of modrm) (Mem None (scaled_index x sib)) (disp32_at bytes) t e in
+    let long = disp32_long bytes (d.disp, d.rest) d.found in
+    rw d.tail (record { size = 6; long = omega (arith, long); has = refl; low = λ f g. neither _ false (index_low x sib f) refl }))
     (λ five e.
-      let d = displaced_is (reg_of modrm) (Mem (Some (base_of sib + 8 * b)) (scaled_index x sib)) (disp_at (mod_of modrm) 1 bytes) t e in
-      let there = disp_long (base_of sib) (mod_of modrm) bytes (d.disp, d.rest) (later_bytes sib bytes hb) d.found in
-      let long = there.long in
-      rw d.tail (record {
-        size = 2 + there.size;
-        long = omega (arith, long);
-        has = beside_sib (base_of sib + 8 * b) (scaled_index x sib) d.disp there.size (there.has (base_of sib + 8 * b) (low_bits (base_of sib) b (omega arith)) five);
-        low = λ f g. neither _ _ (index_low x sib f) (below_eight (base_of sib) b (omega arith) g);
-      })) h
+    let d = displaced_is (reg_of modrm) (Mem (Some (base_of sib + 8 * b)) (scaled_index x sib)) (disp_at (mod_of modrm) 1 bytes) t e in
+    let there = disp_long (base_of sib) (mod_of modrm) bytes (d.disp, d.rest) (later_bytes sib bytes hb) d.found in
+    let long = there.long in
+    rw d.tail (record {
+      size = 2 + there.size;
+      long = omega (arith, long);
+      has = beside_sib (base_of sib + 8 * b) (scaled_index x sib) d.disp there.size (there.has (base_of sib + 8 * b) (low_bits (base_of sib) b (omega arith)) five);
+      low = λ f g. neither _ _ (index_low x sib f) (below_eight (base_of sib) b (omega arith) g);
+    })) h
 
 register_long : (x b modrm : ℕ) (bytes : List ℕ) (t : Tail) → ◌≡◌ {A = Option Tail} (Some (record { reg = reg_of modrm; place = Reg (Low (rm_of modrm + 8 * b)); rest = bytes })) (Some t) → TailLong x b (modrm ∷ bytes) t
 register_long x b modrm bytes t h =

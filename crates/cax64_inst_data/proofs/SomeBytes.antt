@@ -1,22 +1,17 @@
-use Rattle.std.proofs.Common.{◌≡◌, ◌≢◌, ℕ, ◌+◌, ◌-◌, ◌*◌, ◌/◌, ◌%◌, ◌<◌, ◌≤◌, ◌^◌, arith, refl, ap, sym, subst, ◌∙◌, Bool, true, false, Option, Some, None, List, [], ◌∷◌, ◌++◌, ℤ, pos, negsuc, ◌*ℤ◌, length, w8, w16, w32, FitsSigned}
-use Rattle.std.specs.Prelude.{◌==◌, ◌&&◌, ◌||◌, not, nat_le, nat_lt, if◌then◌else◌, is_none, is_some, option_map}
-use Rattle.std.specs.Int.{cast_unsigned, to_le_bytes}
+use Rattle.std.proofs.Common.{◌≡◌, ℕ, ◌+◌, ◌-◌, ◌*◌, ◌/◌, ◌%◌, ◌<◌, ◌≤◌, arith, refl, ap, sym, ◌∙◌, Bool, true, false, Option, Some, None, List, [], ◌∷◌, ◌++◌, ℤ, length}
+use Rattle.std.specs.Prelude.{◌==◌, ◌&&◌, ◌||◌, not, nat_le, nat_lt, if◌then◌else◌, is_none}
 use Rattle.std.proofs.lemmas.Bool.{and_parts}
 use Rattle.std.proofs.lemmas.Bool.Decides.{nat_tests}
-use Rattle.std.proofs.lemmas.Int.{ints}
-use Rattle.std.proofs.lemmas.List.{append_assoc, append-nil, length-append}
+use Rattle.std.proofs.lemmas.List.{append_assoc, length-append}
 use Rattle.std.proofs.lemmas.List.Elements.{All-append}
-use Rattle.std.proofs.lemmas.Option.{same_Some}
 use Rattle.cax64_machine_code.specs.Fields.{IsBytes}
 use Rattle.cax64_machine_code.specs.Len.{fits_two_byte_vex, has_rex_byte, is_w1, legacy_len, one_if, opcode_len, place_is_high, place_is_special, reg_is_high, reg_is_special}
-use Rattle.cax64_machine_code.specs.Line.{field_matches, imm_bytes, opcode_bytes, prefix_matches, same_legacy, vvvv_matches, w_matches}
-use Rattle.cax64_machine_code.specs.Prefix.{Prefix, Rex, Vex, b_of, has_rex, legacy_prefix, prefix_at, r_of, vex_prefix, vvvv_of, w_of, x_of}
-use Rattle.cax64_machine_code.specs.Reading.{Found, Parts, find, imm_at, place_at, read, reg_view, view_of, vvvv_at}
+use Rattle.cax64_machine_code.specs.Line.{opcode_bytes, prefix_matches, vvvv_matches, w_matches}
+use Rattle.cax64_machine_code.specs.Prefix.{Prefix, Rex, Vex, b_of, has_rex, legacy_prefix, prefix_at, r_of, vex_prefix, x_of}
+use Rattle.cax64_machine_code.specs.Reading.{Parts, find, place_at, read, reg_view, view_of, vvvv_at}
 use Rattle.cax64_machine_code.specs.Rows.{line_of}
 use Rattle.cax64_machine_code.specs.Sequence.{parts_of}
-use Rattle.cax64_machine_code.specs.Tail.{IsTail, Tail, disp_at}
-use Rattle.cax64_machine_code.specs.declared.line.ImmField.{ImmField}
-use Rattle.cax64_machine_code.specs.declared.line.ImmField.TheVariants.{NoImm, Imm, Simm}
+use Rattle.cax64_machine_code.specs.Tail.{IsTail}
 use Rattle.cax64_machine_code.specs.declared.line.LegacySet.{LegacySet}
 use Rattle.cax64_machine_code.specs.declared.line.Line.{Line}
 use Rattle.cax64_machine_code.specs.declared.line.Opcode.{Opcode}
@@ -36,24 +31,19 @@ use Rattle.cax64_machine_code.specs.declared.reading.Reading.{Reading}
 use Rattle.cax64_machine_code.specs.declared.reading.RegView.{RegView}
 use Rattle.cax64_machine_code.specs.declared.reading.RegView.TheVariants.{Low, High}
 use Rattle.cax64_machine_code.specs.declared.row.Row.{Row}
-use Rattle.cax64_machine_code.proofs.Bytes.{four_back, one_back, s32_back, s8_back, two_back}
-use Rattle.cax64_machine_code.proofs.NoShorter.{alone}
 use Rattle.cax64_machine_code.proofs.Reached.{more_bytes, no_bytes}
-use Rattle.cax64_machine_code.proofs.Tails.{base_back, none_back, register_back, sib_back}
 use Rattle.cax64_machine_code.proofs.Uniqueness.{legacy_self}
-use Rattle.cax64_machine_code.proofs.Written.{BeginsWith, DigitIs, IsImm, IsPrefix, bare_found, tail_found}
-use Rattle.cax64_operand.specs.Immediate.{signed_below}
+use Rattle.cax64_machine_code.proofs.Written.{BeginsWith, DigitIs, IsPrefix, bare_found, tail_found}
 use Rattle.cax64_prefix.specs.Rex.{rex_byte}
-use Rattle.cax64_prefix.specs.Vex.{fits_two_bytes, vex_bytes}
+use Rattle.cax64_prefix.specs.Vex.{fits_two_bytes}
 use Rattle.cax64_prefix.specs.declared.vex.VexPrefix.TheVariants.{TwoByte, ThreeByte}
 use Rattle.cax64_prefix.proofs.Prefixes.{legacy_bytes, plain_is, prefix_vex, prefix_with_rex, prefix_without_rex}
 use Rattle.cax64_prefix.proofs.RexBits.{AreBits}
 use Rattle.cax64_prefix.proofs.VexBits.{IsVex, three_reads, two_reads}
 use Rattle.cax64_table.specs.Entry.{first_byte, is_8bit_once, is_digit, is_line, is_plain, is_prefix_field, is_w, is_w0, has_tail}
 use Rattle.cax64_table.specs.Numbers.{has_8bit, has_register, has_vvvv, is_vex}
-use Rattle.cax64_inst_data.specs.Lengths.{behind_prefix, disp_has, has_length, is_zero, memory_has, needs_no_sib, prefix_has, tail_has}
-use Rattle.cax64_inst_data.specs.OfReading.{IsRead, imm_given, index_given, is_factor, is_low, memory_given, number_given, operand_given, operands_given, place_given, register_given}
-use Rattle.cax64_inst_data.specs.Refusal.{unsigned_below}
+use Rattle.cax64_inst_data.specs.Lengths.{behind_prefix, has_length, prefix_has, tail_has}
+use Rattle.cax64_inst_data.specs.OfReading.{IsRead, imm_given, memory_given, number_given, operand_given, operands_given, place_given, register_given}
 use Rattle.cax64_inst_data.specs.ReadOperands.{has_size}
 use Rattle.cax64_encoder.proofs.Table.{row_is_line}
 use Rattle.cax64_inst_data.proofs.ReadAgain.{row_has_size}
@@ -312,11 +302,11 @@ prefix_made (VexField pp map l field) line parts reg x b vvvv special size e f w
     either (size == 3) _
     (λ k. rw (number_is size 3 k) (three_made line pp map l field reg x b vvvv special e v w g (plain refl) hr hx hb))
     (λ k.
-      let two = and_parts (fits_two_byte_vex map line.w parts.place) (size == 2) k in
-      let one = and_parts (map == 1) _ two.0 in
-      let rest = and_parts (not (place_is_high parts.place)) _ one.1 in
-      let zeros = low (not_true _ rest.0) in
-      rw (number_is size 2 two.1) (two_made line pp map l field reg x b vvvv special e v w g (plain refl) hr zeros.0 zeros.1 (not_true _ rest.1) (number_is map 1 one.0))) h
+    let two = and_parts (fits_two_byte_vex map line.w parts.place) (size == 2) k in
+    let one = and_parts (map == 1) _ two.0 in
+    let rest = and_parts (not (place_is_high parts.place)) _ one.1 in
+    let zeros = low (not_true _ rest.0) in
+    rw (number_is size 2 two.1) (two_made line pp map l field reg x b vvvv special e v w g (plain refl) hr zeros.0 zeros.1 (not_true _ rest.1) (number_is map 1 one.0))) h
 
 -- the opcode
 

@@ -1,59 +1,27 @@
-use Rattle.std.proofs.Common.{◌≡◌, ◌≢◌, ℕ, ◌+◌, ◌-◌, ◌*◌, ◌/◌, ◌%◌, ◌<◌, ◌≤◌, ◌^◌, arith, refl, ap, sym, subst, ◌∙◌, Bool, true, false, Option, Some, None, List, [], ◌∷◌, ◌++◌, ℤ, pos, negsuc, ◌*ℤ◌, length, w8, w16, w32, FitsSigned}
-use Rattle.std.specs.Prelude.{◌==◌, ◌&&◌, ◌||◌, not, nat_le, nat_lt, if◌then◌else◌, is_none, is_some, option_map}
+use Rattle.std.proofs.Common.{◌≡◌, ◌≢◌, ℕ, ◌+◌, ◌-◌, ◌*◌, ◌/◌, ◌%◌, ◌<◌, ◌^◌, arith, refl, ap, sym, subst, ◌∙◌, Bool, true, false, Option, Some, None, List, [], ◌∷◌, ◌++◌, ℤ, pos, negsuc, length, w8, w16, w32, FitsSigned}
+use Rattle.std.specs.Prelude.{◌==◌, ◌&&◌, ◌||◌, not, nat_le, nat_lt, if◌then◌else◌}
 use Rattle.std.specs.Int.{cast_unsigned, to_le_bytes}
 use Rattle.std.proofs.lemmas.Bool.{and_parts}
 use Rattle.std.proofs.lemmas.Bool.Decides.{nat_tests}
 use Rattle.std.proofs.lemmas.Int.{ints}
-use Rattle.std.proofs.lemmas.List.{append_assoc, append-nil, length-append}
-use Rattle.std.proofs.lemmas.List.Elements.{All-append}
-use Rattle.std.proofs.lemmas.Option.{same_Some}
 use Rattle.cax64_machine_code.specs.Fields.{IsBytes}
-use Rattle.cax64_machine_code.specs.Len.{fits_two_byte_vex, has_rex_byte, is_w1, legacy_len, one_if, opcode_len, place_is_high, place_is_special, reg_is_high, reg_is_special}
-use Rattle.cax64_machine_code.specs.Line.{field_matches, imm_bytes, opcode_bytes, prefix_matches, same_legacy, vvvv_matches, w_matches}
-use Rattle.cax64_machine_code.specs.Prefix.{Prefix, Rex, Vex, b_of, has_rex, legacy_prefix, prefix_at, r_of, vex_prefix, vvvv_of, w_of, x_of}
-use Rattle.cax64_machine_code.specs.Reading.{Found, Parts, find, imm_at, place_at, read, reg_view, view_of, vvvv_at}
-use Rattle.cax64_machine_code.specs.Rows.{line_of}
-use Rattle.cax64_machine_code.specs.Sequence.{parts_of}
+use Rattle.cax64_machine_code.specs.Line.{imm_bytes}
 use Rattle.cax64_machine_code.specs.Tail.{IsTail, Tail, disp_at}
 use Rattle.cax64_machine_code.specs.declared.line.ImmField.{ImmField}
 use Rattle.cax64_machine_code.specs.declared.line.ImmField.TheVariants.{NoImm, Imm, Simm}
-use Rattle.cax64_machine_code.specs.declared.line.LegacySet.{LegacySet}
-use Rattle.cax64_machine_code.specs.declared.line.Line.{Line}
-use Rattle.cax64_machine_code.specs.declared.line.Opcode.{Opcode}
 use Rattle.cax64_machine_code.specs.declared.line.PlaceField.{PlaceField}
 use Rattle.cax64_machine_code.specs.declared.line.PlaceField.TheVariants.{Memory, RegisterOrMemory, Register8OrMemory}
-use Rattle.cax64_machine_code.specs.declared.line.PrefixField.{PrefixField}
-use Rattle.cax64_machine_code.specs.declared.line.PrefixField.TheVariants.{LegacyField, VexField}
-use Rattle.cax64_machine_code.specs.declared.line.RegField.{RegField}
-use Rattle.cax64_machine_code.specs.declared.line.RegField.TheVariants.{Digit, Register8, Register}
-use Rattle.cax64_machine_code.specs.declared.line.TailField.{TailField}
-use Rattle.cax64_machine_code.specs.declared.line.TailField.TheVariants.{NoTail, Modrm}
-use Rattle.cax64_machine_code.specs.declared.line.VvvvField.{VvvvField}
-use Rattle.cax64_machine_code.specs.declared.line.VvvvField.TheVariants.{VvvvRegister, Stored1111}
 use Rattle.cax64_machine_code.specs.declared.reading.Place.{Place}
 use Rattle.cax64_machine_code.specs.declared.reading.Place.TheVariants.{Reg, Mem, Rip}
-use Rattle.cax64_machine_code.specs.declared.reading.Reading.{Reading}
-use Rattle.cax64_machine_code.specs.declared.reading.RegView.{RegView}
 use Rattle.cax64_machine_code.specs.declared.reading.RegView.TheVariants.{Low, High}
-use Rattle.cax64_machine_code.specs.declared.row.Row.{Row}
 use Rattle.cax64_machine_code.proofs.Bytes.{four_back, one_back, s32_back, s8_back, two_back}
 use Rattle.cax64_machine_code.proofs.NoShorter.{alone}
 use Rattle.cax64_machine_code.proofs.Reached.{more_bytes, no_bytes}
 use Rattle.cax64_machine_code.proofs.Tails.{base_back, none_back, register_back, sib_back}
-use Rattle.cax64_machine_code.proofs.Uniqueness.{legacy_self}
-use Rattle.cax64_machine_code.proofs.Written.{BeginsWith, DigitIs, IsImm, IsPrefix, bare_found, tail_found}
+use Rattle.cax64_machine_code.proofs.Written.{IsImm}
 use Rattle.cax64_operand.specs.Immediate.{signed_below}
-use Rattle.cax64_prefix.specs.Rex.{rex_byte}
-use Rattle.cax64_prefix.specs.Vex.{fits_two_bytes, vex_bytes}
-use Rattle.cax64_prefix.specs.declared.vex.VexPrefix.TheVariants.{TwoByte, ThreeByte}
-use Rattle.cax64_prefix.proofs.Prefixes.{legacy_bytes, plain_is, prefix_vex, prefix_with_rex, prefix_without_rex}
-use Rattle.cax64_prefix.proofs.RexBits.{AreBits}
-use Rattle.cax64_prefix.proofs.VexBits.{IsVex, three_reads, two_reads}
-use Rattle.cax64_table.specs.Entry.{first_byte, is_8bit_once, is_digit, is_line, is_plain, is_prefix_field, is_w, is_w0, has_tail}
-use Rattle.cax64_table.specs.Numbers.{has_8bit, has_register, has_vvvv, is_vex}
-use Rattle.cax64_inst_data.specs.Lengths.{behind_prefix, disp_has, has_length, is_zero, memory_has, needs_no_sib, prefix_has, tail_has}
-use Rattle.cax64_inst_data.specs.OfReading.{imm_given, index_given, is_factor, is_low, memory_given, number_given, operand_given, operands_given, place_given, register_given}
-use Rattle.cax64_inst_data.specs.Refusal.{unsigned_below}
+use Rattle.cax64_inst_data.specs.Lengths.{disp_has, is_zero, memory_has, needs_no_sib, tail_has}
+use Rattle.cax64_inst_data.specs.OfReading.{imm_given, index_given, is_factor, memory_given, operand_given}
 use Rattle.cax64_inst_data.specs.ReadOperands.{has_size}
 
 -- Bytes of an immediate and of a tail, for each number of them that a reading can have.

@@ -1,4 +1,4 @@
-use Rattle.std.specs.Prelude.{ℕ, ◌+◌, ◌-◌, ◌%◌, ◌^◌, ◌==◌, ◌&&◌, ◌||◌, not, nat_le, Bool, true, false, Option, Some, None, ℤ, pos, negsuc}
+use Rattle.std.specs.Prelude.{ℕ, ◌+◌, ◌-◌, ◌%◌, ◌^◌, ◌==◌, ◌&&◌, ◌||◌, not, nat_le, Bool, false, Option, Some, None, ℤ, pos, negsuc}
 use Rattle.cax64_machine_code.specs.Len.{fits_two_byte_vex, has_rex_byte, legacy_len, opcode_len}
 use Rattle.cax64_machine_code.specs.Line.{imm_bytes}
 use Rattle.cax64_machine_code.specs.Reading.{Parts}

@@ -131,10 +131,7 @@ fn legacy_len(set: LegacySet) -> u16
     ensures len { result ≡ legacy_len set }
     ensures most { result ≤ 4 }
 {
-    u16::from(set.lock)
-        + u16::from(set.operand_size)
-        + u16::from(set.repne)
-        + u16::from(set.rep)
+    u16::from(set.lock) + u16::from(set.operand_size) + u16::from(set.repne) + u16::from(set.rep)
 }
 
 /// Whether two bytes of VEX hold what has to stand there.

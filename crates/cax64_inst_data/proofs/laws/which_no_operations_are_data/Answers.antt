@@ -1,4 +1,3 @@
-use Rattle.std.proofs.Common.{refl}
 use Rattle.cax64_inst_data.proofs.ReadNops.{nops_are_data, nops_found, no_other}
 use Rattle.cax64_inst_data.proofs.laws.which_no_operations_are_data.Goals as goal
 

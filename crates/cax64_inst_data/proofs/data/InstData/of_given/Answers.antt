@@ -1,4 +1,4 @@
-use Rattle.std.proofs.Common.{refl, ◌∙◌, sym}
+use Rattle.std.proofs.Common.{◌∙◌, sym}
 use Rattle.cax64_inst_data.proofs.Content.{none_listed}
 use Rattle.cax64_inst_data.proofs.ReadAgain.{bare_by, fits_by, means_by, sized_by}
 use Rattle.cax64_inst_data.proofs.ReadNops.{no_nop, nop_bare, nop_encodable, nop_means, nop_own}
@@ -47,5 +47,5 @@ pub returns-clause-encodable : goal.returns-clause-encodable
 returns-clause-encodable c = λ offsets.
     encodable_by c.args.reading.now.row c.args.reading.now.place c.in_ok-place.place c.in_ok-reg.reg c.in_ok-vvvv.vvvv c.in_ok-imm.imm c.expected.result
     (fits_by c.args.reading.now.row c.line-line.result c.has_register.result c.has_vvvv.result c.in_ok-reg.reg c.in_ok-vvvv.vvvv c.in_ok-place.place.kind c.in_ok-imm.imm c.expected.result
-      c.line-line.ensures c.has_register.ensures c.has_vvvv.ensures c.expected.ensures c.in_ok-reg.ensures.absent c.in_ok-vvvv.ensures.absent c.in_ok-place.ensures.fits c.in_ok-imm.ensures.fits)
+    c.line-line.ensures c.has_register.ensures c.has_vvvv.ensures c.expected.ensures c.in_ok-reg.ensures.absent c.in_ok-vvvv.ensures.absent c.in_ok-place.ensures.fits c.in_ok-imm.ensures.fits)
     c.expected.ensures c.in_ok-reg.ensures.real c.in_ok-vvvv.ensures.real c.in_ok-place.ensures.kept offsets
