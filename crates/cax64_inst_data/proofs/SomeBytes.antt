@@ -33,7 +33,8 @@ use Rattle.cax64_machine_code.specs.declared.reading.RegView.TheVariants.{Low, H
 use Rattle.cax64_machine_code.specs.declared.row.Row.{Row}
 use Rattle.cax64_machine_code.proofs.Reached.{more_bytes, no_bytes}
 use Rattle.cax64_machine_code.proofs.Uniqueness.{legacy_self}
-use Rattle.cax64_machine_code.proofs.Written.{BeginsWith, DigitIs, IsPrefix, bare_found, tail_found}
+use Rattle.cax64_machine_code.proofs.ReadLine.{bare_line_found, row_finds, tail_line_found}
+use Rattle.cax64_machine_code.proofs.Written.{BeginsWith, DigitIs, IsPrefix}
 use Rattle.cax64_prefix.specs.Rex.{rex_byte}
 use Rattle.cax64_prefix.specs.Vex.{fits_two_bytes}
 use Rattle.cax64_prefix.specs.declared.vex.VexPrefix.TheVariants.{TwoByte, ThreeByte}
@@ -45,7 +46,7 @@ use Rattle.cax64_table.specs.Numbers.{has_8bit, has_register, has_vvvv, is_vex}
 use Rattle.cax64_inst_data.specs.Lengths.{behind_prefix, has_length, prefix_has, tail_has}
 use Rattle.cax64_inst_data.specs.OfReading.{IsRead, imm_given, memory_given, number_given, operand_given, operands_given, place_given, register_given}
 use Rattle.cax64_inst_data.specs.ReadOperands.{has_size}
-use Rattle.cax64_encoder.proofs.Table.{row_is_line}
+use Rattle.cax64_table.proofs.EntryFacts.{row_is_line}
 use Rattle.cax64_inst_data.proofs.ReadAgain.{row_has_size}
 use Rattle.cax64_inst_data.proofs.SomeParts.{b_in, below, either, imm_made, itself, joined, named, not_true, number_is, one_byte, tail_made, x_in}
 
@@ -353,7 +354,7 @@ bare_bytes r line size t reg place vvvv imm h no_vex =
     let low : place_is_high (parts_of r).place ≡ false → (0 ≡ 0) × (0 ≡ 0) = λ _. (refl, refl) in
     let p : PrefixMade (line_of r.row) 0 0 0 r.vvvv false (r.length - behind_prefix (line_of r.row) r.tail) =
     prefix_made (line_of r.row).prefix (line_of r.row) (parts_of r) 0 0 0 r.vvvv false (r.length - behind_prefix (line_of r.row) r.tail) refl line.prefix line.w vvvv (λ _. refl) (omega arith) (omega arith) (omega arith) (λ k. record { w = (or_false _ _ k).0; r = refl; x_is = refl; b_is = refl; special_is = refl }) low b.1 in
-    let found = bare_found r.row p.p (first_byte (line_of r.row).opcode) p.bytes i.bytes [] r.imm (p.is (first_byte (line_of r.row).opcode) line.plain) o.begins p.matches t i.is in
+    let found = row_finds r.row _ _ (bare_line_found (line_of r.row) p.p (first_byte (line_of r.row).opcode) p.bytes i.bytes [] r.imm (p.is (first_byte (line_of r.row).opcode) line.plain) o.begins p.matches t i.is) in
     let long = all_there (behind_prefix (line_of r.row) r.tail) (r.length - behind_prefix (line_of r.row) r.tail) r.length b.0 refl in
     let l1 = p.long in let l2 = o.long in let l3 = i.long in
     let whole : length (p.bytes ++ (opcode_bytes (line_of r.row).opcode ++ (i.bytes ++ []))) ≡ r.length =
@@ -516,7 +517,7 @@ tail_bytes r reg field place line size t e register operand vvvv imm h =
     let is_tail : IsTail (x_of p.p) (b_of p.p) 1 (number % 8) place made.bytes = rw (p.x_is, p.b_is) made.is in
     let named : place_at field p.p place ≡ Some place = place_back reg field p.p place operand (λ k. p.rexed (either_last (reg_is_special (Modrm reg field) r.reg) _ k)) in
     let view : reg_view reg p.p (number % 8) ≡ r.reg = code_back reg field p.p r.reg register p.r (λ k. p.rexed (either_first (reg_is_special (Modrm reg field) r.reg) _ k)) in
-    let found = tail_found r.row p.p (first_byte (line_of r.row).opcode) reg field (number % 8) place place p.bytes made.bytes i.bytes [] r.imm (p.is (first_byte (line_of r.row).opcode) line.plain) o.begins p.matches t is_tail (code_digit reg field r.reg digit) named i.is in
+    let found = row_finds r.row _ _ (tail_line_found (line_of r.row) p.p (first_byte (line_of r.row).opcode) reg field (number % 8) place place p.bytes made.bytes i.bytes [] r.imm (p.is (first_byte (line_of r.row).opcode) line.plain) o.begins p.matches t is_tail (code_digit reg field r.reg digit) named i.is) in
     let long = all_there (behind_prefix (line_of r.row) r.tail) (r.length - behind_prefix (line_of r.row) r.tail) r.length b.0 refl in
     let l1 = p.long in let l2 = o.long in let l3 = made.long in let l4 = i.long in
     let whole : length (p.bytes ++ (opcode_bytes (line_of r.row).opcode ++ (made.bytes ++ (i.bytes ++ [])))) ≡ r.length =
