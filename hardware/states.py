@@ -32,7 +32,7 @@ MASKED = 0x1F80
 
 
 class LeftOut(Exception):
-    """A state that can't be had on this machine, and why, where that is worth a word."""
+    """A state that can't be had on this machine, and why."""
 
 
 class Machine:
@@ -164,8 +164,7 @@ class Maker:
         try:
             return [self.trial(label, variant)]
         except LeftOut as left:
-            if left.args:
-                self.left_out[f"{label}: {left}"] += 1
+            self.left_out[f"{label}: {left}"] += 1
             if label == "edge" and isinstance(self.instruction.place, Memory):
                 return self.tried("edge fault", 0)
             return []
@@ -237,7 +236,7 @@ class Maker:
         """A relative field that isn't patched names the code itself, which is writable."""
         state, length, width = trial.state, self.instruction.length, self.instruction.width
         if trial.label == "read only":
-            raise LeftOut
+            raise LeftOut("relative operand, beside the code")
         address = 0
         for _ in range(400):
             address = state.rip + length + self.instruction.place.displacement
@@ -249,12 +248,12 @@ class Maker:
         page = address & -PAGE
         if page == CODE:
             if not is_mapped:
-                raise LeftOut
+                raise LeftOut("relative operand, beside the code")
             trial.pages[DATA_PAGE] = 0
             if address + width > state.rip:  # what follows the code may be the operand
                 trial.follow = b""
         elif page == CODE + PAGE and is_edge:
-            raise LeftOut
+            raise LeftOut("relative operand in the page behind the code")
         elif is_mapped:
             trial.pages[DATA_PAGE] = page
 
@@ -293,14 +292,14 @@ class Maker:
 
     def put_absolute(self, trial, address, is_mapped):
         if trial.label == "read only":
-            raise LeftOut
+            raise LeftOut("absolute operand, which isn't in the page that is read only")
         in_page = address % PAGE + self.instruction.width <= PAGE
         if not (self.in_line(address) or self.machine.splits_locks and in_page):
             raise LeftOut("absolute operand across a line or page")
         if is_mapped and not 0x10000 <= address < 0x7FFFFFFFE000:
             raise LeftOut("absolute operand where nothing can be mapped")
         if not is_mapped and address >> 12 == 0xFFFFFFFFFF600:
-            raise LeftOut
+            raise LeftOut("absolute operand in the kernel's page of system calls")
         if is_mapped:
             trial.pages[DATA_PAGE] = address & -PAGE
 

@@ -174,7 +174,7 @@ def judge_rows(lines, order):
             lines.refuse(row.line, name, f"it has no place in all_rows of {ROWS}")
     missing = [name for name in order if name not in rows]
     if missing:
-        others = f", as {len(missing) - 1} others do" if len(missing) > 1 else ""
+        others = f", and so it is with {len(missing) - 1} more" if len(missing) > 1 else ""
         sentence = f"it stands in all_rows of {ROWS}, and no line of the table is its row{others}"
         lines.refuse(0, missing[0], sentence)
     for instruction in lines.instructions:

@@ -32,9 +32,8 @@ names jumps::jump: jump/d8
 {JUMP}
 """
 
-# What stands before an opcode of one byte, and is none. (Intel SDM, volume 2, 2.1.1, 2.2.1, 2.3.) Those that a table has as
-# prefixes are taken for these.
-PREFIXES = (0x26, 0x2E, 0x36, 0x3E, *range(0x40, 0x50), 0x62, 0x64, 0x65, 0x67, 0xC4, 0xC5)
+# What stands before an opcode of one byte, and is none, here behind W0. (Intel SDM, volume 2, 2.1.1, 2.2.1, 2.3.)
+PREFIXES = (0x26, 0x2E, 0x36, 0x3E, *range(0x40, 0x50), 0x62, *range(0x64, 0x68), 0xC4, 0xC5, 0xF0, 0xF2, 0xF3)
 
 # What stands in the place of the addition, and the sentence that it gets.
 BAD_LINES = (
@@ -239,7 +238,7 @@ class Tests:
             rows = "all_rows =\n" + "".join(f"    row.{name} ∷\n" for name in ("jmp_d8", "one", "two", "lock_addl_mi_sxb"))
             checkout.put(ROWS, rows.rstrip("\n") + " []\n")
             checkout.put("table/instructions.txt", TABLE)
-            sentence = f"one: it stands in all_rows of {ROWS}, and no line of the table is its row, as 1 others do"
+            sentence = f"one: it stands in all_rows of {ROWS}, and no line of the table is its row, and so it is with 1 more"
             self.same("rows that are missing", checkout.run(), (2, [f"table/instructions.txt: {sentence}"]))
 
     def unusable_files(self):

@@ -242,64 +242,54 @@ fn a_first_step_takes_one_block_of_each_kind(rt: HostRuntime) {
 
 /// How many steps are held before one is refused.
 fn held<H: Holds>(mut holder: H, step: Step) -> usize {
-    let mut count = 0usize;
-    while count < LARGEST && holder.holds(step) {
-        count = count.saturating_add(1);
+    for count in 0..LARGEST {
+        if !holder.holds(step) {
+            return count;
+        }
     }
-    count
+    LARGEST
 }
 
 /// The largest heap in which pushes are compared. It holds fewer steps.
 const LARGEST: usize = 4096;
 
-/// How many steps fewer are pushed than plain vectors hold: a first block of 64 bytes doubles to other sizes than one of 13.
-#[derive(Clone, Copy, Debug, PartialEq)]
-struct Fewer {
-    /// In so many heaps.
-    heaps: usize,
-    most: usize,
-    /// In so many heaps fewer than three quarters are pushed, even with one more.
-    below_three_quarters: usize,
-}
-
-/// In heaps of every eighth size.
-fn count_fewer(alloc: Global, step: Step) -> Fewer {
-    let mut fewer = Fewer {
-        heaps: 0,
-        most: 0,
-        below_three_quarters: 0,
+/// How many steps plain vectors hold, and how many are pushed, behind so many labels; nothing where those don't fit.
+fn held_and_pushed(
+    alloc: Global,
+    limit: usize,
+    count: usize,
+    step: Step,
+) -> Option<(usize, usize)> {
+    let heap = TestHeap::holding(alloc, limit);
+    let _labels = labels(&heap, count)?;
+    let plain = Plain {
+        code: Vec::new(&heap),
+        told: Vec::new(&heap),
     };
-    for limit in (0..=LARGEST).step_by(8) {
-        let heap = TestHeap::holding(alloc, limit);
-        let plain = held(
-            Plain {
-                code: Vec::new(&heap),
-                told: Vec::new(&heap),
-            },
-            step,
-        );
-        let heap = TestHeap::holding(alloc, limit);
-        let pushed = held(Pushes(CodeBuffer::new(&heap)), step);
-        if pushed < plain {
-            fewer.heaps = fewer.heaps.saturating_add(1);
-            fewer.most = fewer.most.max(plain.saturating_sub(pushed));
-        }
-        if pushed.saturating_add(1).saturating_mul(4) < plain.saturating_mul(3) {
-            fewer.below_three_quarters = fewer.below_three_quarters.saturating_add(1);
-        }
+    let plain = held(plain, step);
+    let heap = TestHeap::holding(alloc, limit);
+    let mut buffer = CodeBuffer::new(&heap);
+    for _ in 0..count {
+        buffer.new_label().ok()?;
     }
-    fewer
+    Some((plain, held(Pushes(buffer), step)))
 }
 
+/// A first block of 64 bytes doubles to other sizes than one of 13, so a buffer may hold fewer steps. A list that grows is
+/// copied, so a plain vector, which doubles, has two thirds of the heap at most. A buffer's list that can't double grows by
+/// what is missing, up to half of the heap: three quarters of two thirds, save for what is less than one step.
 #[test]
 fn a_small_heap_holds_three_quarters_of_the_pushes(rt: HostRuntime) {
-    // A list that can't double grows by what is missing, up to half of the heap. One that doubles takes two thirds at most.
-    for (step, heaps, most) in [(COMPARE, 19, 17), (SHIFT, 139, 207), (ADD, 139, 32)] {
-        let fewer = Fewer {
-            heaps,
-            most,
-            below_three_quarters: 0,
-        };
-        assert_eq!(rt; count_fewer(rt.alloc(), step), fewer, "{step:?}");
+    for step in [COMPARE, SHIFT, ADD] {
+        for count in [0, 5, 17usize] {
+            for limit in (0..=LARGEST).step_by(8) {
+                if let Some((plain, pushed)) = held_and_pushed(rt.alloc(), limit, count, step) {
+                    assert!(rt;
+                        pushed.saturating_add(1).saturating_mul(4) >= plain.saturating_mul(3),
+                        "{pushed} of {plain}: {step:?} behind {count} labels in {limit} bytes"
+                    );
+                }
+            }
+        }
     }
 }
