@@ -44,7 +44,7 @@ def method_of_xed(instruction):
     text = f"text{of} ⟦<{family} as RegisterNames>⟧.names Xed row.{instruction.row} {operands}"
     return [
         "",
-        "    /// The text as XED prints it. Fails where there is no memory.",
+        "    /// The text as XED prints it, of registers that are all `nameable`. Fails where there is no memory.",
         "    pub fn to_string_xed<A: Allocator + Copy>(&self, alloc: A) -> Result<String<A>, AllocError>",
         *requires,
         f"        ensures {{ IfOk result (λ t. string_bytes t ≡ {text}) }}",

@@ -37,7 +37,7 @@ impl<R: Registers> shrb_m1<R> {
         shrb_m1 { rm8 }
     }
 
-    /// The text as XED prints it. Fails where there is no memory.
+    /// The text as XED prints it, of registers that are all `nameable`. Fails where there is no memory.
     pub fn to_string_xed<A: Allocator + Copy>(&self, alloc: A) -> Result<String<A>, AllocError>
         requires { IsTrue (nameable ⟦<R as RegisterNames>⟧.names self.now) }
         ensures { IfOk result (λ t. string_bytes t ≡ text ⟦<R as RegisterNames>⟧.names Xed row.shrb_m1 self.now) }
@@ -87,7 +87,7 @@ impl<R: Registers> shrw_m1<R> {
         shrw_m1 { rm16 }
     }
 
-    /// The text as XED prints it. Fails where there is no memory.
+    /// The text as XED prints it, of registers that are all `nameable`. Fails where there is no memory.
     pub fn to_string_xed<A: Allocator + Copy>(&self, alloc: A) -> Result<String<A>, AllocError>
         requires { IsTrue (nameable ⟦<R as RegisterNames>⟧.names self.now) }
         ensures { IfOk result (λ t. string_bytes t ≡ text ⟦<R as RegisterNames>⟧.names Xed row.shrw_m1 self.now) }
@@ -137,7 +137,7 @@ impl<R: Registers> shrl_m1<R> {
         shrl_m1 { rm32 }
     }
 
-    /// The text as XED prints it. Fails where there is no memory.
+    /// The text as XED prints it, of registers that are all `nameable`. Fails where there is no memory.
     pub fn to_string_xed<A: Allocator + Copy>(&self, alloc: A) -> Result<String<A>, AllocError>
         requires { IsTrue (nameable ⟦<R as RegisterNames>⟧.names self.now) }
         ensures { IfOk result (λ t. string_bytes t ≡ text ⟦<R as RegisterNames>⟧.names Xed row.shrl_m1 self.now) }
@@ -187,7 +187,7 @@ impl<R: Registers> shrq_m1<R> {
         shrq_m1 { rm64 }
     }
 
-    /// The text as XED prints it. Fails where there is no memory.
+    /// The text as XED prints it, of registers that are all `nameable`. Fails where there is no memory.
     pub fn to_string_xed<A: Allocator + Copy>(&self, alloc: A) -> Result<String<A>, AllocError>
         requires { IsTrue (nameable ⟦<R as RegisterNames>⟧.names self.now) }
         ensures { IfOk result (λ t. string_bytes t ≡ text ⟦<R as RegisterNames>⟧.names Xed row.shrq_m1 self.now) }

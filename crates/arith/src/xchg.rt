@@ -38,7 +38,7 @@ impl<R: Registers> xchgb_rm<R> {
         xchgb_rm { r8, m8 }
     }
 
-    /// The text as XED prints it. Fails where there is no memory.
+    /// The text as XED prints it, of registers that are all `nameable`. Fails where there is no memory.
     pub fn to_string_xed<A: Allocator + Copy>(&self, alloc: A) -> Result<String<A>, AllocError>
         requires { IsTrue (nameable ⟦<R as RegisterNames>⟧.names self.now) }
         ensures { IfOk result (λ t. string_bytes t ≡ text ⟦<R as RegisterNames>⟧.names Xed row.xchgb_rm self.now) }
@@ -93,7 +93,7 @@ impl<R: Registers> xchgw_rm<R> {
         xchgw_rm { r16, m16 }
     }
 
-    /// The text as XED prints it. Fails where there is no memory.
+    /// The text as XED prints it, of registers that are all `nameable`. Fails where there is no memory.
     pub fn to_string_xed<A: Allocator + Copy>(&self, alloc: A) -> Result<String<A>, AllocError>
         requires { IsTrue (nameable ⟦<R as RegisterNames>⟧.names self.now) }
         ensures { IfOk result (λ t. string_bytes t ≡ text ⟦<R as RegisterNames>⟧.names Xed row.xchgw_rm self.now) }
@@ -148,7 +148,7 @@ impl<R: Registers> xchgl_rm<R> {
         xchgl_rm { r32, m32 }
     }
 
-    /// The text as XED prints it. Fails where there is no memory.
+    /// The text as XED prints it, of registers that are all `nameable`. Fails where there is no memory.
     pub fn to_string_xed<A: Allocator + Copy>(&self, alloc: A) -> Result<String<A>, AllocError>
         requires { IsTrue (nameable ⟦<R as RegisterNames>⟧.names self.now) }
         ensures { IfOk result (λ t. string_bytes t ≡ text ⟦<R as RegisterNames>⟧.names Xed row.xchgl_rm self.now) }
@@ -203,7 +203,7 @@ impl<R: Registers> xchgq_rm<R> {
         xchgq_rm { r64, m64 }
     }
 
-    /// The text as XED prints it. Fails where there is no memory.
+    /// The text as XED prints it, of registers that are all `nameable`. Fails where there is no memory.
     pub fn to_string_xed<A: Allocator + Copy>(&self, alloc: A) -> Result<String<A>, AllocError>
         requires { IsTrue (nameable ⟦<R as RegisterNames>⟧.names self.now) }
         ensures { IfOk result (λ t. string_bytes t ≡ text ⟦<R as RegisterNames>⟧.names Xed row.xchgq_rm self.now) }

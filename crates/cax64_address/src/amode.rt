@@ -95,6 +95,9 @@ impl<R: AsReg> Amode<R> {
     }
 
     /// The displacement in bytes, with the late offset added; 0 for `RipRelative`.
+    ///
+    /// The operand has to be addressable, as [`is_addressable`](Self::is_addressable) tells. Where it isn't, a build
+    /// that wasn't proved may answer any number, or abort.
     #[inline(always)]
     pub fn displacement<S: CodeSink>(&self, sink: &S) -> i32
         requires { IsTrue (is_addressable R.settled R.enc (S.state sink.now).offsets self.now) }

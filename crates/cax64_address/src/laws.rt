@@ -39,6 +39,9 @@ pub fn laws_of_length()
 
 /// Over a sink of fixed size [`emit_modrm_sib_disp`] succeeds exactly where some tail of the operand, and so the one that
 /// it puts, fits in what is left.
+///
+/// The operand has to be addressable, as [`Amode::is_addressable`] tells, and the factor at least 1. Where they aren't,
+/// a build that wasn't proved may put another operand and answer Ok, or abort.
 pub fn emit_to_fixed_sink<R: AsReg, const N: usize>(
     sink: &mut FixedSink<N>,
     enc_g: u8,

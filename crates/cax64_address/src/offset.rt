@@ -89,6 +89,9 @@ impl AmodeOffsetPlusKnownOffset {
     }
 
     /// The sum of the displacement and of the offset, in bytes.
+    ///
+    /// The sum has to fit, as [`fits`](Self::fits) tells. Where it doesn't, a build that wasn't proved may answer any
+    /// number, or abort.
     #[inline(always)]
     pub fn value<S: CodeSink>(&self, sink: &S) -> i32
         requires { IsTrue (sum_fits (S.state sink.now).offsets self.now.offset self.now.simm32) }

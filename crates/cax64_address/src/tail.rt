@@ -220,6 +220,9 @@ pub fn tail_of<R: AsReg>(
 ///
 /// A relative operand is told to the sink after ModR/M, and its four bytes are minus `bytes_at_end`, the number of bytes
 /// of immediate that the instruction has behind the tail.
+///
+/// The operand has to be addressable, as [`Amode::is_addressable`] tells, and the factor at least 1. Where they aren't,
+/// a build that wasn't proved may put another operand and answer Ok, or abort.
 pub fn emit_modrm_sib_disp<R: AsReg, S: CodeSink>(
     sink: &mut S,
     enc_g: u8,

@@ -238,6 +238,9 @@ impl<R: AsReg> Amode<R> {
     /// Adds the text to `out`.
     ///
     /// Fails where there is no memory, and then leaves the text as it was.
+    ///
+    /// The registers need texts, as [`nameable`](Self::nameable) tells. Where one has none, a build that wasn't proved
+    /// may answer another text, or abort.
     pub fn push_to<A: Allocator + Copy>(
         &self,
         out: &mut String<A>,
@@ -256,6 +259,9 @@ impl<R: AsReg> Amode<R> {
     /// The text, with base and index at 64 bits.
     ///
     /// Fails where there is no memory.
+    ///
+    /// The registers need texts, as [`nameable`](Self::nameable) tells. Where one has none, a build that wasn't proved
+    /// may answer another text, or abort.
     pub fn to_string_in<A: Allocator + Copy>(
         &self,
         alloc: A,
@@ -285,6 +291,9 @@ impl<R: AsReg, M: AsReg> GprMem<R, M> {
     /// Adds the text to `out`.
     ///
     /// Fails where there is no memory, and then leaves the text as it was.
+    ///
+    /// The registers need texts, as [`nameable`](Self::nameable) tells. Where one has none, a build that wasn't proved
+    /// may answer another text, or abort.
     pub fn push_to<A: Allocator + Copy>(
         &self,
         out: &mut String<A>,
@@ -305,6 +314,9 @@ impl<R: AsReg, M: AsReg> GprMem<R, M> {
     /// The text: the register at this size, or the memory.
     ///
     /// Fails where there is no memory.
+    ///
+    /// The registers need texts, as [`nameable`](Self::nameable) tells. Where one has none, a build that wasn't proved
+    /// may answer another text, or abort.
     pub fn to_string<A: Allocator + Copy>(
         &self,
         alloc: A,
@@ -321,6 +333,9 @@ impl<R: AsReg, M: AsReg> GprMem<R, M> {
     /// The text as XED prints it.
     ///
     /// Fails where there is no memory.
+    ///
+    /// The registers need texts, as [`nameable`](Self::nameable) tells. Where one has none, a build that wasn't proved
+    /// may answer another text, or abort.
     pub fn to_string_xed<A: Allocator + Copy>(
         &self,
         alloc: A,
@@ -350,6 +365,9 @@ impl<R: AsReg, M: AsReg> XmmMem<R, M> {
     /// Adds the text to `out`.
     ///
     /// Fails where there is no memory, and then leaves the text as it was.
+    ///
+    /// The registers need texts, as [`nameable`](Self::nameable) tells. Where one has none, a build that wasn't proved
+    /// may answer another text, or abort.
     pub fn push_to<A: Allocator + Copy>(
         &self,
         out: &mut String<A>,
@@ -369,6 +387,9 @@ impl<R: AsReg, M: AsReg> XmmMem<R, M> {
     /// The text: the register, or the memory.
     ///
     /// Fails where there is no memory.
+    ///
+    /// The registers need texts, as [`nameable`](Self::nameable) tells. Where one has none, a build that wasn't proved
+    /// may answer another text, or abort.
     pub fn to_string<A: Allocator + Copy>(&self, alloc: A) -> Result<String<A>, AllocError>
         requires { IsTrue (xmm_mem_nameable R.nameable M.nameable self.now) }
         ensures { IfOk result (λ t. string_bytes t ≡ xmm_mem_text R.text M.text Att self.now) }
@@ -381,6 +402,9 @@ impl<R: AsReg, M: AsReg> XmmMem<R, M> {
     /// The text as XED prints it.
     ///
     /// Fails where there is no memory.
+    ///
+    /// The registers need texts, as [`nameable`](Self::nameable) tells. Where one has none, a build that wasn't proved
+    /// may answer another text, or abort.
     pub fn to_string_xed<A: Allocator + Copy>(&self, alloc: A) -> Result<String<A>, AllocError>
         requires { IsTrue (xmm_mem_nameable R.nameable M.nameable self.now) }
         ensures { IfOk result (λ t. string_bytes t ≡ xmm_mem_text R.text M.text Xed self.now) }

@@ -21,6 +21,10 @@ use std::alloc::Allocator;
 /// Puts instructions one behind the other, and tells the sink of their traps and targets.
 ///
 /// A refusal says how many instructions are whole.
+///
+/// Each instruction has to be encodable for the sink, as [`all_encodable`] tells. Where one isn't, a build that wasn't
+/// proved may put a wrong instruction and answer Ok, or abort. [`encode_each_checked`] tests each, and has no
+/// condition.
 pub fn encode_all<R: Registers, S: CodeSink>(insts: &[Inst<R>], sink: &mut S) -> Result<(), Refused>
     requires { All (λ i. IsTrue (can_encode_in (S.state sink.old) (⟦<Inst<R> as Instruction>⟧.meant i))) insts.now }
     ensures adds { OnOk result (AddsList ⟦<Inst<R> as Instruction>⟧.meant insts.now (S.state sink.old) (S.state sink.new)) }
@@ -41,6 +45,9 @@ pub fn encode_all<R: Registers, S: CodeSink>(insts: &[Inst<R>], sink: &mut S) ->
 ///
 /// Room for all of them is made at once, before the first is put; so who reserves for several lists, and then puts them,
 /// isn't refused.
+///
+/// Each instruction has to be encodable for the sink, as [`all_encodable`] tells. Where one isn't, a build that wasn't
+/// proved may put a wrong instruction and answer Ok, or abort. There have to be at most `usize::MAX / 13` of them.
 pub fn encode_all_whole<R: Registers, A: Allocator>(
     insts: &[Inst<R>],
     recorder: &mut Recorder<A>,
@@ -61,6 +68,9 @@ pub fn encode_all_whole<R: Registers, A: Allocator>(
 
 /// Over a sink of fixed size [`encode_all`] succeeds exactly where the bytes of all instructions fit in what is left, and
 /// of those that don't it puts as many as do.
+///
+/// Each instruction has to be encodable for the sink, as [`all_encodable`] tells. Where one isn't, a build that wasn't
+/// proved may put a wrong instruction and answer Ok, or abort.
 pub fn encode_all_to_fixed_sink<R: Registers, const N: usize>(
     insts: &[Inst<R>],
     sink: &mut FixedSink<N>,

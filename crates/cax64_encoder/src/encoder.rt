@@ -196,6 +196,10 @@ pub fn code_of_entry(entry: Entry, form: &NumberedForm, displacement: i32) -> Co
 }
 
 /// Puts the instruction of a line, of whatever table, with these operands, whose memory operand has this displacement.
+///
+/// The operands have to be those of the line: each in its place and no other, numbers below 16, the immediate of so
+/// many bytes. Nothing here tests it. Where they aren't, a build that wasn't proved may put a wrong instruction and
+/// answer Ok.
 #[inline(always)]
 pub fn encode_entry<S: CodeSink>(
     entry: Entry,

@@ -54,6 +54,9 @@ pub trait Instruction: HasOperands {
         ensures { result ≡ can_encode_in (S.state sink.now) (meant self.now) };
 
     /// The number of bytes that `encode` adds, 1 to 13.
+    ///
+    /// The instruction has to be encodable for the sink, as [`is_encodable`](Self::is_encodable) tells. Where it isn't,
+    /// a build that wasn't proved may answer any number, or abort.
     fn encoded_len<S: CodeSink>(&self, sink: &S) -> u8
         requires { IsTrue (can_encode_in (S.state sink.now) (meant self.now)) }
         ensures value { result ≡ len_in (S.state sink.now) (meant self.now) }
@@ -65,6 +68,9 @@ pub trait Instruction: HasOperands {
         ensures { (offsets : ℕ → Option ℤ) → result ≡ notice_count (meant self.now offsets) };
 
     /// The room that `encode` takes: the numbers of `encoded_len` and of `notice_count`, both at once.
+    ///
+    /// The instruction has to be encodable for the sink, as [`is_encodable`](Self::is_encodable) tells. Where it isn't,
+    /// a build that wasn't proved may answer any numbers, or abort.
     fn room_needed<S: CodeSink>(&self, sink: &S) -> RoomNeeded
         requires { IsTrue (can_encode_in (S.state sink.now) (meant self.now)) }
         ensures bytes { result.bytes ≡ len_in (S.state sink.now) (meant self.now) }
@@ -79,6 +85,10 @@ pub trait Instruction: HasOperands {
     }
 
     /// Puts the machine code, and tells the sink of a trap or a target.
+    ///
+    /// The instruction has to be encodable for the sink, as [`is_encodable`](Self::is_encodable) tells. Where it isn't,
+    /// a build that wasn't proved may put a wrong instruction and answer Ok, or abort.
+    /// [`encode_checked`](Self::encode_checked) tests first, and has no condition.
     fn encode<S: CodeSink>(&self, sink: &mut S) -> Result<(), SinkError>
         requires { IsTrue (can_encode_in (S.state sink.old) (meant self.now)) }
         ensures adds { OnOk result (Adds (meant self.now) (S.state sink.old) (S.state sink.new)) }

@@ -10,6 +10,9 @@ use crate::instruction::Instruction;
 use cax64_sink::{FixedSink, SinkError};
 
 /// Over a sink of fixed size [`Instruction::encode`] succeeds exactly where its bytes fit in what is left.
+///
+/// The instruction has to be encodable for the sink, as [`Instruction::is_encodable`] tells. Where it isn't, a build
+/// that wasn't proved may put a wrong instruction and answer Ok, or abort.
 pub fn encode_to_fixed_sink<I: Instruction, const N: usize>(
     inst: &I,
     sink: &mut FixedSink<N>,

@@ -80,6 +80,9 @@ impl Simm8 {
     /// The immediate as it prints where the instruction extends it so.
     ///
     /// Fails where there is no memory.
+    ///
+    /// The extension has to be one of the immediate's, as [`fits_extension`](Self::fits_extension) tells. Where it
+    /// isn't, a build that wasn't proved may answer another text.
     pub fn to_string<A: Allocator>(
         &self,
         alloc: A,
@@ -119,6 +122,9 @@ impl Simm16 {
     /// The immediate as it prints where the instruction extends it so.
     ///
     /// Fails where there is no memory.
+    ///
+    /// The extension has to be one of the immediate's, as [`fits_extension`](Self::fits_extension) tells. Where it
+    /// isn't, a build that wasn't proved may answer another text.
     pub fn to_string<A: Allocator>(
         &self,
         alloc: A,
@@ -159,6 +165,9 @@ impl Simm32 {
     /// The immediate as it prints where the instruction extends it so.
     ///
     /// Fails where there is no memory.
+    ///
+    /// The extension has to be one of the immediate's, as [`fits_extension`](Self::fits_extension) tells. Where it
+    /// isn't, a build that wasn't proved may answer another text.
     pub fn to_string<A: Allocator>(
         &self,
         alloc: A,

@@ -32,6 +32,8 @@ pub trait AsReg: Copy + Clone + PartialEq {
         ensures { result ≡ accepts number };
 
     /// The register that encodes as this hardware number.
+    ///
+    /// Only for a number that the family [accepts](Self::accepts).
     fn new(number: u8) -> Self
         requires { IsTrue (accepts number) }
         ensures settled { IsTrue (settled result) }
@@ -42,6 +44,8 @@ pub trait AsReg: Copy + Clone + PartialEq {
         ensures { result ≡ settled self.now };
 
     /// The register's hardware number, as 0 for `%rax`.
+    ///
+    /// Only of a register that is [settled](Self::settled).
     fn enc(&self) -> u8
         requires { IsTrue (settled self.now) }
         ensures { result ≡ enc self.now };
@@ -55,6 +59,8 @@ pub trait AsReg: Copy + Clone + PartialEq {
     /// is what [`register_name`] makes.
     ///
     /// Fails where there is no memory.
+    ///
+    /// Only of a register that is [nameable](Self::nameable).
     fn to_string<A: Allocator + Copy>(
         &self,
         alloc: A,
@@ -66,6 +72,8 @@ pub trait AsReg: Copy + Clone + PartialEq {
     /// Adds that text to `out`. A family whose names need no String of their own can say so here.
     ///
     /// Fails where there is no memory, and then leaves the text as it was.
+    ///
+    /// Only of a register that is [nameable](Self::nameable).
     fn push_to<A: Allocator + Copy>(
         &self,
         out: &mut String<A>,
@@ -95,6 +103,8 @@ pub trait AsReg: Copy + Clone + PartialEq {
 /// an XMM register where no size is given.
 ///
 /// Fails where there is no memory.
+///
+/// The number has to be below 16; of another a build that wasn't proved answers another register's name, or aborts.
 pub fn register_name<A: Allocator + Copy>(
     alloc: A,
     number: u8,

@@ -31,6 +31,9 @@ impl<R: AsReg, const E: u8> Fixed<R, E> {
     /// The text of the register held, at this size, or at none.
     ///
     /// Fails where there is no memory.
+    ///
+    /// The register needs a text, as `nameable` of [`AsReg`] tells. Where it has none, a build that wasn't proved may
+    /// answer another register's, or abort.
     pub fn to_string<A: Allocator + Copy>(
         &self,
         alloc: A,

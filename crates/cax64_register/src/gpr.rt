@@ -83,6 +83,9 @@ impl<R: AsReg> Gpr<R> {
     }
 
     /// The register's hardware number.
+    ///
+    /// The register has to be real, as [`is_real`](Self::is_real) tells. Where it isn't, a build that wasn't proved may
+    /// answer any number, or abort.
     pub fn enc(&self) -> u8
         requires { IsTrue (is_real R.settled R.enc self.now) }
         ensures number { result ≡ R.enc self.now }
@@ -94,6 +97,9 @@ impl<R: AsReg> Gpr<R> {
     /// The register's text at this size.
     ///
     /// Fails where there is no memory.
+    ///
+    /// The register needs a text, as `nameable` of [`AsReg`] tells. Where it has none, a build that wasn't proved may
+    /// answer another register's, or abort.
     pub fn to_string<A: Allocator + Copy>(
         &self,
         alloc: A,

@@ -14,6 +14,9 @@ use cax64_sink::{FixedSink, SinkError};
 
 /// Over a sink of fixed size [`encode_each`] succeeds exactly where the bytes of all instructions fit in what is left, and
 /// of those that don't it puts as many as do.
+///
+/// Each instruction has to be encodable for the sink, as [`all_encodable`] tells. Where one isn't, a build that wasn't
+/// proved may put a wrong instruction and answer Ok, or abort.
 pub fn encode_each_to_fixed_sink<I: Instruction, const N: usize>(
     insts: &[I],
     sink: &mut FixedSink<N>,

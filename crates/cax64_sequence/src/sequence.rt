@@ -29,6 +29,10 @@ pub fn all_encodable<I: Instruction, S: CodeSink>(insts: &[I], sink: &S) -> bool
 /// Puts instructions of one type one behind the other, and tells the sink of their traps and targets.
 ///
 /// A refusal says how many instructions are whole.
+///
+/// Each instruction has to be encodable for the sink, as [`all_encodable`] tells. Where one isn't, a build that wasn't
+/// proved may put a wrong instruction and answer Ok, or abort. [`encode_each_checked`] tests each, and has no
+/// condition.
 #[inline(never)]
 pub fn encode_each<I: Instruction, S: CodeSink>(insts: &[I], sink: &mut S) -> Result<(), Refused>
     requires { All (λ i. IsTrue (can_encode_in (S.state sink.old) (I.meant i))) insts.now }

@@ -34,6 +34,9 @@ fn measure<I: Instruction, S: CodeSink>(insts: &[I], sink: &S) -> (usize, usize)
 ///
 /// Room for all of them is made at once, before the first is put; so who reserves for several lists, and then puts them,
 /// isn't refused.
+///
+/// Each instruction has to be encodable for the sink, as [`all_encodable`] tells. Where one isn't, a build that wasn't
+/// proved may put a wrong instruction and answer Ok, or abort. There have to be at most `usize::MAX / 13` of them.
 pub fn encode_each_whole<I: Instruction, A: Allocator>(
     insts: &[I],
     recorder: &mut Recorder<A>,

@@ -150,6 +150,9 @@ impl<A: Allocator> Recorder<A> {
     }
 
     /// Writes four bytes over those from `at` on, the lowest first. Takes no memory.
+    ///
+    /// All four have to be there: `at` is at most their number less 4. Where they aren't, a build that wasn't proved
+    /// may abort.
     pub fn patch4(&mut self, at: usize, value: u32)
         requires { at + 4 ≤ length (recorder_state self.old).bytes }
         ensures { recorder_state self.new ≡ with_patch at (to_le_bytes w32 value) (recorder_state self.old) }

@@ -33,6 +33,9 @@ pub trait InstructionText: HasOperands {
     /// The text.
     ///
     /// Fails where there is no memory.
+    ///
+    /// The registers that are printed need texts, as [`nameable`](Self::nameable) tells. Where one has none, a build
+    /// that wasn't proved may answer another text, or abort.
     fn to_string<A: Allocator + Copy>(&self, alloc: A) -> Result<String<A>, AllocError>
         requires { IsTrue (nameable names (Self.operands_of self.now)) }
         ensures { IfOk result (λ t. string_bytes t ≡ text names Att (Self.row_of self.now) (Self.operands_of self.now)) };
@@ -40,6 +43,9 @@ pub trait InstructionText: HasOperands {
     /// The text as XED prints it; `None` for a row that has none.
     ///
     /// Fails where there is no memory.
+    ///
+    /// The registers that are printed need texts, as [`nameable`](Self::nameable) tells. Where one has none, a build
+    /// that wasn't proved may answer another text, or abort.
     fn to_string_xed<A: Allocator + Copy>(&self, alloc: A) -> Result<Option<String<A>>, AllocError>
         requires { IsTrue (nameable names (Self.operands_of self.now)) }
         ensures { IfOk result (λ t. MatchOption t (xed_text names (Self.row_of self.now) (Self.operands_of self.now) ≡ None) (λ s. xed_text names (Self.row_of self.now) (Self.operands_of self.now) ≡ Some (string_bytes s))) };
@@ -92,6 +98,9 @@ impl<I: RowAndOperands> InstructionText for I {
 /// The text as XED prints it, of an instruction that has one.
 ///
 /// Fails where there is no memory.
+///
+/// The registers that are printed need texts, as [`nameable`](InstructionText::nameable) tells. Where one has none, a
+/// build that wasn't proved may answer another text, or abort.
 #[tactic(auto, using(crate::proofs::SlotTexts::slot_texts))]
 pub fn xed_string<I: RowAndOperands, A: Allocator + Copy>(
     inst: &I,

@@ -34,7 +34,7 @@ impl callq_d {
         ensures { OperandsRun R.WriteGpr.eq V.steps visitor.old (operands_callq_d {R = R} self.old) (operands_callq_d {R = R} self.new) visitor.new }
     {}
 
-    /// The text as XED prints it. Fails where there is no memory.
+    /// The text as XED prints it, of registers that are all `nameable`. Fails where there is no memory.
     pub fn to_string_xed<A: Allocator + Copy>(&self, alloc: A) -> Result<String<A>, AllocError>
         ensures { IfOk result (λ t. string_bytes t ≡ text {R = Numbers} ⟦<Numbers as RegisterNames>⟧.names Xed row.callq_d (operands_callq_d self.now)) }
     {
@@ -82,7 +82,7 @@ impl jmp_d32 {
         ensures { OperandsRun R.WriteGpr.eq V.steps visitor.old (operands_jmp_d32 {R = R} self.old) (operands_jmp_d32 {R = R} self.new) visitor.new }
     {}
 
-    /// The text as XED prints it. Fails where there is no memory.
+    /// The text as XED prints it, of registers that are all `nameable`. Fails where there is no memory.
     pub fn to_string_xed<A: Allocator + Copy>(&self, alloc: A) -> Result<String<A>, AllocError>
         ensures { IfOk result (λ t. string_bytes t ≡ text {R = Numbers} ⟦<Numbers as RegisterNames>⟧.names Xed row.jmp_d32 (operands_jmp_d32 self.now)) }
     {

@@ -34,7 +34,7 @@ impl jmp_d8 {
         ensures { OperandsRun R.WriteGpr.eq V.steps visitor.old (operands_jmp_d8 {R = R} self.old) (operands_jmp_d8 {R = R} self.new) visitor.new }
     {}
 
-    /// The text as XED prints it. Fails where there is no memory.
+    /// The text as XED prints it, of registers that are all `nameable`. Fails where there is no memory.
     pub fn to_string_xed<A: Allocator + Copy>(&self, alloc: A) -> Result<String<A>, AllocError>
         ensures { IfOk result (λ t. string_bytes t ≡ text {R = Numbers} ⟦<Numbers as RegisterNames>⟧.names Xed row.jmp_d8 (operands_jmp_d8 self.now)) }
     {

@@ -37,7 +37,7 @@ impl<R: Registers> callq_m<R> {
         callq_m { rm64 }
     }
 
-    /// The text as XED prints it. Fails where there is no memory.
+    /// The text as XED prints it, of registers that are all `nameable`. Fails where there is no memory.
     pub fn to_string_xed<A: Allocator + Copy>(&self, alloc: A) -> Result<String<A>, AllocError>
         requires { IsTrue (nameable ⟦<R as RegisterNames>⟧.names self.now) }
         ensures { IfOk result (λ t. string_bytes t ≡ text ⟦<R as RegisterNames>⟧.names Xed row.callq_m self.now) }
@@ -87,7 +87,7 @@ impl<R: Registers> jmpq_m<R> {
         jmpq_m { rm64 }
     }
 
-    /// The text as XED prints it. Fails where there is no memory.
+    /// The text as XED prints it, of registers that are all `nameable`. Fails where there is no memory.
     pub fn to_string_xed<A: Allocator + Copy>(&self, alloc: A) -> Result<String<A>, AllocError>
         requires { IsTrue (nameable ⟦<R as RegisterNames>⟧.names self.now) }
         ensures { IfOk result (λ t. string_bytes t ≡ text ⟦<R as RegisterNames>⟧.names Xed row.jmpq_m self.now) }

@@ -29,7 +29,7 @@ impl nop_1b {
         ensures { OperandsRun R.WriteGpr.eq V.steps visitor.old (operands_nop_1b {R = R} self.old) (operands_nop_1b {R = R} self.new) visitor.new }
     {}
 
-    /// The text as XED prints it. Fails where there is no memory.
+    /// The text as XED prints it, of registers that are all `nameable`. Fails where there is no memory.
     pub fn to_string_xed<A: Allocator + Copy>(&self, alloc: A) -> Result<String<A>, AllocError>
         ensures { IfOk result (λ t. string_bytes t ≡ text {R = Numbers} ⟦<Numbers as RegisterNames>⟧.names Xed row.nop_1b (operands_nop_1b self.now)) }
     {
@@ -68,7 +68,7 @@ impl nop_2b {
         ensures { OperandsRun R.WriteGpr.eq V.steps visitor.old (operands_nop_2b {R = R} self.old) (operands_nop_2b {R = R} self.new) visitor.new }
     {}
 
-    /// The text as XED prints it. Fails where there is no memory.
+    /// The text as XED prints it, of registers that are all `nameable`. Fails where there is no memory.
     pub fn to_string_xed<A: Allocator + Copy>(&self, alloc: A) -> Result<String<A>, AllocError>
         ensures { IfOk result (λ t. string_bytes t ≡ text {R = Numbers} ⟦<Numbers as RegisterNames>⟧.names Xed row.nop_2b (operands_nop_2b self.now)) }
     {
@@ -107,7 +107,7 @@ impl nop_3b {
         ensures { OperandsRun R.WriteGpr.eq V.steps visitor.old (operands_nop_3b {R = R} self.old) (operands_nop_3b {R = R} self.new) visitor.new }
     {}
 
-    /// The text as XED prints it. Fails where there is no memory.
+    /// The text as XED prints it, of registers that are all `nameable`. Fails where there is no memory.
     pub fn to_string_xed<A: Allocator + Copy>(&self, alloc: A) -> Result<String<A>, AllocError>
         ensures { IfOk result (λ t. string_bytes t ≡ text {R = Numbers} ⟦<Numbers as RegisterNames>⟧.names Xed row.nopl_rm (operands_nop_3b self.now)) }
     {
@@ -146,7 +146,7 @@ impl nop_4b {
         ensures { OperandsRun R.WriteGpr.eq V.steps visitor.old (operands_nop_4b {R = R} self.old) (operands_nop_4b {R = R} self.new) visitor.new }
     {}
 
-    /// The text as XED prints it. Fails where there is no memory.
+    /// The text as XED prints it, of registers that are all `nameable`. Fails where there is no memory.
     pub fn to_string_xed<A: Allocator + Copy>(&self, alloc: A) -> Result<String<A>, AllocError>
         ensures { IfOk result (λ t. string_bytes t ≡ text {R = Numbers} ⟦<Numbers as RegisterNames>⟧.names Xed row.nopl_rm (operands_nop_4b self.now)) }
     {
@@ -185,7 +185,7 @@ impl nop_5b {
         ensures { OperandsRun R.WriteGpr.eq V.steps visitor.old (operands_nop_5b {R = R} self.old) (operands_nop_5b {R = R} self.new) visitor.new }
     {}
 
-    /// The text as XED prints it. Fails where there is no memory.
+    /// The text as XED prints it, of registers that are all `nameable`. Fails where there is no memory.
     pub fn to_string_xed<A: Allocator + Copy>(&self, alloc: A) -> Result<String<A>, AllocError>
         ensures { IfOk result (λ t. string_bytes t ≡ text {R = Numbers} ⟦<Numbers as RegisterNames>⟧.names Xed row.nopl_rm (operands_nop_5b self.now)) }
     {
@@ -224,7 +224,7 @@ impl nop_6b {
         ensures { OperandsRun R.WriteGpr.eq V.steps visitor.old (operands_nop_6b {R = R} self.old) (operands_nop_6b {R = R} self.new) visitor.new }
     {}
 
-    /// The text as XED prints it. Fails where there is no memory.
+    /// The text as XED prints it, of registers that are all `nameable`. Fails where there is no memory.
     pub fn to_string_xed<A: Allocator + Copy>(&self, alloc: A) -> Result<String<A>, AllocError>
         ensures { IfOk result (λ t. string_bytes t ≡ text {R = Numbers} ⟦<Numbers as RegisterNames>⟧.names Xed row.nopw_rm (operands_nop_6b self.now)) }
     {
@@ -263,7 +263,7 @@ impl nop_7b {
         ensures { OperandsRun R.WriteGpr.eq V.steps visitor.old (operands_nop_7b {R = R} self.old) (operands_nop_7b {R = R} self.new) visitor.new }
     {}
 
-    /// The text as XED prints it. Fails where there is no memory.
+    /// The text as XED prints it, of registers that are all `nameable`. Fails where there is no memory.
     pub fn to_string_xed<A: Allocator + Copy>(&self, alloc: A) -> Result<String<A>, AllocError>
         ensures { IfOk result (λ t. string_bytes t ≡ text {R = Numbers} ⟦<Numbers as RegisterNames>⟧.names Xed row.nopl_rm (operands_nop_7b self.now)) }
     {
@@ -302,7 +302,7 @@ impl nop_8b {
         ensures { OperandsRun R.WriteGpr.eq V.steps visitor.old (operands_nop_8b {R = R} self.old) (operands_nop_8b {R = R} self.new) visitor.new }
     {}
 
-    /// The text as XED prints it. Fails where there is no memory.
+    /// The text as XED prints it, of registers that are all `nameable`. Fails where there is no memory.
     pub fn to_string_xed<A: Allocator + Copy>(&self, alloc: A) -> Result<String<A>, AllocError>
         ensures { IfOk result (λ t. string_bytes t ≡ text {R = Numbers} ⟦<Numbers as RegisterNames>⟧.names Xed row.nopl_rm (operands_nop_8b self.now)) }
     {
@@ -341,7 +341,7 @@ impl nop_9b {
         ensures { OperandsRun R.WriteGpr.eq V.steps visitor.old (operands_nop_9b {R = R} self.old) (operands_nop_9b {R = R} self.new) visitor.new }
     {}
 
-    /// The text as XED prints it. Fails where there is no memory.
+    /// The text as XED prints it, of registers that are all `nameable`. Fails where there is no memory.
     pub fn to_string_xed<A: Allocator + Copy>(&self, alloc: A) -> Result<String<A>, AllocError>
         ensures { IfOk result (λ t. string_bytes t ≡ text {R = Numbers} ⟦<Numbers as RegisterNames>⟧.names Xed row.nopw_rm (operands_nop_9b self.now)) }
     {

@@ -49,7 +49,7 @@ impl<R: Registers> cmpps_a<R> {
         }
     }
 
-    /// The text as XED prints it. Fails where there is no memory.
+    /// The text as XED prints it, of registers that are all `nameable`. Fails where there is no memory.
     pub fn to_string_xed<A: Allocator + Copy>(&self, alloc: A) -> Result<String<A>, AllocError>
         requires { IsTrue (nameable ⟦<R as RegisterNames>⟧.names self.now) }
         ensures { IfOk result (λ t. string_bytes t ≡ text ⟦<R as RegisterNames>⟧.names Xed row.cmpps_a self.now) }
@@ -115,7 +115,7 @@ impl<R: Registers> cmppd_a<R> {
         }
     }
 
-    /// The text as XED prints it. Fails where there is no memory.
+    /// The text as XED prints it, of registers that are all `nameable`. Fails where there is no memory.
     pub fn to_string_xed<A: Allocator + Copy>(&self, alloc: A) -> Result<String<A>, AllocError>
         requires { IsTrue (nameable ⟦<R as RegisterNames>⟧.names self.now) }
         ensures { IfOk result (λ t. string_bytes t ≡ text ⟦<R as RegisterNames>⟧.names Xed row.cmppd_a self.now) }
@@ -181,7 +181,7 @@ impl<R: Registers> cmpss_a<R> {
         }
     }
 
-    /// The text as XED prints it. Fails where there is no memory.
+    /// The text as XED prints it, of registers that are all `nameable`. Fails where there is no memory.
     pub fn to_string_xed<A: Allocator + Copy>(&self, alloc: A) -> Result<String<A>, AllocError>
         requires { IsTrue (nameable ⟦<R as RegisterNames>⟧.names self.now) }
         ensures { IfOk result (λ t. string_bytes t ≡ text ⟦<R as RegisterNames>⟧.names Xed row.cmpss_a self.now) }
@@ -247,7 +247,7 @@ impl<R: Registers> cmpsd_a<R> {
         }
     }
 
-    /// The text as XED prints it. Fails where there is no memory.
+    /// The text as XED prints it, of registers that are all `nameable`. Fails where there is no memory.
     pub fn to_string_xed<A: Allocator + Copy>(&self, alloc: A) -> Result<String<A>, AllocError>
         requires { IsTrue (nameable ⟦<R as RegisterNames>⟧.names self.now) }
         ensures { IfOk result (λ t. string_bytes t ≡ text ⟦<R as RegisterNames>⟧.names Xed row.cmpsd_a self.now) }

@@ -52,7 +52,7 @@ impl<R: Registers> vcmpps_b<R> {
         }
     }
 
-    /// The text as XED prints it. Fails where there is no memory.
+    /// The text as XED prints it, of registers that are all `nameable`. Fails where there is no memory.
     pub fn to_string_xed<A: Allocator + Copy>(&self, alloc: A) -> Result<String<A>, AllocError>
         requires { IsTrue (nameable ⟦<R as RegisterNames>⟧.names self.now) }
         ensures { IfOk result (λ t. string_bytes t ≡ text ⟦<R as RegisterNames>⟧.names Xed row.vcmpps_b self.now) }
@@ -123,7 +123,7 @@ impl<R: Registers> vcmppd_b<R> {
         }
     }
 
-    /// The text as XED prints it. Fails where there is no memory.
+    /// The text as XED prints it, of registers that are all `nameable`. Fails where there is no memory.
     pub fn to_string_xed<A: Allocator + Copy>(&self, alloc: A) -> Result<String<A>, AllocError>
         requires { IsTrue (nameable ⟦<R as RegisterNames>⟧.names self.now) }
         ensures { IfOk result (λ t. string_bytes t ≡ text ⟦<R as RegisterNames>⟧.names Xed row.vcmppd_b self.now) }
@@ -194,7 +194,7 @@ impl<R: Registers> vcmpss_b<R> {
         }
     }
 
-    /// The text as XED prints it. Fails where there is no memory.
+    /// The text as XED prints it, of registers that are all `nameable`. Fails where there is no memory.
     pub fn to_string_xed<A: Allocator + Copy>(&self, alloc: A) -> Result<String<A>, AllocError>
         requires { IsTrue (nameable ⟦<R as RegisterNames>⟧.names self.now) }
         ensures { IfOk result (λ t. string_bytes t ≡ text ⟦<R as RegisterNames>⟧.names Xed row.vcmpss_b self.now) }
@@ -265,7 +265,7 @@ impl<R: Registers> vcmpsd_b<R> {
         }
     }
 
-    /// The text as XED prints it. Fails where there is no memory.
+    /// The text as XED prints it, of registers that are all `nameable`. Fails where there is no memory.
     pub fn to_string_xed<A: Allocator + Copy>(&self, alloc: A) -> Result<String<A>, AllocError>
         requires { IsTrue (nameable ⟦<R as RegisterNames>⟧.names self.now) }
         ensures { IfOk result (λ t. string_bytes t ≡ text ⟦<R as RegisterNames>⟧.names Xed row.vcmpsd_b self.now) }

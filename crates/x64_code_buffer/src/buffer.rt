@@ -167,6 +167,10 @@ impl<A: Allocator> CodeBuffer<A> {
     /// It makes room for thirteen bytes and a notice first, so a refusal leaves all as it was but the rooms. Where no byte was
     /// put yet it asks for 64, and later for twice its room; where these are refused it does with thirteen. Takes constant
     /// time, over many instructions.
+    ///
+    /// The instruction has to be encodable for the offsets that are set, as [`is_encodable`](Instruction::is_encodable)
+    /// tells. Where it isn't, a build that wasn't proved may put a wrong instruction and answer Ok, or abort.
+    /// [`push_checked`](Self::push_checked) tests first, and has no condition.
     pub fn push<I: Instruction>(&mut self, inst: &I) -> Result<(), SinkError>
         requires { IsTrue (can_encode_in (buffer_state self.old) (I.meant inst.now)) }
         ensures adds { OnOk result (Adds (I.meant inst.now) (buffer_state self.old) (buffer_state self.new)) }

@@ -69,6 +69,9 @@ impl<R: AsReg> NonRspGpr<R> {
     }
 
     /// The register's hardware number.
+    ///
+    /// The register has to be real, as [`is_real`](Self::is_real) tells. Where it isn't, a build that wasn't proved may
+    /// answer any number, or abort.
     pub fn enc(&self) -> u8
         requires { IsTrue (is_real_non_rsp R.settled R.enc self.now) }
         ensures number { result ≡ R.enc self.now }
@@ -81,6 +84,9 @@ impl<R: AsReg> NonRspGpr<R> {
     /// The register's text at this size.
     ///
     /// Fails where there is no memory.
+    ///
+    /// The register needs a text, as `nameable` of [`AsReg`] tells. Where it has none, a build that wasn't proved may
+    /// answer another register's, or abort.
     pub fn to_string<A: Allocator + Copy>(
         &self,
         alloc: A,
