@@ -1,4 +1,4 @@
-//! From a row of the table and operands to the code of an instruction.
+//! From a line of a table and operands to the code of an instruction, and of a row as an instance.
 
 ghost use Rattle.std.specs.Prelude.{◌≡◌, ◌∷◌, [], ◌==◌, ◌<◌, ◌≤◌, ◌/◌, ◌&&◌, ◌||◌, ◌↔◌, nat_le, IsTrue, IsSome, IsOk, IfErr, true, Option, OnOk, OnErr, option_map, length};
 ghost use Rattle.std.specs.Int.{from_bool};

@@ -10,7 +10,7 @@ use crate::short::Short;
 use cax64_prefix::vex::VexPrefix;
 use cax64_table::entry::Entry;
 
-/// The legacy prefixes of a row: F0 first, then 66, F2 or F3.
+/// The legacy prefixes of a line: F0 first, then 66, F2 or F3.
 #[inline(always)]
 pub(crate) fn legacy(entry: Entry) -> Short
     ensures bytes { result ≡ legacy_bytes_of (entry_line entry).prefix }
@@ -32,7 +32,7 @@ pub(crate) fn vex(prefix: VexPrefix) -> Short
     }
 }
 
-/// The opcode of a row, behind 0F where it has the escape.
+/// The opcode of a line, behind 0F where it has the escape.
 #[inline(always)]
 pub(crate) fn opcode(entry: Entry) -> Short
     ensures { result ≡ opcode_bytes (entry_line entry).opcode }

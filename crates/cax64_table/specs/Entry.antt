@@ -57,7 +57,7 @@ is_digit (Modrm (Digit k) field) = nat_lt k 8
 is_digit (Modrm Register8 field) = true
 is_digit (Modrm Register field) = true
 
--- not two fields are an 8-bit register
+-- an 8-bit register stands in reg beside memory alone, and an 8-bit place beside a digit alone
 abbrev pub is_8bit_once : TailField → Bool
 is_8bit_once NoTail = true
 is_8bit_once (Modrm (Digit k) field) = true

@@ -61,7 +61,7 @@ fn is_digit(tail: TailField) -> bool
     }
 }
 
-/// Not two fields are an 8-bit register.
+/// An 8-bit register stands in reg beside memory alone, and an 8-bit place beside a digit alone.
 fn is_8bit_once(tail: TailField) -> bool
     ensures { result ≡ is_8bit_once tail }
 {

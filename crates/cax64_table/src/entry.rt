@@ -23,7 +23,7 @@ pub struct Entry {
 impl Entry {
     ghost use Rattle.cax64_table.specs.EntryLine.{entry_line};
 
-    /// That of a number, where it is one.
+    /// That of a packed number, where the number is an entry: its ready parts are its line's, and the line can be encoded.
     pub fn of(packed: u64) -> Option<Entry>
         ensures is { IsSome result ↔ IsTrue (is_entry packed) }
         ensures line { IfSome result (λ entry. entry_line entry ≡ unpacked packed) }
