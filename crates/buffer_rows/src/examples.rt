@@ -143,8 +143,8 @@ fn a_label_stands_behind_a_later_instruction(rt: HostRuntime) {
     assert!(rt; code.as_slice() == [0xFF, 0x15, 2, 0, 0, 0, 0xD0, 0xE0].as_slice());
 }
 
-/// A loop: a comparison with a constant, a call through what comes behind, and a jump through the beginning.
-fn a_loop(alloc: Global) -> Result<Option<Vec<u8>>, SinkError> {
+/// A comparison with a constant, a call through what comes behind, and a jump through what stands at the beginning.
+fn calls_through_memory(alloc: Global) -> Result<Option<Vec<u8>>, SinkError> {
     let mut buffer = CodeBuffer::new(alloc);
     let top = buffer.new_label()?;
     let end = buffer.new_label()?;
@@ -169,8 +169,10 @@ fn read_at(code: &[u8], at: usize) -> Option<(Row, i32)> {
 }
 
 #[test]
-fn a_loop_reads_back(rt: HostRuntime) {
-    let code = a_loop(rt.alloc()).expect(&rt, "memory").expect(&rt, "code");
+fn calls_through_memory_read_back(rt: HostRuntime) {
+    let code = calls_through_memory(rt.alloc())
+        .expect(&rt, "memory")
+        .expect(&rt, "code");
     let bytes = [
         0x0F, 0xC2, 0x05, 12, 0, 0, 0, 0, 0xFF, 0x15, 6, 0, 0, 0, 0xFF, 0x25, 0xEC, 0xFF, 0xFF,
         0xFF, 0, 0, 0x80, 0x3F,

@@ -56,6 +56,10 @@ fn addition(place: DataOperand, register: u8) -> Option<InstData> {
     InstData::new(Row::lock_addl_mr, &[place, DataOperand::Register(register)]).ok()
 }
 
+fn wide_addition(place: DataOperand, register: u8) -> Option<InstData> {
+    InstData::new(Row::lock_addq_mr, &[place, DataOperand::Register(register)]).ok()
+}
+
 /// A comparison of vectors by a predicate.
 fn comparison(first: u8, second: u8, place: DataOperand, predicate: i64) -> Option<InstData> {
     let operands = [
@@ -89,7 +93,7 @@ fn product(high: u8, low: u8, factor: u8, fixed: u8) -> Option<InstData> {
 }
 
 /// Whether both are made, each is equal to itself, and neither to the other.
-fn differ(a: Option<InstData>, b: Option<InstData>) -> bool {
+fn differ(a: &Option<InstData>, b: &Option<InstData>) -> bool {
     match (a, b) {
         (Some(a), Some(b)) => a == a && b == b && a != b && b != a,
         _ => false,
@@ -99,56 +103,53 @@ fn differ(a: Option<InstData>, b: Option<InstData>) -> bool {
 #[test]
 fn data_is_compared_by_each_of_its_parts(rt: HostRuntime) {
     laws_of_equality();
-    let place = based(6, 0, None);
-    let sum = addition(place, 8);
-    assert!(rt; differ(sum, addition(place, 9)));
-    let wide = InstData::new(Row::lock_addq_mr, &[place, DataOperand::Register(8)]).ok();
-    assert!(rt; differ(sum, wide));
-    assert!(rt; differ(sum, addition(based(7, 0, None), 8)));
-    assert!(rt; differ(sum, addition(based(6, 1, None), 8)));
-    assert!(rt; differ(sum, addition(based(6, 0, trap()), 8)));
-    assert!(rt; differ(addition(based(6, 9, None), 8), addition(late(5), 8)));
-    assert!(rt; differ(addition(late(4), 8), addition(late(5), 8)));
+    let sum = addition(based(6, 0, None), 8);
+    assert!(rt; differ(&sum, &addition(based(6, 0, None), 9)));
+    let wide = wide_addition(based(6, 0, None), 8);
+    assert!(rt; differ(&sum, &wide));
+    assert!(rt; differ(&sum, &addition(based(7, 0, None), 8)));
+    assert!(rt; differ(&sum, &addition(based(6, 1, None), 8)));
+    assert!(rt; differ(&sum, &addition(based(6, 0, trap()), 8)));
+    assert!(rt; differ(&addition(based(6, 9, None), 8), &addition(late(5), 8)));
+    assert!(rt; differ(&addition(late(4), 8), &addition(late(5), 8)));
     let scaled = addition(indexed(6, 7, Scale::Four), 8);
-    assert!(rt; differ(scaled, addition(based(6, -128, None), 8)));
-    assert!(rt; differ(scaled, addition(indexed(5, 7, Scale::Four), 8)));
-    assert!(rt; differ(scaled, addition(indexed(6, 5, Scale::Four), 8)));
-    assert!(rt; differ(scaled, addition(indexed(6, 7, Scale::Two), 8)));
+    assert!(rt; differ(&scaled, &addition(based(6, -128, None), 8)));
+    assert!(rt; differ(&scaled, &addition(indexed(5, 7, Scale::Four), 8)));
+    assert!(rt; differ(&scaled, &addition(indexed(6, 5, Scale::Four), 8)));
+    assert!(rt; differ(&scaled, &addition(indexed(6, 7, Scale::Two), 8)));
     let label = addition(at(DeferredTarget::Label(Label(3))), 8);
-    assert!(rt; differ(label, addition(at(DeferredTarget::Label(Label(4))), 8)));
+    assert!(rt; differ(&label, &addition(at(DeferredTarget::Label(Label(4))), 8)));
     assert!(rt;
         differ(
-            label,
-            addition(at(DeferredTarget::Constant(Constant(3))), 8)
+            &label,
+            &addition(at(DeferredTarget::Constant(Constant(3))), 8)
         )
     );
     let nowhere = addition(at(DeferredTarget::None), 8);
-    assert!(rt; differ(addition(at(DeferredTarget::Label(Label(0))), 8), nowhere));
+    assert!(rt; differ(&addition(at(DeferredTarget::Label(Label(0))), 8), &nowhere));
     assert!(rt;
         differ(
-            addition(at(DeferredTarget::Constant(Constant(0))), 8),
-            nowhere
+            &addition(at(DeferredTarget::Constant(Constant(0))), 8),
+            &nowhere
         )
     );
 }
 
 #[test]
 fn data_is_compared_by_vvvv_immediate_and_fixed_registers(rt: HostRuntime) {
-    let register = DataOperand::Register(3);
-    let order = comparison(1, 2, register, 4);
-    assert!(rt; differ(order, comparison(2, 2, register, 4)));
-    assert!(rt; differ(order, comparison(1, 1, register, 4)));
-    assert!(rt; differ(order, comparison(1, 2, register, 5)));
-    assert!(rt; differ(order, comparison(1, 2, DataOperand::Register(4), 4)));
-    assert!(rt; differ(order, comparison(1, 2, based(3, 0, None), 4)));
-    let place = based(6, 0, None);
-    let swap = exchange(place, [0, 2, 1, 3]);
-    assert!(rt; differ(swap, exchange(place, [9, 2, 1, 3])));
-    assert!(rt; differ(swap, exchange(place, [0, 9, 1, 3])));
-    assert!(rt; differ(swap, exchange(place, [0, 2, 9, 3])));
-    assert!(rt; differ(swap, exchange(place, [0, 2, 1, 9])));
+    let order = comparison(1, 2, DataOperand::Register(3), 4);
+    assert!(rt; differ(&order, &comparison(2, 2, DataOperand::Register(3), 4)));
+    assert!(rt; differ(&order, &comparison(1, 1, DataOperand::Register(3), 4)));
+    assert!(rt; differ(&order, &comparison(1, 2, DataOperand::Register(3), 5)));
+    assert!(rt; differ(&order, &comparison(1, 2, DataOperand::Register(4), 4)));
+    assert!(rt; differ(&order, &comparison(1, 2, based(3, 0, None), 4)));
+    let swap = exchange(based(6, 0, None), [0, 2, 1, 3]);
+    assert!(rt; differ(&swap, &exchange(based(6, 0, None), [9, 2, 1, 3])));
+    assert!(rt; differ(&swap, &exchange(based(6, 0, None), [0, 9, 1, 3])));
+    assert!(rt; differ(&swap, &exchange(based(6, 0, None), [0, 2, 9, 3])));
+    assert!(rt; differ(&swap, &exchange(based(6, 0, None), [0, 2, 1, 9])));
     let (three, four) = (InstData::nop(Nop::Three), InstData::nop(Nop::Four));
-    assert!(rt; differ(Some(three), Some(four)));
+    assert!(rt; differ(&Some(three), &Some(four)));
 }
 
 #[test]

@@ -494,9 +494,17 @@ fn refusals(alloc: Global, part: Part, capacity: usize, filled: usize) -> Option
     None
 }
 
+/// How many bytes a part adds.
+fn bytes_of(alloc: Global, part: Part) -> Result<usize, AllocError> {
+    let mut out = String::new(alloc);
+    part.push(&mut out, alloc)?;
+    Ok(out.len())
+}
+
 #[test]
 fn a_refusal_leaves_what_a_plain_form_leaves(rt: HostRuntime) {
     for part in PARTS {
+        let bytes = bytes_of(rt.alloc(), part).expect(&rt, "memory");
         for capacity in 0..25usize {
             for filled in 0..capacity + 1 {
                 let Some(refused) = refusals(rt.alloc(), part, capacity, filled) else {
@@ -506,10 +514,10 @@ fn a_refusal_leaves_what_a_plain_form_leaves(rt: HostRuntime) {
                     );
                     return;
                 };
-                // Behind a text that fills its memory nothing is added without more.
+                // What doesn't fit asks for more, which the smallest heap that holds the text hasn't.
                 assert!(rt;
-                    refused > 0 || filled < capacity,
-                    "{part:?} behind {filled}"
+                    refused > 0 || filled.saturating_add(bytes) <= capacity,
+                    "{part:?} behind {filled} of {capacity}"
                 );
             }
         }
