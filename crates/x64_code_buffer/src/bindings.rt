@@ -7,6 +7,7 @@ ghost use Rattle.x64_code_buffer.specs.declared.errors.BindError.{BindError};
 ghost use Rattle.cax64_sink.specs.declared.SinkError.{SinkError};
 
 use crate::errors::BindError;
+use crate::slot::Slot;
 use cax64_sink::{Constant, DeferredTarget, Label, SinkError};
 use std::alloc::{AllocError, Allocator};
 use std::collections::HashMap;
@@ -18,8 +19,8 @@ const NEAR: usize = 16;
 /// Places by the keys of constants.
 type Places<A> = HashMap<u32, usize, BuildHasherDefault<FoldHasher>, A>;
 
-/// For how many labels a first block is, as `Vec::push` would ask for it.
-const FIRST_LABELS: usize = 4;
+/// For how many labels a first block is: 64 bytes.
+const FIRST_LABELS: usize = 8;
 
 /// The places of the labels that were given, by number, and of the constants that are bound.
 ///
@@ -28,8 +29,8 @@ const FIRST_LABELS: usize = 4;
 /// all others. It is made at the first of these: an empty one is made and dropped at a price that a small buffer notices.
 #[derive(Drop)]
 pub struct Bindings<A: Allocator> {
-    labels: Vec<Option<usize>, A>,
-    listed: Vec<Option<usize>, A>,
+    labels: Vec<Slot, A>,
+    listed: Vec<Slot, A>,
     others: Option<Places<A>>,
     ghost few: { vec_len labels ≤ MAX },
 }
@@ -63,7 +64,7 @@ impl<A: Allocator> Bindings<A> {
         ensures { result ≡ place_bound self.now target }
     {
         match target {
-            DeferredTarget::Label(Label(number)) => *self.labels.get(number as usize)?,
+            DeferredTarget::Label(Label(number)) => self.labels.get(number as usize)?.place(),
             DeferredTarget::Constant(constant) => self.constant_place(constant),
             DeferredTarget::None => None,
         }
@@ -74,8 +75,10 @@ impl<A: Allocator> Bindings<A> {
     fn constant_place(&self, constant: Constant) -> Option<usize>
         ensures { result ≡ place_bound self.now (DeferredTarget.Constant constant) }
     {
-        if let Some(Some(place)) = self.listed.get(constant.0 as usize) {
-            return Some(*place);
+        if let Some(slot) = self.listed.get(constant.0 as usize) {
+            if let Some(place) = slot.place() {
+                return Some(place);
+            }
         }
         self.other_place(constant)
     }
@@ -112,18 +115,38 @@ impl<A: Allocator> Bindings<A> {
         if self.labels.len() == u32::MAX as usize {
             return Err(SinkError::Full);
         }
-        if self.labels.capacity() == 0 {
-            self.labels
-                .reserve_exact(FIRST_LABELS)
-                .map_err(|_| SinkError::NoMemory)?;
+        // Asked here, since the compiler calls what grows a `Vec` for each label where `push` alone asks.
+        if self.labels.len() == self.labels.capacity() {
+            self.grow_labels()?;
         }
         let label = Label(self.labels.len() as u32);
-        self.labels.push(None).map_err(|_| SinkError::NoMemory)?;
+        self.labels
+            .push(Slot::empty())
+            .map_err(|_| SinkError::NoMemory)?;
         Ok(label)
+    }
+
+    /// Makes room for a label where there is none: a first block, and then twice the room.
+    #[inline(never)]
+    fn grow_labels(&mut self) -> Result<(), SinkError>
+        ensures room { OnOk result (1 ≤ spare_labels self.new) }
+        ensures stays { spare_labels self.old ≤ spare_labels self.new }
+        ensures succeeds { 1 ≤ spare_labels self.old → IsOk result }
+        ensures no_memory { IfErr result (λ e. e ≡ SinkError.NoMemory) }
+        ensures places { SamePlaces (place_bound self.old) (place_bound self.new) }
+        ensures labels { length self.new.labels.items ≡ length self.old.labels.items }
+    {
+        let grown = if self.labels.capacity() == 0 {
+            self.labels.reserve_exact(FIRST_LABELS)
+        } else {
+            self.labels.reserve(1)
+        };
+        grown.map_err(|_| SinkError::NoMemory)
     }
 
     /// Binds a label that was given to a place.
     pub fn bind(&mut self, label: Label, place: usize) -> Result<(), BindError>
+        requires { place < 2 ^ 63 }
         ensures answer { result ≡ bind_answer (length self.old.labels.items) label.0 (place_bound self.old (DeferredTarget.Label label)) }
         ensures binds { OnOk result (AddsBinding (DeferredTarget.Label label) place (place_bound self.old) (place_bound self.new)) }
         ensures unchanged { OnErr result (SamePlaces (place_bound self.old) (place_bound self.new)) }
@@ -134,10 +157,10 @@ impl<A: Allocator> Bindings<A> {
         if number >= self.labels.len() {
             return Err(BindError::Unknown);
         }
-        if self.labels[number].is_some() {
+        if self.labels[number].place().is_some() {
             return Err(BindError::Twice);
         }
-        self.labels[number] = Some(place);
+        self.labels[number] = Slot::of(place);
         Ok(())
     }
 
@@ -161,6 +184,7 @@ impl<A: Allocator + Clone> Bindings<A> {
 
     /// Binds a constant to a place. Where the list can't grow, the map has it.
     pub fn bind_constant(&mut self, constant: Constant, place: usize) -> Result<(), BindError>
+        requires { place < 2 ^ 63 }
         ensures answer { MatchOption (place_bound self.old (DeferredTarget.Constant constant)) ((result ≡ Ok tt) ⊎ (result ≡ Err BindError.NoMemory)) (λ _. result ≡ Err BindError.Twice) }
         ensures binds { OnOk result (AddsBinding (DeferredTarget.Constant constant) place (place_bound self.old) (place_bound self.new)) }
         ensures unchanged { OnErr result (SamePlaces (place_bound self.old) (place_bound self.new)) }
@@ -173,7 +197,7 @@ impl<A: Allocator + Clone> Bindings<A> {
                 return Err(BindError::Twice);
             }
             if self.list_up_to(key).is_ok() {
-                self.listed[key] = Some(place);
+                self.listed[key] = Slot::of(place);
                 return Ok(());
             }
         }
@@ -215,7 +239,7 @@ impl<A: Allocator + Clone> Bindings<A> {
         if key < self.listed.len() {
             return Ok(());
         }
-        self.listed.resize(key + 1, None)
+        self.listed.resize(key + 1, Slot::empty())
     }
 }
 

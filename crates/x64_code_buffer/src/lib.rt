@@ -12,6 +12,7 @@ mod patch;
 mod refusal;
 mod resolve;
 mod room;
+mod slot;
 
 pub use buffer::CodeBuffer;
 pub use errors::{BindError, FinishError};

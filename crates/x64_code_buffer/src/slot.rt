@@ -1,0 +1,42 @@
+//! A place or none, in one word.
+
+ghost use Rattle.std.specs.Prelude.{◌≡◌, ◌<◌, ◌^◌, Some, None};
+
+/// A place, or none. It takes one word, where an `Option<usize>` takes two, and a buffer has one for each label.
+#[derive(Clone, Copy)]
+pub struct Slot {
+    /// The number after the place, or 0.
+    after: usize,
+}
+
+impl Slot {
+    ghost use Rattle.x64_code_buffer.specs.Binding.{slot_place};
+
+    /// No place.
+    #[inline(always)]
+    pub fn empty() -> Slot
+        ensures { slot_place result ≡ None }
+    {
+        Slot { after: 0 }
+    }
+
+    /// A place.
+    #[inline(always)]
+    pub fn of(place: usize) -> Slot
+        requires { place < 2 ^ 63 }
+        ensures { slot_place result ≡ Some place }
+    {
+        Slot { after: place + 1 }
+    }
+
+    /// The place, if there is one.
+    #[inline(always)]
+    pub fn place(self) -> Option<usize>
+        ensures { result ≡ slot_place self }
+    {
+        if self.after == 0 {
+            return None;
+        }
+        Some(self.after - 1)
+    }
+}
