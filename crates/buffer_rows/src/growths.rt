@@ -213,7 +213,7 @@ fn constants_are_bound_where_their_list_cannot_grow(rt: HostRuntime) {
         assert!(rt; bound >= in_a_map, "{bound} for {in_a_map}");
     }
     // A list of so many can't be doubled in such a heap, and there is memory for some more in a map.
-    for (limit, listed) in [(1536, 32u32), (2560, 64), (5120, 128)] {
+    for (limit, listed) in [(768, 32u32), (1280, 64), (2560, 128)] {
         let bound = bound_in_order(rt.alloc(), limit).expect(&rt, "their places");
         assert!(rt; bound > listed && bound < 2 * listed, "{bound}");
     }
@@ -330,6 +330,6 @@ fn requests_of(alloc: Global, labels: u32, count: u32) -> Option<usize> {
 fn a_function_takes_few_blocks(rt: HostRuntime) {
     // One for bytes, for notices and for labels.
     assert_eq!(rt; requests_of(rt.alloc(), 1, 1), Some(3));
-    // Of 64, 128 and so on to 2,048 bytes, and of 4, 8 and so on to 256 notices and to 128 labels.
-    assert_eq!(rt; requests_of(rt.alloc(), 100, 200), Some(19));
+    // Of 64, 128 and so on to 2,048 bytes, of 4, 8 and so on to 256 notices, and of 8, 16 and so on to 128 labels.
+    assert_eq!(rt; requests_of(rt.alloc(), 100, 200), Some(18));
 }
