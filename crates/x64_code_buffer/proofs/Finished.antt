@@ -16,7 +16,7 @@ use Rattle.cax64_sink.specs.declared.DeferredTarget.{DeferredTarget}
 use Rattle.cax64_sink.specs.declared.DeferredTarget.TheVariants as target
 use Rattle.x64_code_buffer.specs.Field.{if_i32, patched, stored_at}
 use Rattle.x64_code_buffer.specs.Filled.{Unpatched, places_told, uses_behind}
-use Rattle.x64_code_buffer.specs.Laid.{Piece, whole, open_jump, reading_in, readings_in, line_imm_behind, line_field_place, LinesRead, Open, EachOpen, line_field_at, piece_field, piece_fields, LineLeads, JumpsTo, LineSettledAs, PieceSettled, uses_after, EachSettled}
+use Rattle.x64_code_buffer.specs.Laid.{Piece, whole, open_jump, reading_in, readings_in, line_imm_behind, line_field_place, LinesRead, Open, EachOpen, line_field_at, piece_fields, LineLeads, JumpsTo, LineSettledAs, PieceSettled, uses_after, EachSettled}
 use Rattle.x64_code_buffer.specs.Use.{Use, patched_at, links, IsOutside, IsPatched}
 use Rattle.x64_code_buffer.proofs.Fields.{stored_is, four_at}
 use Rattle.x64_code_buffer.proofs.Filling.{one_read}

@@ -1,4 +1,4 @@
-use Rattle.std.proofs.Common.{◌≡◌, ◌⊎◌, inl, inr, ℕ, ◌+◌, ◌≤◌, refl, ◌∙◌, ap, sym, subst, List, [], ◌∷◌, ◌++◌, Option, Some, None, length, take, drop}
+use Rattle.std.proofs.Common.{◌≡◌, ◌⊎◌, inl, inr, ℕ, ◌+◌, refl, ◌∙◌, ap, sym, subst, List, [], ◌∷◌, ◌++◌, Option, Some, None, length, take, drop}
 use Rattle.cax64_machine_code.proofs.ReadLine.{reads_line, row_reads}
 use Rattle.cax64_machine_code.specs.ReadLine.{LineReading, ReadsLineAs, read_line, with_line, as_row, parts_as}
 use Rattle.cax64_machine_code.specs.Reading.{Parts, PartsOf}
@@ -144,9 +144,10 @@ rows_settled places at [] us now b reads settled = (subst (λ (z : List LineRead
 rows_settled places at (r ∷ rs) us [] b reads settled = absurd settled
 rows_settled places at (r ∷ rs) us (q ∷ now) b reads settled =
     let line : q.line ≡ line_of r.row = line_stays places (at + r.length) (with_line r) q r.place us settled.0 in
-    let later = rows_settled places (at + r.length) rs _ now (drop q.length b) reads.3 settled.1 in
-    ((λ rest. row_reads r.row (take q.length b ++ rest) q (ap (λ (l : Line). read_line l (take q.length b ++ rest)) (sym line) ∙ reads.0 rest), reads.1, reads.2, later.0),
-    (row_settled places (at + r.length) r q r.place us settled.0, later.1))
+    let later = rows_settled places (at + r.length) rs _ now (drop q.length b) reads.3 settled.1 in (
+      (λ rest. row_reads r.row (take q.length b ++ rest) q (ap (λ (l : Line). read_line l (take q.length b ++ rest)) (sym line) ∙ reads.0 rest), reads.1, reads.2, later.0),
+      (row_settled places (at + r.length) r q r.place us settled.0, later.1),
+    )
 
 pub laid_out_is_finished : (rs : List Reading) (n : ℕ) (s : State) (places : DeferredTarget → Option ℕ) (code : List ℕ) → LaidOut (whole_pieces rs) n s places code → Finished rs n s places code
 laid_out_is_finished rs n s places code h =

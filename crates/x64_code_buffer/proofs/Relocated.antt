@@ -56,10 +56,6 @@ unfolding after
 after_self [] rest = refl
 after_self (c ∷ opcode) rest = rw (itself c) (after_self opcode rest)
 
-digit_same : (tail : TailField) (m : ℕ) (a b : List ℕ) → digit_matches tail (m ∷ a) ≡ true → digit_matches tail (m ∷ b) ≡ true
-digit_same NoTail m a b h = refl
-digit_same (Modrm reg place) m a b h = h
-
 matched_again : (line : Line) (p : Prefix) (bytes a b : List ℕ) → matched_at line p bytes ≡ Some a → (digit_matches line.tail a ≡ true → digit_matches line.tail b ≡ true) → matched_at line p (opcode_bytes line.opcode ++ b) ≡ Some b
 matched_again line p bytes a b h same =
     let both = some_if (prefix_matches line p) (opcode_at line bytes) a h in
@@ -173,17 +169,21 @@ imm_length (Simm size) bytes r h = mapped_length (λ (n : ℕ). Some (signed_of 
 abbrev moved : PartsOf Line → ℤ → PartsOf Line
 moved parts disp = record { row = parts.row; reg = parts.reg; vvvv = parts.vvvv; place = Some (Rip disp); imm = parts.imm }
 
-record RipOperands (field : TailField) (line : Line) (p : Prefix) (bytes : List ℕ) (found : FoundOf Line) : Type 0 where
-  m : ℕ
+-- Of the bytes behind an opcode: four, with b before them and k behind, and then what is left, t of them the tail; and with
+-- any other four there the line finds the parts so.
+record Operands (field : TailField) (line : Line) (p : Prefix) (bytes : List ℕ) (found : FoundOf Line) (b k t : ℕ) (so : ℤ → PartsOf Line) : Type 0 where
+  before : List ℕ
   one : ℕ
   two : ℕ
   three : ℕ
   last : ℕ
-  imm : List ℕ
-  bytes_are : bytes ≡ m ∷ one ∷ two ∷ three ∷ last ∷ imm
-  tail_is : found.tail ≡ 5
-  imm_is : length imm ≡ imm_bytes line.imm + length found.rest
-  again : (c d e f : ℕ) → operands_of field line line p (m ∷ c ∷ d ∷ e ∷ f ∷ imm) ≡ Some (record { parts = moved found.parts (s32 (four c d e f)); tail = 5; rest = found.rest })
+  after : List ℕ
+  bytes_are : bytes ≡ before ++ (one ∷ two ∷ three ∷ last ∷ after)
+  before_is : length before ≡ b
+  after_is : length after ≡ k + length found.rest
+  tail_is : found.tail ≡ t
+  digit : (c d e f : ℕ) → digit_matches field bytes ≡ true → digit_matches field (before ++ (c ∷ d ∷ e ∷ f ∷ after)) ≡ true
+  again : (c d e f : ℕ) → operands_of field line line p (before ++ (c ∷ d ∷ e ∷ f ∷ after)) ≡ Some (record { parts = so (s32 (four c d e f)); tail = found.tail; rest = found.rest })
 
 reg_place_no_rip : (field : PlaceField) (p : Prefix) (view : _) (place : Place) → reg_place field p view ≡ Some place → is_rip place ≡ false
 reg_place_no_rip Memory p view place h = cc
@@ -196,29 +196,34 @@ rip_place field p (Reg view) place h r = no_true (sym r ∙ reg_place_no_rip fie
 rip_place field p (Mem base index disp) place h r = no_true (sym r ∙ sym (ap is_rip (some_same _ _ h)))
 rip_place field p (Rip disp) place h r = refl
 
-five : (m c d e f : ℕ) (imm : List ℕ) → length (m ∷ c ∷ d ∷ e ∷ f ∷ imm) - length imm ≡ 5
-five m c d e f imm = omega arith
+five_more : (m c d e f : ℕ) (imm : List ℕ) → length (m ∷ c ∷ d ∷ e ∷ f ∷ imm) - length imm ≡ 5
+five_more m c d e f imm = omega arith
 
-by_imm : (reg : RegField) (field : PlaceField) (line : Line) (p : Prefix) (bytes : List ℕ) (t : Tail) (place : Place) (o : Option (Option ℤ × List ℕ)) (found : FoundOf Line) → imm_at line.imm t.rest ≡ o → RipTail (x_of p) (b_of p) bytes t → option_map {T = Option ℤ × List ℕ} {U = FoundOf Line} (λ i. record { parts = record { row = line; reg = reg_view reg p t.reg; vvvv = vvvv_at line.prefix p; place = Some place; imm = i.0 }; tail = length bytes - length t.rest; rest = i.1 }) o ≡ Some found → RipOperands (Modrm reg field) line p bytes found
+by_imm : (reg : RegField) (field : PlaceField) (line : Line) (p : Prefix) (bytes : List ℕ) (t : Tail) (place : Place) (o : Option (Option ℤ × List ℕ)) (found : FoundOf Line) → imm_at line.imm t.rest ≡ o → RipTail (x_of p) (b_of p) bytes t → option_map {T = Option ℤ × List ℕ} {U = FoundOf Line} (λ i. record { parts = record { row = line; reg = reg_view reg p t.reg; vvvv = vvvv_at line.prefix p; place = Some place; imm = i.0 }; tail = length bytes - length t.rest; rest = i.1 }) o ≡ Some found → Operands (Modrm reg field) line p bytes found 1 (imm_bytes line.imm) 5 (moved found.parts)
 by_imm reg field line p bytes t place None found ei h k = cc
 by_imm reg field line p bytes t place (Some i) found ei h k =
     let e : record { parts = record { row = line; reg = reg_view reg p t.reg; vvvv = vvvv_at line.prefix p; place = Some place; imm = i.0 }; tail = length bytes - length t.rest; rest = i.1 } ≡ found = some_same _ _ k in
-    let tail : length bytes - length t.rest ≡ 5 = ap (λ (z : List ℕ). length z - length t.rest) h.bytes_are ∙ five h.m h.one h.two h.three h.last t.rest in
+    let five : length bytes - length t.rest ≡ 5 = ap (λ (z : List ℕ). length z - length t.rest) h.bytes_are ∙ five_more h.m h.one h.two h.three h.last t.rest in
+    let tail : found.tail ≡ 5 = sym (ap (λ (z : FoundOf Line). z.tail) e) ∙ five in
     let rest : length i.1 ≡ length found.rest = ap (λ (z : FoundOf Line). length z.rest) e in
     record {
-      m = h.m;
+      before = h.m ∷ [];
       one = h.one;
       two = h.two;
       three = h.three;
       last = h.last;
-      imm = t.rest;
+      after = t.rest;
       bytes_are = h.bytes_are;
-      tail_is = sym (ap (λ (z : FoundOf Line). z.tail) e) ∙ tail;
-      imm_is = omega (arith, imm_length line.imm t.rest i ei, rest);
-      again = λ c d e' f. rw (h.again c d e' f t.rest, ei, five h.m c d e' f t.rest) (ap (λ (z : FoundOf Line). Some (record { parts = moved z.parts (s32 (four c d e' f)); tail = 5; rest = z.rest })) e);
+      before_is = refl;
+      after_is = omega (arith, imm_length line.imm t.rest i ei, rest);
+      tail_is = tail;
+      digit = λ c d e' f k. ap (digit_matches (Modrm reg field)) (sym h.bytes_are) ∙ k;
+      again = λ c d e' f.
+          rw (h.again c d e' f t.rest, ei, five_more h.m c d e' f t.rest) (ap (λ (z : FoundOf Line). Some (record { parts = moved z.parts (s32 (four c d e' f)); tail = 5; rest = z.rest })) e)
+          ∙ ap (λ (n : ℕ). Some (record { parts = moved found.parts (s32 (four c d e' f)); tail = n; rest = found.rest })) (sym tail);
     }
 
-by_place : (reg : RegField) (field : PlaceField) (line : Line) (p : Prefix) (bytes : List ℕ) (t : Tail) (o : Option Place) (found : FoundOf Line) → place_at field p t.place ≡ o → (is_rip t.place ≡ true → RipTail (x_of p) (b_of p) bytes t) → option_and_then {T = Place} {U = FoundOf Line} (λ place. option_map (λ i. record { parts = record { row = line; reg = reg_view reg p t.reg; vvvv = vvvv_at line.prefix p; place = Some place; imm = i.0 }; tail = length bytes - length t.rest; rest = i.1 }) (imm_at line.imm t.rest)) o ≡ Some found → is_some_rip found.parts.place ≡ true → RipOperands (Modrm reg field) line p bytes found
+by_place : (reg : RegField) (field : PlaceField) (line : Line) (p : Prefix) (bytes : List ℕ) (t : Tail) (o : Option Place) (found : FoundOf Line) → place_at field p t.place ≡ o → (is_rip t.place ≡ true → RipTail (x_of p) (b_of p) bytes t) → option_and_then {T = Place} {U = FoundOf Line} (λ place. option_map (λ i. record { parts = record { row = line; reg = reg_view reg p t.reg; vvvv = vvvv_at line.prefix p; place = Some place; imm = i.0 }; tail = length bytes - length t.rest; rest = i.1 }) (imm_at line.imm t.rest)) o ≡ Some found → is_some_rip found.parts.place ≡ true → Operands (Modrm reg field) line p bytes found 1 (imm_bytes line.imm) 5 (moved found.parts)
 by_place reg field line p bytes t None found ep tail h r = cc
 by_place reg field line p bytes t (Some place) found ep tail h r =
     let is : is_rip place ≡ true = placed (imm_at line.imm t.rest) h in
@@ -228,7 +233,7 @@ by_place reg field line p bytes t (Some place) found ep tail h r =
     placed None k = cc
     placed (Some i) k = ap (λ (z : FoundOf Line). is_some_rip z.parts.place) (some_same _ _ k) ∙ r
 
-by_tail : (reg : RegField) (field : PlaceField) (line : Line) (p : Prefix) (bytes : List ℕ) (o : Option Tail) (found : FoundOf Line) → read_tail (x_of p) (b_of p) 1 bytes ≡ o → option_and_then {T = Tail} {U = FoundOf Line} (λ t. option_and_then (λ place. option_map (λ i. record { parts = record { row = line; reg = reg_view reg p t.reg; vvvv = vvvv_at line.prefix p; place = Some place; imm = i.0 }; tail = length bytes - length t.rest; rest = i.1 }) (imm_at line.imm t.rest)) (place_at field p t.place)) o ≡ Some found → is_some_rip found.parts.place ≡ true → RipOperands (Modrm reg field) line p bytes found
+by_tail : (reg : RegField) (field : PlaceField) (line : Line) (p : Prefix) (bytes : List ℕ) (o : Option Tail) (found : FoundOf Line) → read_tail (x_of p) (b_of p) 1 bytes ≡ o → option_and_then {T = Tail} {U = FoundOf Line} (λ t. option_and_then (λ place. option_map (λ i. record { parts = record { row = line; reg = reg_view reg p t.reg; vvvv = vvvv_at line.prefix p; place = Some place; imm = i.0 }; tail = length bytes - length t.rest; rest = i.1 }) (imm_at line.imm t.rest)) (place_at field p t.place)) o ≡ Some found → is_some_rip found.parts.place ≡ true → Operands (Modrm reg field) line p bytes found 1 (imm_bytes line.imm) 5 (moved found.parts)
 by_tail reg field line p bytes None found et h r = cc
 by_tail reg field line p bytes (Some t) found et h r = by_place reg field line p bytes t (place_at field p t.place) found refl (rip_tail (x_of p) (b_of p) bytes t et) h r
 
@@ -236,7 +241,7 @@ bare_no_rip : (line : Line) (p : Prefix) (o : Option (Option ℤ × List ℕ)) (
 bare_no_rip line p None found h = cc
 bare_no_rip line p (Some i) found h = sym (ap (λ (z : FoundOf Line). is_some_rip z.parts.place) (some_same _ _ h))
 
-rip_operands : (field : TailField) (line : Line) (p : Prefix) (bytes : List ℕ) (found : FoundOf Line) → operands_of field line line p bytes ≡ Some found → is_some_rip found.parts.place ≡ true → RipOperands field line p bytes found
+rip_operands : (field : TailField) (line : Line) (p : Prefix) (bytes : List ℕ) (found : FoundOf Line) → operands_of field line line p bytes ≡ Some found → is_some_rip found.parts.place ≡ true → Operands field line p bytes found 1 (imm_bytes line.imm) 5 (moved found.parts)
 rip_operands NoTail line p bytes found h r = no_true (sym r ∙ bare_no_rip line p (imm_at line.imm bytes) found h)
 rip_operands (Modrm reg field) line p bytes found h r = by_tail reg field line p bytes (read_tail (x_of p) (b_of p) 1 bytes) found refl h r
 
@@ -244,15 +249,7 @@ rip_operands (Modrm reg field) line p bytes found h r = by_tail reg field line p
 abbrev distant : PartsOf Line → ℤ → PartsOf Line
 distant parts distance = record { row = parts.row; reg = parts.reg; vvvv = parts.vvvv; place = parts.place; imm = Some distance }
 
-record FarOperands (line : Line) (p : Prefix) (bytes : List ℕ) (found : FoundOf Line) : Type 0 where
-  one : ℕ
-  two : ℕ
-  three : ℕ
-  last : ℕ
-  bytes_are : bytes ≡ one ∷ two ∷ three ∷ last ∷ found.rest
-  again : (c d e f : ℕ) → operands_of line.tail line line p (c ∷ d ∷ e ∷ f ∷ found.rest) ≡ Some (record { parts = distant found.parts (s32 (four c d e f)); tail = found.tail; rest = found.rest })
-
--- what is read of four bytes, and of less
+-- what is read of four bytes
 abbrev Four : List ℕ → ℕ × List ℕ → Type 0
 Four bytes n = (a : ℕ) × (b : ℕ) × (c : ℕ) × (d : ℕ) × (bytes ≡ a ∷ b ∷ c ∷ d ∷ n.1)
 
@@ -267,18 +264,27 @@ four_there (a ∷ b ∷ c ∷ d ∷ rest) n h = (a, b, c, d, ap (λ (z : ℕ × 
 abbrev far_made : Line → Prefix → Option ℤ × List ℕ → FoundOf Line
 far_made line p i = record { parts = record { row = line; reg = None; vvvv = vvvv_at line.prefix p; place = None; imm = i.0 }; tail = 0; rest = i.1 }
 
-far_by : (line : Line) (p : Prefix) (bytes : List ℕ) (o : Option (ℕ × List ℕ)) (found : FoundOf Line) → number_at 4 bytes ≡ o → line.tail ≡ NoTail → line.imm ≡ Simm 4 → option_map {T = Option ℤ × List ℕ} {U = FoundOf Line} (far_made line p) (option_map {T = ℕ × List ℕ} {U = Option ℤ × List ℕ} (λ n. (Some (signed_of 4 n.0), n.1)) o) ≡ Some found → FarOperands line p bytes found
+no_digit : (tail : TailField) (bytes : List ℕ) → tail ≡ NoTail → digit_matches tail bytes ≡ true
+no_digit tail bytes e = rw e refl
+
+far_by : (line : Line) (p : Prefix) (bytes : List ℕ) (o : Option (ℕ × List ℕ)) (found : FoundOf Line) → number_at 4 bytes ≡ o → line.tail ≡ NoTail → line.imm ≡ Simm 4 → option_map {T = Option ℤ × List ℕ} {U = FoundOf Line} (far_made line p) (option_map {T = ℕ × List ℕ} {U = Option ℤ × List ℕ} (λ n. (Some (signed_of 4 n.0), n.1)) o) ≡ Some found → Operands line.tail line p bytes found 0 0 0 (distant found.parts)
 far_by line p bytes None found en tail imm h = cc
 far_by line p bytes (Some n) found en tail imm h =
     let q = four_there bytes n en in
     let e : far_made line p (Some (signed_of 4 n.0), n.1) ≡ found = some_same _ _ h in
     let rest : n.1 ≡ found.rest = ap (λ (z : FoundOf Line). z.rest) e in
     record {
+      before = [];
       one = q.0;
       two = q.1;
       three = q.2;
       last = q.3;
+      after = found.rest;
       bytes_are = q.4 ∙ ap (λ (z : List ℕ). q.0 ∷ q.1 ∷ q.2 ∷ q.3 ∷ z) rest;
+      before_is = refl;
+      after_is = omega arith;
+      tail_is = sym (ap (λ (z : FoundOf Line). z.tail) e);
+      digit = λ c d e' f k. no_digit line.tail (c ∷ d ∷ e' ∷ f ∷ found.rest) tail;
       again = λ c d e' f.
           let fresh : List ℕ = c ∷ d ∷ e' ∷ f ∷ found.rest in
           ap (λ (t : TailField). operands_of t line line p fresh) tail
@@ -287,13 +293,10 @@ far_by line p bytes (Some n) found en tail imm h =
           ∙ ap (λ (z : FoundOf Line). Some (record { parts = distant z.parts (s32 (four c d e' f)); tail = z.tail; rest = found.rest })) e;
     }
 
-far_operands : (line : Line) (p : Prefix) (bytes : List ℕ) (found : FoundOf Line) → line.tail ≡ NoTail → line.imm ≡ Simm 4 → operands_of line.tail line line p bytes ≡ Some found → FarOperands line p bytes found
+far_operands : (line : Line) (p : Prefix) (bytes : List ℕ) (found : FoundOf Line) → line.tail ≡ NoTail → line.imm ≡ Simm 4 → operands_of line.tail line line p bytes ≡ Some found → Operands line.tail line p bytes found 0 0 0 (distant found.parts)
 far_operands line p bytes found tail imm h =
     let bare : option_map {T = Option ℤ × List ℕ} {U = FoundOf Line} (far_made line p) (imm_at line.imm bytes) ≡ Some found = ap (λ (t : TailField). operands_of t line line p bytes) (sym tail) ∙ h in
     far_by line p bytes (number_at 4 bytes) found refl tail imm (ap (λ (i : ImmField). option_map {T = Option ℤ × List ℕ} {U = FoundOf Line} (far_made line p) (imm_at i bytes)) (sym imm) ∙ bare)
-
-no_digit : (tail : TailField) (bytes : List ℕ) → tail ≡ NoTail → digit_matches tail bytes ≡ true
-no_digit tail bytes e = rw e refl
 
 -- The whole instruction.
 
@@ -345,8 +348,11 @@ pub record Slot (w : List ℕ) (line : Line) (f k : ℕ) (so : ℤ → LineReadi
   pub behind_is : length behind ≡ k
   pub again : (c d e g : ℕ) → read_line line (front ++ (c ∷ d ∷ e ∷ g ∷ behind)) ≡ Some (so (s32 (four c d e g)))
 
+sized : (w front : List ℕ) (a b c d : ℕ) (after : List ℕ) (k : ℕ) → w ≡ front ++ (a ∷ b ∷ c ∷ d ∷ after) → length after ≡ k → length w ≡ length front + 4 + k
+sized w front a b c d after k e h = ap length e ∙ length-append front (a ∷ b ∷ c ∷ d ∷ after) ∙ omega (arith, h)
+
 pub slot_size : (w : List ℕ) (line : Line) (f k : ℕ) (so : ℤ → LineReading) → Slot w line f k so → length w ≡ f + 4 + k
-slot_size w line f k so h = ap length h.bytes_are ∙ length-append h.front (h.one ∷ h.two ∷ h.three ∷ h.last ∷ h.behind) ∙ omega (arith, h.field_is, h.behind_is)
+slot_size w line f k so h = sized w h.front h.one h.two h.three h.last h.behind k h.bytes_are h.behind_is ∙ ap (λ (n : ℕ). n + 4 + k) h.field_is
 
 found_by : (bytes : List ℕ) (o : Option (FoundOf Line)) (r : LineReading) → option_map {T = FoundOf Line} {U = LineReading} (line_reading_of bytes) o ≡ Some r → (found : FoundOf Line) × (o ≡ Some found) × (line_reading_of bytes found ≡ r)
 found_by bytes None r h = cc
@@ -359,57 +365,37 @@ found_reads line v found r h e = rw (h, e) refl
 no_less : (n k : ℕ) → n - k ≡ n → 1 ≤ n → k ≡ 0
 no_less n k h least = omega arith
 
-one_more : (v : List ℕ) (m : ℕ) (rest : List ℕ) → (v ++ (m ∷ [])) ++ rest ≡ v ++ (m ∷ rest)
-one_more v m rest = append_assoc v (m ∷ []) rest
+nothing_left : (w : List ℕ) (found : FoundOf Line) (r : LineReading) → line_reading_of w found ≡ r → r.length ≡ length w → 1 ≤ r.length → length found.rest ≡ 0
+nothing_left w found r e len least =
+    let size : length w - length found.rest ≡ r.length = ap (λ (z : LineReading). z.length) e in
+    no_less (length w) (length found.rest) (size ∙ len) (omega arith)
 
--- where nothing is left, the bytes with another field are as many, and read as the same but for that
-moved_again : (w v : List ℕ) (found : FoundOf Line) (r : LineReading) (disp : ℤ) → length v ≡ length w → found.tail ≡ 5 → line_reading_of w found ≡ r → line_reading_of v (record { parts = moved found.parts disp; tail = 5; rest = found.rest }) ≡ record r { place = Some (Rip disp) }
-moved_again w v found r disp len tail e =
-    ap (λ (n : ℕ). record { line = found.parts.row; length = n - length found.rest; tail = 5; reg = found.parts.reg; vvvv = found.parts.vvvv; place = Some (Rip disp); imm = found.parts.imm }) len
-    ∙ ap (λ (n : ℕ). record { line = found.parts.row; length = length w - length found.rest; tail = n; reg = found.parts.reg; vvvv = found.parts.vvvv; place = Some (Rip disp); imm = found.parts.imm }) (sym tail)
-    ∙ ap (λ (z : LineReading). record z { place = Some (Rip disp) }) e
+as_long : (w v : List ℕ) (found : FoundOf Line) → length v ≡ length w → line_reading_of v found ≡ line_reading_of w found
+as_long w v found e = ap (λ (n : ℕ). record { line = found.parts.row; length = n - length found.rest; tail = found.tail; reg = found.parts.reg; vvvv = found.parts.vvvv; place = found.parts.place; imm = found.parts.imm }) e
 
-distant_again : (w v : List ℕ) (found : FoundOf Line) (r : LineReading) (z : ℤ) → length v ≡ length w → line_reading_of w found ≡ r → line_reading_of v (record { parts = distant found.parts z; tail = found.tail; rest = found.rest }) ≡ record r { imm = Some z }
-distant_again w v found r z len e =
-    ap (λ (n : ℕ). record { line = found.parts.row; length = n - length found.rest; tail = found.tail; reg = found.parts.reg; vvvv = found.parts.vvvv; place = found.parts.place; imm = Some z }) len
-    ∙ ap (λ (y : LineReading). record y { imm = Some z }) e
-
-length_five : (v : List ℕ) (m c d e f : ℕ) (imm : List ℕ) → length (v ++ (m ∷ c ∷ d ∷ e ∷ f ∷ imm)) ≡ length v + 5 + length imm
-length_five v m c d e f imm = length-append v (m ∷ c ∷ d ∷ e ∷ f ∷ imm) ∙ omega arith
-
-length_four : (v : List ℕ) (c d e f : ℕ) (rest : List ℕ) → length (v ++ (c ∷ d ∷ e ∷ f ∷ rest)) ≡ length v + 4 + length rest
-length_four v c d e f rest = length-append v (c ∷ d ∷ e ∷ f ∷ rest) ∙ omega arith
-
-by_steps : (w : List ℕ) (r : LineReading) (line : Line) (found : FoundOf Line) (st : LineSteps line w found) → line_reading_of w found ≡ r → r.line ≡ line → r.length ≡ length w → 1 ≤ r.length → RipOperands line.tail line st.prefix st.rest found → Slot w line (line_field_place r) (line_imm_behind r) (λ z. record r { place = Some (Rip z) })
-by_steps w r line found st e is len least ops =
+slotted : (w : List ℕ) (line : Line) (found : FoundOf Line) (st : LineSteps line w found) (parts : ℤ → PartsOf Line) (so : ℤ → LineReading) (f b k t : ℕ) → Operands line.tail line st.prefix st.rest found b k t parts → length found.rest ≡ 0 → ((n : ℕ) → b ≤ n → length w ≡ n + 4 + k → n ≡ f) → ((z : ℤ) → line_reading_of w (record { parts = parts z; tail = found.tail; rest = found.rest }) ≡ so z) → Slot w line f k so
+slotted w line found st parts so f b k t ops none place reading =
+    let after : length ops.after ≡ k = omega (arith, ops.after_is, none) in
     let h = header line w found st in
-    let v : List ℕ = h.front in
-    let old : List ℕ = ops.m ∷ ops.one ∷ ops.two ∷ ops.three ∷ ops.last ∷ ops.imm in
-    let all : w ≡ v ++ old = h.bytes_are ∙ ap (λ (z : List ℕ). v ++ z) ops.bytes_are in
-    let size : length w ≡ length v + 5 + length ops.imm = ap length all ∙ length_five v ops.m ops.one ops.two ops.three ops.last ops.imm in
-    let left_length : length w - length found.rest ≡ r.length = ap (λ (z : LineReading). z.length) e in
-    let none : length found.rest ≡ 0 = no_less (length w) (length found.rest) (left_length ∙ len) (omega arith) in
-    let tail : r.tail ≡ 5 = sym (ap (λ (z : LineReading). z.tail) e) ∙ ops.tail_is in
-    let imm : line_imm_behind r ≡ imm_bytes line.imm = ap (λ (z : Line). imm_bytes z.imm) is in
-    let behind : length ops.imm ≡ line_imm_behind r = omega (arith, ops.imm_is, none, imm) in
-    let front_length : length (v ++ (ops.m ∷ [])) ≡ length v + 1 = length-append v (ops.m ∷ []) in
+    let front : List ℕ = h.front ++ ops.before in
+    let all : w ≡ front ++ (ops.one ∷ ops.two ∷ ops.three ∷ ops.last ∷ ops.after) =
+    h.bytes_are ∙ ap (λ (z : List ℕ). h.front ++ z) ops.bytes_are ∙ sym (append_assoc h.front ops.before (ops.one ∷ ops.two ∷ ops.three ∷ ops.last ∷ ops.after)) in
+    let size : length w ≡ length front + 4 + k = sized w front ops.one ops.two ops.three ops.last ops.after k all after in
     record {
-      front = v ++ (ops.m ∷ []);
+      front = front;
       one = ops.one;
       two = ops.two;
       three = ops.three;
       last = ops.last;
-      behind = ops.imm;
-      bytes_are = all ∙ sym (one_more v ops.m (ops.one ∷ ops.two ∷ ops.three ∷ ops.last ∷ ops.imm));
-      field_is = front_length ∙ omega (arith, size, len, tail, behind);
-      behind_is = behind;
-      again = λ c d e' f.
-          let fresh : List ℕ = ops.m ∷ c ∷ d ∷ e' ∷ f ∷ ops.imm in
-          let found_so = h.again fresh (record { parts = moved found.parts (s32 (four c d e' f)); tail = 5; rest = found.rest })
-          (λ k. digit_same line.tail ops.m (ops.one ∷ ops.two ∷ ops.three ∷ ops.last ∷ ops.imm) (c ∷ d ∷ e' ∷ f ∷ ops.imm) (ap (digit_matches line.tail) (sym ops.bytes_are) ∙ k)) (ops.again c d e' f) in
-          let same_size : length (v ++ fresh) ≡ length w = length_five v ops.m c d e' f ops.imm ∙ sym size in
-          ap (read_line line) (one_more v ops.m (c ∷ d ∷ e' ∷ f ∷ ops.imm))
-          ∙ found_reads line (v ++ fresh) _ _ found_so (moved_again w (v ++ fresh) found r (s32 (four c d e' f)) same_size ops.tail_is e);
+      behind = ops.after;
+      bytes_are = all;
+      field_is = place (length front) (omega (arith, length-append h.front ops.before, ops.before_is)) size;
+      behind_is = after;
+      again = λ c d e g.
+          let v : List ℕ = front ++ (c ∷ d ∷ e ∷ g ∷ ops.after) in
+          let now : FoundOf Line = record { parts = parts (s32 (four c d e g)); tail = found.tail; rest = found.rest } in
+          let is_found : find_line line v ≡ Some now = ap (find_line line) (append_assoc h.front ops.before (c ∷ d ∷ e ∷ g ∷ ops.after)) ∙ h.again (ops.before ++ (c ∷ d ∷ e ∷ g ∷ ops.after)) now (ops.digit c d e g) (ops.again c d e g) in
+          found_reads line v now (so (s32 (four c d e g))) is_found (as_long w v now (sized v front c d e g ops.after k refl after ∙ sym size) ∙ reading (s32 (four c d e g)));
     }
 
 -- the field of a relative place
@@ -417,38 +403,23 @@ pub relocated : (w : List ℕ) (r : LineReading) → read_line r.line w ≡ Some
 unfolding read_line
 relocated w r h len least rip =
     let f = found_by w (find_line r.line w) r h in
-    let st = line_steps r.line w f.0 f.1 in
-    let is : is_some_rip f.0.parts.place ≡ true = ap (λ (z : LineReading). is_some_rip z.place) f.2 ∙ rip in
-    by_steps w r r.line f.0 st f.2 refl len least (rip_operands r.line.tail r.line st.prefix st.rest f.0 st.operands_are is)
+    let found = f.0 in
+    let st = line_steps r.line w found f.1 in
+    let is : is_some_rip found.parts.place ≡ true = ap (λ (z : LineReading). is_some_rip z.place) f.2 ∙ rip in
+    let o = rip_operands r.line.tail r.line st.prefix st.rest found st.operands_are is in
+    let none : length found.rest ≡ 0 = nothing_left w found r f.2 len least in
+    let tail : r.tail ≡ 5 = sym (ap (λ (z : LineReading). z.tail) f.2) ∙ o.tail_is in
+    slotted w r.line found st (moved found.parts) (λ z. record r { place = Some (Rip z) }) (line_field_place r) 1 (line_imm_behind r) 5 o none
+    (λ n low size. omega (arith, low, size, len, tail)) (λ z. ap (λ (y : LineReading). record y { place = Some (Rip z) }) f.2)
 
 -- the distance of a jump, which stands at its end
 pub relocated_jump : (w : List ℕ) (r : LineReading) → read_line r.line w ≡ Some r → r.length ≡ length w → 1 ≤ r.length → r.line.tail ≡ NoTail → r.line.imm ≡ Simm 4 → Slot w r.line (r.length - 4) 0 (λ z. record r { imm = Some z })
 unfolding read_line
 relocated_jump w r h len least tail imm =
-    let line = r.line in
-    let f = found_by w (find_line line w) r h in
+    let f = found_by w (find_line r.line w) r h in
     let found = f.0 in
-    let st = line_steps line w found f.1 in
-    let ops = far_operands line st.prefix st.rest found tail imm st.operands_are in
-    let hd = header line w found st in
-    let v : List ℕ = hd.front in
-    let all : w ≡ v ++ (ops.one ∷ ops.two ∷ ops.three ∷ ops.last ∷ found.rest) = hd.bytes_are ∙ ap (λ (z : List ℕ). v ++ z) ops.bytes_are in
-    let size : length w ≡ length v + 4 + length found.rest = ap length all ∙ length_four v ops.one ops.two ops.three ops.last found.rest in
-    let left_length : length w - length found.rest ≡ r.length = ap (λ (z : LineReading). z.length) f.2 in
-    let none : length found.rest ≡ 0 = no_less (length w) (length found.rest) (left_length ∙ len) (omega arith) in
-    record {
-      front = v;
-      one = ops.one;
-      two = ops.two;
-      three = ops.three;
-      last = ops.last;
-      behind = found.rest;
-      bytes_are = all;
-      field_is = omega (arith, size, len, none);
-      behind_is = none;
-      again = λ c d e g.
-          let fresh : List ℕ = c ∷ d ∷ e ∷ g ∷ found.rest in
-          let found_so = hd.again fresh (record { parts = distant found.parts (s32 (four c d e g)); tail = found.tail; rest = found.rest }) (λ k. no_digit line.tail fresh tail) (ops.again c d e g) in
-          let same_size : length (v ++ fresh) ≡ length w = length_four v c d e g found.rest ∙ sym size in
-          found_reads line (v ++ fresh) _ _ found_so (distant_again w (v ++ fresh) found r (s32 (four c d e g)) same_size f.2);
-    }
+    let st = line_steps r.line w found f.1 in
+    let o = far_operands r.line st.prefix st.rest found tail imm st.operands_are in
+    let none : length found.rest ≡ 0 = nothing_left w found r f.2 len least in
+    slotted w r.line found st (distant found.parts) (λ z. record r { imm = Some z }) (r.length - 4) 0 0 0 o none
+    (λ n low size. omega (arith, size, len)) (λ z. ap (λ (y : LineReading). record y { imm = Some z }) f.2)
