@@ -160,6 +160,7 @@ jumped places t n at p r old new here slot e ep h =
 
 -- One piece and then the later ones.
 
+-- what the bytes from a place on are read as, and that these pieces have become so
 pub record Outcome (places : DeferredTarget → Option ℕ) (n at : ℕ) (ps : List Piece) (us : List Use) (new : List ℕ) : Type 0 where
   pub now : List LineReading
   pub reads : LinesRead now (drop at (take n new))
@@ -185,6 +186,7 @@ own_outside : (at f i p : ℕ) → p ≡ at + f → (i < f) ⊎ (f + 4 ≤ i) �
 own_outside at f i p e (inl h) = inl (omega arith)
 own_outside at f i p e (inr h) = inr (omega arith)
 
+-- from a place on, bytes outside of the fields of some uses are as before
 abbrev Behind : List ℕ → List ℕ → ℕ → List Use → Type 0
 Behind old new at us = (i : ℕ) → at ≤ i → All (IsOutside i) (links us) → get_or new i 0 ≡ get_or old i 0
 

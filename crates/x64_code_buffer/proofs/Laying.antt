@@ -107,11 +107,13 @@ laid_whole meant ps s t old new added told reads bytes notices field unpatched s
   laid = laid_more (whole reads.reading) ps s t old new added told (reads_itself meant added reads) reads.length reads.least unpatched bytes notices field same h;
 }
 
+-- a place counts from the end of its instruction
 abbrev pub is_rip : Place → Bool
 is_rip (Reg view) = false
 is_rip (Mem base index disp) = false
 is_rip (Rip disp) = true
 
+-- there is a place that does
 abbrev pub is_some_rip : Option Place → Bool
 is_some_rip None = false
 is_some_rip (Some place) = is_rip place

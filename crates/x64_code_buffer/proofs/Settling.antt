@@ -74,6 +74,7 @@ field_within (open_jump r) at a reads least within opened =
 
 -- Fields of later pieces stand behind.
 
+-- none stands before a place
 abbrev pub Above : ℕ → List ℕ → Type 0
 Above at [] = Unit {0}
 Above at (x ∷ xs) = (at ≤ x) × Above at xs

@@ -58,6 +58,7 @@ abbrev pub Open : Piece → Type 0
 Open (whole r) = Unpatched (line_imm_behind r) r.place
 Open (open_jump r) = (r.line.tail ≡ NoTail) × (r.line.imm ≡ Simm 4) × (r.imm ≡ Some (pos 0))
 
+-- and so of each piece
 abbrev pub EachOpen : List Piece → Type 0
 EachOpen [] = Unit {0}
 EachOpen (p ∷ later) = Open p × EachOpen later
@@ -114,6 +115,7 @@ LineSettledBy places end old ((at, target.Label label) ∷ later) new = LineLead
 LineSettledBy places end old ((at, target.Constant constant) ∷ later) new = LineLeads places (target.Constant constant) end old new
 LineSettledBy places end old ((at, target.None) ∷ later) new = new ≡ old
 
+-- what a whole piece with this place has become
 abbrev pub LineSettledAs : (DeferredTarget → Option ℕ) → ℕ → LineReading → Option Place → List Use → LineReading → Type 0
 LineSettledAs places end old None uses new = new ≡ old
 LineSettledAs places end old (Some (Reg view)) uses new = new ≡ old
@@ -140,6 +142,7 @@ JumpSettledBy places end old ((at, target.Label label) ∷ later) new = JumpsTo 
 JumpSettledBy places end old ((at, target.Constant constant) ∷ later) new = JumpsTo places (target.Constant constant) end old new
 JumpSettledBy places end old ((at, target.None) ∷ later) new = new ≡ old
 
+-- what a piece has become, by the next use if it has a field
 abbrev pub PieceSettled : (DeferredTarget → Option ℕ) → ℕ → Piece → List Use → LineReading → Type 0
 PieceSettled places end (whole r) uses new = LineSettledAs places end r r.place uses new
 PieceSettled places end (open_jump r) uses new = JumpSettledBy places end r uses new
