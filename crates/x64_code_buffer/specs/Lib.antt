@@ -3,6 +3,7 @@ pub mod Field
 pub mod Binding
 pub mod Use
 pub mod Filled
+pub mod Laid
 pub mod Buffer
 pub mod Message
 -- Steps of the proofs.
