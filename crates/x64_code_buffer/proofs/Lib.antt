@@ -6,3 +6,6 @@ pub mod Fronts
 pub mod Relocated
 pub mod Settling
 pub mod Finished
+pub mod Jumping
+pub mod Jumped
+pub mod Padded

@@ -4,6 +4,8 @@ pub mod Binding
 pub mod Use
 pub mod Filled
 pub mod Laid
+pub mod Jump
+pub mod Padding
 pub mod Buffer
 pub mod Message
 -- Steps of the proofs.

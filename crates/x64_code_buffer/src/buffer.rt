@@ -30,10 +30,10 @@ use std::alloc::Allocator;
 /// A recording sink that knows labels and constants.
 #[derive(Drop)]
 pub struct CodeBuffer<A: Allocator> {
-    recorder: Recorder<A>,
-    bindings: Bindings<A>,
+    pub(crate) recorder: Recorder<A>,
+    pub(crate) bindings: Bindings<A>,
     /// Whether no room was asked for yet, by the caller or by an instruction.
-    is_fresh: bool,
+    pub(crate) is_fresh: bool,
 }
 
 impl<A: Allocator + Copy> CodeBuffer<A> {

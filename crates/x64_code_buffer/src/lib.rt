@@ -2,10 +2,14 @@
 //! all is bound.
 #![tactic(auto)]
 
+mod align;
 mod bindings;
 mod buffer;
+mod data;
 mod errors;
 mod field;
+mod jump;
+mod jumps;
 pub mod laws;
 mod message;
 mod patch;
@@ -16,3 +20,4 @@ mod room;
 pub use buffer::CodeBuffer;
 pub use errors::{BindError, FinishError};
 pub use field::patched_field;
+pub use jump::{Condition, Jump};

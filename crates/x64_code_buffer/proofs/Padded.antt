@@ -1,0 +1,151 @@
+use Rattle.std.proofs.Common.{◌≡◌, ◌≢◌, ℕ, zero, suc, ◌+◌, ◌-◌, ◌*◌, ◌/◌, ◌%◌, ◌≤◌, ◌<◌, arith, refl, ◌∙◌, ap, sym, subst, List, [], ◌∷◌, ◌++◌, append_assoc, append-nil, length-append, Bool, true, false, Option, Some, None, Result, Ok, Err, length}
+use Rattle.std.specs.Prelude.{◌==◌, if◌then◌else◌, IfSome, IsOk, MatchOption, replicate}
+use Rattle.std.proofs.Math.Nat.{mod-add-mod, add-mod_left}
+use Rattle.std.proofs.lemmas.Bool.Decides.{nat_tests}
+use Rattle.std.proofs.lemmas.List.{replicate_more}
+use Rattle.std.proofs.lemmas.Nat.{mod_below}
+use Rattle.cax64_address.specs.declared.amode.Amode.{Amode}
+use Rattle.cax64_encoder.proofs.Nops.{nop_encodes}
+use Rattle.cax64_encoder.specs.Encodes.{EncodesAs}
+use Rattle.cax64_encoder.specs.Meant.{nop_meant}
+use Rattle.cax64_encoder.specs.Nop.{nop_bytes, nop_parts, nop_place}
+use Rattle.cax64_encoder.specs.NopActions.{nop_actions}
+use Rattle.cax64_encoder.specs.Relative.{relative_in}
+use Rattle.cax64_machine_code.specs.Reading.{Parts}
+use Rattle.cax64_machine_code.specs.Sequence.{ReadsAs}
+use Rattle.cax64_machine_code.specs.declared.reading.Reading.{Reading}
+use Rattle.cax64_operand.specs.NopRow.{nop_row}
+use Rattle.cax64_operand.specs.declared.nop.Nop.{Nop}
+use Rattle.cax64_operand.specs.declared.nop.Nop.TheVariants.{One, Two, Three, Four, Five, Six, Seven, Eight, Nine}
+use Rattle.cax64_sink.proofs.Rooms.{less_room, notes_is_length, ran_byte_room, ran_notice_room, ran_succeeds, size_is_length}
+use Rattle.cax64_sink.proofs.Runs.{ran_bytes, ran_notices, ran_offsets}
+use Rattle.cax64_sink.specs.Room.{FallsBy, HasRoom, Room}
+use Rattle.cax64_sink.specs.Run.{Ran, all_bytes, all_notices, byte_total, notice_total}
+use Rattle.cax64_sink.specs.Sink.{State}
+use Rattle.cax64_sink.specs.declared.DeferredTarget.{DeferredTarget}
+use Rattle.cax64_sink.specs.declared.Notice.{Notice}
+use Rattle.cax64_sink.specs.declared.SinkError.{SinkError}
+use Rattle.x64_code_buffer.proofs.Filling.{filled_on, stays_as}
+use Rattle.x64_code_buffer.specs.Filled.{Filled, FilledOn}
+use Rattle.x64_code_buffer.specs.Padding.{EachNop, FilledUp, missing_to, nops_bytes}
+
+-- The next multiple.
+
+zero_is : (n : ℕ) → (n == 0) ≡ true → n ≡ 0
+zero_is n h = grind (arith, nat_tests)
+
+not_zero : (n : ℕ) → (n == 0) ≡ false → n ≢ 0
+not_zero n h = grind (arith, nat_tests)
+
+itself_none : (size : ℕ) → 1 ≤ size → size % size ≡ 0
+itself_none size h = omega (arith, add-mod_left size 0)
+
+aligned_by : (a size : ℕ) (b : Bool) → 1 ≤ size → (a % size == 0) ≡ b → (a + (if b then 0 else size - a % size)) % size ≡ 0
+aligned_by a size true h e = let none : a + 0 ≡ a = omega arith in rw none (zero_is (a % size) e)
+aligned_by a size false h e =
+    let below : a % size < size = mod_below a size (omega arith) in
+    let whole : a % size + (size - a % size) ≡ size = omega arith in
+    sym (mod-add-mod a size (size - a % size)) ∙ ap (λ (n : ℕ). n % size) whole ∙ itself_none size h
+
+pub aligned : (a size : ℕ) → 1 ≤ size → (a + missing_to a size) % size ≡ 0
+aligned a size h = aligned_by a size (a % size == 0) h refl
+
+missing_by : (a size : ℕ) (b : Bool) → 1 ≤ size → (a % size == 0) ≡ b → (if b then 0 else size - a % size) < size
+missing_by a size true h e = omega arith
+missing_by a size false h e = let some : a % size ≢ 0 = not_zero (a % size) e in omega arith
+
+pub missing_below : (a size : ℕ) → 1 ≤ size → missing_to a size < size
+missing_below a size h = missing_by a size (a % size == 0) h refl
+
+-- A no-operation that is put where there is room.
+
+nop_written : (nop : Nop) → EncodesAs {M = ℕ} (nop_meant (nop_row nop) nop) (nop_actions nop)
+nop_written nop = nop_encodes ℕ (nop_row nop) nop refl
+
+nop_reads_as : (nop : Nop) → ReadsAs (nop_parts (nop_row nop) nop) (nop_bytes nop)
+nop_reads_as nop = subst (λ (z : List ℕ). ReadsAs (nop_parts (nop_row nop) nop) z) (nop_written nop).exact (nop_written nop).written.reads
+
+is_ok_is : (r : Result (Unit {0}) SinkError) → IsOk r → r ≡ Ok tt
+is_ok_is (Ok tt) h = refl
+is_ok_is (Err e) h = cc
+
+no_more : (b : Bool) (x y : List Notice) → y ≡ [] → (if b then x ++ y else x) ≡ x
+no_more true x y e = rw e (append-nil x)
+no_more false x y e = refl
+
+pub record NopPut (nop : Nop) (s t : State) (r : Result (Unit {0}) SinkError) : Type 0 where
+  pub ok : IsOk r
+  pub bytes : t.bytes ≡ s.bytes ++ nop_bytes nop
+  pub notices : t.notices ≡ s.notices
+  pub byte_room : FallsBy s.byte_room t.byte_room (length (nop_bytes nop))
+  pub notice_room : FallsBy s.notice_room t.notice_room 0
+  pub offsets : t.offsets ≡ s.offsets
+
+pub nop_put : (nop : Nop) (s t : State) (r : Result (Unit {0}) SinkError) → HasRoom s.byte_room (length (nop_bytes nop)) → HasRoom s.notice_room 0 → Ran (nop_actions nop) s t r → NopPut nop s t r
+nop_put nop s t r bytes told run =
+    let acts = nop_actions nop in
+    let exact : all_bytes acts ≡ nop_bytes nop = (nop_written nop).exact in
+    let size : byte_total acts ≡ length (nop_bytes nop) = size_is_length acts ∙ ap length exact in
+    let quiet : (at : ℕ) → all_notices acts at ≡ [] = (nop_written nop).written.notices in
+    let none : notice_total acts ≡ 0 = notes_is_length acts 0 ∙ ap length (quiet 0) in
+    let ok : IsOk r = ran_succeeds run (rw size bytes) (rw none told) in
+    let is : r ≡ Ok tt = is_ok_is r ok in
+    record {
+      ok = ok;
+      bytes = ran_bytes run is ∙ ap (λ (z : List ℕ). s.bytes ++ z) exact;
+      notices = ran_notices run is ∙ no_more s.records s.notices _ (quiet (length s.bytes));
+      byte_room = rw size at (ran_byte_room run);
+      notice_room = rw none at (ran_notice_room run);
+      offsets = ran_offsets run;
+    }
+
+-- No-operations, one behind the other.
+
+pub nops_more : (nops : List Nop) (nop : Nop) → nops_bytes (nops ++ nop ∷ []) ≡ nops_bytes nops ++ nop_bytes nop
+nops_more [] nop = append-nil (nop_bytes nop)
+nops_more (first ∷ nops) nop = ap (λ (z : List ℕ). nop_bytes first ++ z) (nops_more nops nop) ∙ sym (append_assoc (nop_bytes first) (nops_bytes nops) (nop_bytes nop))
+
+pub nine_more : (n : ℕ) → nops_bytes (replicate (n + 1) Nine) ≡ nops_bytes (replicate n Nine) ++ nop_bytes Nine
+nine_more n = ap nops_bytes (sym (replicate_more n Nine)) ∙ nops_more (replicate n Nine) Nine
+
+pub nines_length : (n : ℕ) → length (nops_bytes (replicate n Nine)) ≡ 9 * n
+nines_length zero = refl
+nines_length (suc n) = omega (arith, nines_length n)
+
+-- A buffer that was filled is filled with them.
+
+nop_relative : (nop : Nop) → relative_in (nop_place nop) ≡ None
+nop_relative One = refl
+nop_relative Two = refl
+nop_relative Three = refl
+nop_relative Four = refl
+nop_relative Five = refl
+nop_relative Six = refl
+nop_relative Seven = refl
+nop_relative Eight = refl
+nop_relative Nine = refl
+
+one_filled : (nop : Nop) (readings : List Reading) (s : State) (places : DeferredTarget → Option ℕ) → Filled readings (length s.bytes) s places → FilledOn (nop_parts (nop_row nop) nop) readings (record s { bytes = s.bytes ++ nop_bytes nop }) places
+one_filled nop readings s places h =
+    let none : Option (Amode ℕ) = None in
+    filled_on readings s (record s { bytes = s.bytes ++ nop_bytes nop }) places places (nop_bytes nop) (nop_parts (nop_row nop) nop) none (nop_reads_as nop) refl (sym (append-nil s.notices)) (nop_relative nop) (λ target. refl) h
+
+pub filled_up : (nops : List Nop) (readings : List Reading) (s t : State) (places : DeferredTarget → Option ℕ) → t.bytes ≡ s.bytes ++ nops_bytes nops → t.notices ≡ s.notices → Filled readings (length s.bytes) s places → FilledUp readings t places
+filled_up [] readings s t places bytes notices h =
+    let same : t.bytes ≡ s.bytes = bytes ∙ append-nil s.bytes in
+    let filled : Filled readings (length s.bytes) t places = stays_as readings (length s.bytes) s t places places same notices (λ target. refl) h in
+    record {
+      more = [];
+      nops = tt;
+      filled = rw (append-nil readings, same) filled;
+    }
+filled_up (nop ∷ nops) readings s t places bytes notices h =
+    let on = one_filled nop readings s places h in
+    let u : State = record s { bytes = s.bytes ++ nop_bytes nop } in
+    let later : FilledUp (readings ++ on.reading ∷ []) t places = filled_up nops (readings ++ on.reading ∷ []) u t places (bytes ∙ sym (append_assoc s.bytes (nop_bytes nop) (nops_bytes nops))) notices on.filled in
+    let joined : (readings ++ on.reading ∷ []) ++ later.more ≡ readings ++ (on.reading ∷ later.more) = append_assoc readings (on.reading ∷ []) later.more in
+    record {
+      more = on.reading ∷ later.more;
+      nops = ((nop, on.same), later.nops);
+      filled = subst (λ (z : List Reading). Filled z (length t.bytes) t places) joined later.filled;
+    }
