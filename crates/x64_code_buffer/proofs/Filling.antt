@@ -1,8 +1,7 @@
-use Rattle.std.proofs.Common.{◌≡◌, ◌≢◌, ◌⊎◌, inl, inr, ℕ, suc, zero, ◌+◌, ◌-◌, ◌≤◌, arith, refl, ◌∙◌, ap, sym, List, [], ◌∷◌, ◌++◌, Option, Some, None, Result, Ok, Err, Bool, true, false, length, take, drop, append_assoc, append-nil, subst}
+use Rattle.std.proofs.Common.{◌≡◌, ◌≢◌, ◌⊎◌, inl, inr, ℕ, suc, zero, ◌+◌, ◌-◌, ◌≤◌, arith, refl, ◌∙◌, ap, sym, List, [], ◌∷◌, ◌++◌, Option, Some, None, Result, Ok, Err, Bool, true, false, length, take, drop, append-nil, subst}
 use Rattle.std.specs.Prelude.{if◌then◌else◌, is_ok, OnOk, OnErr}
-use Rattle.std.proofs.Math.Seq.{take-length}
 use Rattle.std.proofs.lemmas.Bool.{cases_lt}
-use Rattle.std.proofs.lemmas.List.{length-append, length-drop, take-append-le, drop-append-le}
+use Rattle.std.proofs.lemmas.List.{length-append, take-append-le}
 use Rattle.cax64_address.specs.declared.amode.Amode.{Amode}
 use Rattle.cax64_address.specs.declared.amode.Amode.TheVariants.{ImmReg, ImmRegRegShift, RipRelative}
 use Rattle.cax64_encoder.specs.Instruction.{AddsInstruction}
@@ -11,8 +10,9 @@ use Rattle.cax64_encoder.specs.Notices.{notices_of, trap_notice}
 use Rattle.cax64_encoder.specs.Relative.{ReadsRelative, relative_in, unsettled}
 use Rattle.cax64_machine_code.specs.Line.{imm_bytes}
 use Rattle.cax64_machine_code.specs.Reading.{Parts, read}
+use Rattle.cax64_machine_code.specs.ReadLine.{parts_as}
 use Rattle.cax64_machine_code.specs.Rows.{line_of}
-use Rattle.cax64_machine_code.specs.Sequence.{ReadsAs, read_all, total_length}
+use Rattle.cax64_machine_code.specs.Sequence.{read_all}
 use Rattle.cax64_machine_code.specs.declared.line.ImmField.{ImmField}
 use Rattle.cax64_machine_code.specs.declared.reading.Place.{Place}
 use Rattle.cax64_machine_code.specs.declared.reading.Place.TheVariants.{Reg, Mem, Rip}
@@ -31,35 +31,16 @@ use Rattle.cax64_sink.specs.declared.DeferredTarget.{DeferredTarget}
 use Rattle.cax64_sink.specs.declared.DeferredTarget.TheVariants as target
 use Rattle.cax64_sink.specs.declared.Label.{Label}
 use Rattle.cax64_sink.specs.declared.Notice.{Notice}
-use Rattle.cax64_sink.specs.declared.Notice.TheVariants.{Trap, Target}
 use Rattle.cax64_sink.specs.declared.SinkError.{SinkError}
 use Rattle.cax64_sink.specs.declared.TrapCode.{TrapCode}
 use Rattle.x64_code_buffer.specs.Binding.{AddsBinding}
-use Rattle.x64_code_buffer.specs.Filled.{imm_behind, field_place, Unpatched, ReadsEach, EachUnpatched, field_at, fields_from, Begins, places_told, Filled, FilledOn}
+use Rattle.x64_code_buffer.specs.Buffer.{StaysFilled, buffer_state, places_of}
+use Rattle.x64_code_buffer.specs.Filled.{imm_behind, field_place, Unpatched, ReadsEach, field_at, places_told}
+use Rattle.x64_code_buffer.specs.Laid.{Piece, whole, whole_pieces, PieceBegins, Laid, LaidOn}
 use Rattle.x64_code_buffer.specs.Use.{Use, uses_of}
-
--- One reading more.
-
-nothing_left : (b : List ℕ) → drop (length b) b ≡ []
-nothing_left [] = refl
-nothing_left (byte ∷ b) = nothing_left b
-
-last_read : (a b : List ℕ) (r : Reading) → a ≡ [] → ((rest : List ℕ) → read (b ++ rest) ≡ Some r) → r.length ≡ length b → 1 ≤ r.length → ReadsEach (r ∷ []) (a ++ b)
-last_read a b r none reads len least =
-    let whole : take r.length b ≡ b = ap (λ (n : ℕ). take n b) len ∙ take-length b in
-    let left : drop r.length b ≡ [] = ap (λ (n : ℕ). drop n b) len ∙ nothing_left b in
-    rw (none, whole) (reads, least, omega arith, left)
-
-pub reads_more : (rs : List Reading) (a b : List ℕ) (r : Reading) → ReadsEach rs a → ((rest : List ℕ) → read (b ++ rest) ≡ Some r) → r.length ≡ length b → 1 ≤ r.length → ReadsEach (rs ++ r ∷ []) (a ++ b)
-reads_more [] a b r h reads len least = last_read a b r h reads len least
-reads_more (q ∷ rs) a b r h reads len least =
-    let within : q.length ≤ length a = h.2 in
-    let more : ReadsEach (rs ++ r ∷ []) (drop q.length a ++ b) = reads_more rs (drop q.length a) b r h.3 reads len least in
-    rw (take-append-le q.length a b within, drop-append-le q.length a b within) (h.0, h.1, omega (arith, length-append a b), more)
-
-pub reads_total : (rs : List Reading) (a : List ℕ) → ReadsEach rs a → length a ≡ total_length rs
-reads_total [] a h = ap length h
-reads_total (q ∷ rs) a h = omega (arith, h.2, length-drop q.length a, reads_total rs (drop q.length a) h.3)
+use Rattle.x64_code_buffer.specs.declared.buffer.CodeBuffer.{CodeBuffer}
+use Rattle.x64_code_buffer.proofs.Laying.{uses_more, laid_whole}
+use Rattle.x64_code_buffer.proofs.Pieces.{filled_is_laid, laid_is_filled, reads_by_line, same_field}
 
 -- Unpatched places.
 
@@ -71,26 +52,6 @@ unpatched_by None imm (Some (Rip disp)) h = cc
 unpatched_by (Some (ImmReg base simm32 trap)) imm (Some (Rip disp)) h = cc
 unpatched_by (Some (ImmRegRegShift base index scale simm32 trap)) imm (Some (Rip disp)) h = cc
 unpatched_by (Some (RipRelative target)) imm (Some (Rip disp)) h = cc
-
-unpatched_more : (rs : List Reading) (r : Reading) → EachUnpatched rs → Unpatched (imm_behind r) r.place → EachUnpatched (rs ++ r ∷ [])
-unpatched_more [] r h k = (k, tt)
-unpatched_more (q ∷ rs) r h k = (h.0, unpatched_more rs r h.1 k)
-
--- Fields.
-
-fields_more : (at : ℕ) (rs : List Reading) (r : Reading) → fields_from at (rs ++ r ∷ []) ≡ fields_from at rs ++ field_at (at + total_length rs) r r.place
-fields_more at [] r =
-    let e : at + 0 ≡ at = omega arith in
-    rw (e, append-nil (field_at at r r.place)) refl
-fields_more at (q ∷ rs) r =
-    let e : at + q.length + total_length rs ≡ at + (q.length + total_length rs) = omega arith in
-    ap (λ (z : List ℕ). field_at at q q.place ++ z) (fields_more (at + q.length) rs r ∙ ap (λ (n : ℕ). fields_from (at + q.length) rs ++ field_at n r r.place) e)
-    ∙ sym (append_assoc (field_at at q q.place) (fields_from (at + q.length) rs) (field_at (at + (q.length + total_length rs)) r r.place))
-
-uses_more : (ns ms : List Notice) → places_told (uses_of (ns ++ ms)) ≡ places_told (uses_of ns) ++ places_told (uses_of ms)
-uses_more [] ms = refl
-uses_more (Trap at code ∷ ns) ms = uses_more ns ms
-uses_more (Target at target ∷ ns) ms = ap (λ (z : List ℕ). at ∷ z) (uses_more ns ms)
 
 no_use : (trap : Option TrapCode) (at : ℕ) → uses_of (trap_notice trap at) ≡ []
 no_use None at = refl
@@ -116,61 +77,27 @@ told_by (Some (RipRelative target)) imm (Some (Rip disp)) at r h =
     let e : at + (r.length - r.tail - imm_behind r) + 1 ≡ at + field_place r = omega arith in
     ap (λ (n : ℕ). n ∷ []) e
 
--- Places where a reading begins.
+-- A buffer that stays laid out.
 
-begins_more : (at : ℕ) (rs : List Reading) (r : Reading) (place : ℕ) → Begins at rs place → Begins at (rs ++ r ∷ []) place
-begins_more at [] r place h = absurd h
-begins_more at (q ∷ rs) r place (inl h) = inl h
-begins_more at (q ∷ rs) r place (inr h) = inr (begins_more (at + q.length) rs r place h)
-
-begins_last : (at : ℕ) (rs : List Reading) (r : Reading) (place : ℕ) → place ≡ at + total_length rs → Begins at (rs ++ r ∷ []) place
-begins_last at [] r place h = inl (omega arith)
-begins_last at (q ∷ rs) r place h = inr (begins_last (at + q.length) rs r place (omega arith))
-
--- A buffer that stays filled.
-
-pub stays : (readings : List Reading) (n : ℕ) (s t : State) (old new : DeferredTarget → Option ℕ) (more : List ℕ) → t.bytes ≡ s.bytes ++ more → places_told (uses_of t.notices) ≡ places_told (uses_of s.notices) → ((target : DeferredTarget) → new target ≡ old target) → Filled readings n s old → Filled readings n t new
-stays readings n s t old new more bytes told same h =
+pub stays : (pieces : List Piece) (n : ℕ) (s t : State) (old new : DeferredTarget → Option ℕ) (more : List ℕ) → t.bytes ≡ s.bytes ++ more → places_told (uses_of t.notices) ≡ places_told (uses_of s.notices) → ((target : DeferredTarget) → new target ≡ old target) → Laid pieces n s old → Laid pieces n t new
+stays pieces n s t old new more bytes told same h =
     let within : n ≤ length s.bytes = h.within in
     let len : length t.bytes ≡ length s.bytes + length more = ap length bytes ∙ length-append s.bytes more in
     let front : take n t.bytes ≡ take n s.bytes = ap (take n) bytes ∙ take-append-le n s.bytes more within in
     record {
       within = omega arith;
       reads = rw front h.reads;
-      unpatched = h.unpatched;
+      opened = h.opened;
       told = told ∙ h.told;
       bound = λ target place e. let b = h.bound target place (sym (same target) ∙ e) in (b.0, omega (arith, b.1));
     }
 
--- An instruction at the end.
-
-pub filled_on : {M : Type 0} (readings : List Reading) (s t : State) (old new : DeferredTarget → Option ℕ) (added : List ℕ) (meant : Parts) (memory : Option (Amode M)) (reads : ReadsAs meant added) → t.bytes ≡ s.bytes ++ added → t.notices ≡ s.notices ++ notices_of memory (length s.bytes) reads.reading → relative_in meant.place ≡ unsettled memory (line_of meant.row).imm → ((target : DeferredTarget) → new target ≡ old target) → Filled readings (length s.bytes) s old → FilledOn meant readings t new
-filled_on readings s t old new added meant memory reads bytes notices relative same h =
-    let r = reads.reading in
-    let len : length t.bytes ≡ length s.bytes + length added = ap length bytes ∙ length-append s.bytes added in
-    let before : ReadsEach readings s.bytes = rw (take-length s.bytes) at h.reads in
-    let total : length s.bytes ≡ total_length readings = reads_total readings s.bytes before in
-    let whole : take (length t.bytes) t.bytes ≡ s.bytes ++ added = take-length t.bytes ∙ bytes in
-    let row : r.row ≡ meant.row = ap (λ (p : Parts). p.row) reads.same in
-    let place : r.place ≡ meant.place = ap (λ (p : Parts). p.place) reads.same in
-    let is : relative_in r.place ≡ unsettled memory (line_of r.row).imm = ap relative_in place ∙ relative ∙ ap (λ z. unsettled memory (line_of z).imm) (sym row) in
-    let field : places_told (uses_of (notices_of memory (length s.bytes) r)) ≡ field_at (0 + total_length readings) r r.place =
-    told_by memory (line_of r.row).imm r.place (length s.bytes) r is ∙ ap (λ (n : ℕ). field_at n r r.place) (omega arith) in
-    record {
-      reading = r;
-      same = reads.same;
-      filled = record {
-        within = omega arith;
-        reads = rw whole (reads_more readings s.bytes added r before reads.reads reads.length reads.least);
-        unpatched = unpatched_more readings r h.unpatched (unpatched_by memory (line_of r.row).imm r.place is);
-        told = ap (λ z. places_told (uses_of z)) notices ∙ uses_more s.notices (notices_of memory (length s.bytes) r) ∙ ap (λ z. z ++ places_told (uses_of (notices_of memory (length s.bytes) r))) h.told ∙ ap (λ z. fields_from 0 readings ++ z) field ∙ sym (fields_more 0 readings r);
-        bound = λ target p e. let b = h.bound target p (sym (same target) ∙ e) in (inl (begun readings r p (length s.bytes) total b.1 b.0), omega (arith, b.1));
-      };
-    }
-  where
-    begun : (readings : List Reading) (r : Reading) (p n : ℕ) → n ≡ total_length readings → p ≤ n → Begins 0 readings p ⊎ (n ≤ p) → Begins 0 (readings ++ r ∷ []) p
-    begun readings r p n total low (inl h) = begins_more 0 readings r p h
-    begun readings r p n total low (inr h) = begins_last 0 readings r p (omega arith)
+-- and so it stays filled
+pub stays_both : {A : Type 0} (old new : CodeBuffer A) → ((pieces : List Piece) (n : ℕ) → Laid pieces n (buffer_state old) (places_of old) → Laid pieces n (buffer_state new) (places_of new)) → StaysFilled old new
+stays_both old new h = record {
+  filled = λ readings n f. laid_is_filled readings n (buffer_state new) (places_of new) (h (whole_pieces readings) n (filled_is_laid readings n (buffer_state old) (places_of old) f));
+  laid = h;
+}
 
 -- What is filled reads, and nothing is left.
 
@@ -216,25 +143,25 @@ same_target target.None target.None = inl refl
 some_same : (a b : ℕ) → ◌≡◌ {A = Option ℕ} (Some a) (Some b) → a ≡ b
 some_same a b e = cc
 
-pub bound_more : (readings : List Reading) (n : ℕ) (s : State) (old new : DeferredTarget → Option ℕ) (t : DeferredTarget) → AddsBinding t (length s.bytes) old new → Filled readings n s old → Filled readings n s new
-bound_more readings n s old new t adds h = record {
+pub bound_more : (pieces : List Piece) (n : ℕ) (s : State) (old new : DeferredTarget → Option ℕ) (t : DeferredTarget) → AddsBinding t (length s.bytes) old new → Laid pieces n s old → Laid pieces n s new
+bound_more pieces n s old new t adds h = record {
   within = h.within;
   reads = h.reads;
-  unpatched = h.unpatched;
+  opened = h.opened;
   told = h.told;
   bound = λ other place e. by_target other place e (same_target other t);
 }
   where
-    by_target : (other : DeferredTarget) (place : ℕ) → new other ≡ Some place → (other ≡ t) ⊎ (other ≢ t) → (Begins 0 readings place ⊎ (n ≤ place)) × (place ≤ length s.bytes)
+    by_target : (other : DeferredTarget) (place : ℕ) → new other ≡ Some place → (other ≡ t) ⊎ (other ≢ t) → (PieceBegins 0 pieces place ⊎ (n ≤ place)) × (place ≤ length s.bytes)
     by_target other place e (inl k) =
         let p : length s.bytes ≡ place = some_same _ _ (sym adds.bound ∙ ap new (sym k) ∙ e) in
         let within : n ≤ length s.bytes = h.within in
         (inr (omega arith), omega arith)
     by_target other place e (inr k) = h.bound other place (sym (adds.others other k) ∙ e)
 
-pub bound_if : {E : Type 0} (readings : List Reading) (n : ℕ) (s : State) (old new : DeferredTarget → Option ℕ) (t : DeferredTarget) (r : Result (Unit {0}) E) → OnOk r (AddsBinding t (length s.bytes) old new) → OnErr r ((other : DeferredTarget) → new other ≡ old other) → Filled readings n s old → Filled readings n s new
-bound_if readings n s old new t (Ok tt) adds same h = bound_more readings n s old new t adds h
-bound_if readings n s old new t (Err e) adds same h = stays readings n s s old new [] (sym (append-nil s.bytes)) refl same h
+pub bound_if : {E : Type 0} (pieces : List Piece) (n : ℕ) (s : State) (old new : DeferredTarget → Option ℕ) (t : DeferredTarget) (r : Result (Unit {0}) E) → OnOk r (AddsBinding t (length s.bytes) old new) → OnErr r ((other : DeferredTarget) → new other ≡ old other) → Laid pieces n s old → Laid pieces n s new
+bound_if pieces n s old new t (Ok tt) adds same h = bound_more pieces n s old new t adds h
+bound_if pieces n s old new t (Err e) adds same h = stays pieces n s s old new [] (sym (append-nil s.bytes)) refl same h
 
 -- after a put, or a trap that is told
 put_bytes : {E : Type 0} (r : Result (Unit {0}) E) (a b : List ℕ) → (if is_ok r then a ++ b else a) ≡ a ++ (if is_ok r then b else [])
@@ -246,30 +173,30 @@ told_same (Ok tt) true a b e = uses_more a b ∙ ap (λ (z : List Use). places_t
 told_same (Ok tt) false a b e = refl
 told_same (Err x) records a b e = refl
 
-pub stepped : (act : Action) (readings : List Reading) (n : ℕ) (s t : State) (r : Result (Unit {0}) SinkError) (old new : DeferredTarget → Option ℕ) → ((at : ℕ) → uses_of (notice_of act at) ≡ []) → Step act s t r → ((target : DeferredTarget) → new target ≡ old target) → Filled readings n s old → Filled readings n t new
-stepped act readings n s t r old new none step same h =
-    stays readings n s t old new (if is_ok r then bytes_of act else []) (step.bytes ∙ put_bytes r s.bytes (bytes_of act))
+pub stepped : (act : Action) (pieces : List Piece) (n : ℕ) (s t : State) (r : Result (Unit {0}) SinkError) (old new : DeferredTarget → Option ℕ) → ((at : ℕ) → uses_of (notice_of act at) ≡ []) → Step act s t r → ((target : DeferredTarget) → new target ≡ old target) → Laid pieces n s old → Laid pieces n t new
+stepped act pieces n s t r old new none step same h =
+    stays pieces n s t old new (if is_ok r then bytes_of act else []) (step.bytes ∙ put_bytes r s.bytes (bytes_of act))
     (ap (λ z. places_told (uses_of z)) step.notices ∙ told_same r s.records s.notices (notice_of act (length s.bytes)) (none (length s.bytes))) same h
 
 -- after bytes that are put
-went_put : (acts : List Action) (readings : List Reading) (n : ℕ) (s t : State) (r : Result (Unit {0}) SinkError) (places : DeferredTarget → Option ℕ) → OnlyPuts acts → Went acts s t r → Filled readings n s places → Filled readings n t places
+went_put : (acts : List Action) (pieces : List Piece) (n : ℕ) (s t : State) (r : Result (Unit {0}) SinkError) (places : DeferredTarget → Option ℕ) → OnlyPuts acts → Went acts s t r → Laid pieces n s places → Laid pieces n t places
 unfolding Went
-went_put [] readings n s t r places only (_, same) h = subst (λ (x : State). Filled readings n x places) same h
-went_put (put bytes ∷ acts) readings n s t r places only (inl (u, step, rest)) h = went_put acts readings n u t r places only rest (stepped (put bytes) readings n s u (Ok tt) places places (λ at. refl) step (λ target. refl) h)
-went_put (put bytes ∷ acts) readings n s t r places only (inr (e, is, step)) h = stepped (put bytes) readings n s t (Err e) places places (λ at. refl) step (λ target. refl) h
-went_put (call.trap code ∷ acts) readings n s t r places only run h = absurd only
-went_put (call.target place ∷ acts) readings n s t r places only run h = absurd only
+went_put [] pieces n s t r places only (_, same) h = subst (λ (x : State). Laid pieces n x places) same h
+went_put (put bytes ∷ acts) pieces n s t r places only (inl (u, step, rest)) h = went_put acts pieces n u t r places only rest (stepped (put bytes) pieces n s u (Ok tt) places places (λ at. refl) step (λ target. refl) h)
+went_put (put bytes ∷ acts) pieces n s t r places only (inr (e, is, step)) h = stepped (put bytes) pieces n s t (Err e) places places (λ at. refl) step (λ target. refl) h
+went_put (call.trap code ∷ acts) pieces n s t r places only run h = absurd only
+went_put (call.target place ∷ acts) pieces n s t r places only run h = absurd only
 
-pub put_in_turn : (bytes : List ℕ) (readings : List Reading) (n : ℕ) (s t : State) (r : Result (Unit {0}) SinkError) (places : DeferredTarget → Option ℕ) → Ran (puts bytes) s t r → Filled readings n s places → Filled readings n t places
-put_in_turn bytes readings n s t r places run h = went_put (puts bytes) readings n s t r places (only_puts bytes) run.went h
+pub put_in_turn : (bytes : List ℕ) (pieces : List Piece) (n : ℕ) (s t : State) (r : Result (Unit {0}) SinkError) (places : DeferredTarget → Option ℕ) → Ran (puts bytes) s t r → Laid pieces n s places → Laid pieces n t places
+put_in_turn bytes pieces n s t r places run h = went_put (puts bytes) pieces n s t r places (only_puts bytes) run.went h
 
-pub stays_as : (readings : List Reading) (n : ℕ) (s t : State) (old new : DeferredTarget → Option ℕ) → t.bytes ≡ s.bytes → t.notices ≡ s.notices → ((target : DeferredTarget) → new target ≡ old target) → Filled readings n s old → Filled readings n t new
-stays_as readings n s t old new bytes notices same h = stays readings n s t old new [] (bytes ∙ sym (append-nil s.bytes)) (ap (λ z. places_told (uses_of z)) notices) same h
+pub stays_as : (pieces : List Piece) (n : ℕ) (s t : State) (old new : DeferredTarget → Option ℕ) → t.bytes ≡ s.bytes → t.notices ≡ s.notices → ((target : DeferredTarget) → new target ≡ old target) → Laid pieces n s old → Laid pieces n t new
+stays_as pieces n s t old new bytes notices same h = stays pieces n s t old new [] (bytes ∙ sym (append-nil s.bytes)) (ap (λ z. places_told (uses_of z)) notices) same h
 
 -- after bytes that are put, and room for others
-pub put_roomier : (acts : List Action) (readings : List Reading) (n : ℕ) (s t : State) (r : Result (Unit {0}) SinkError) (places : DeferredTarget → Option ℕ) → OnlyPuts acts → RanRoomier acts s t r → Filled readings n s places → Filled readings n t places
-put_roomier acts readings n s t r places only run h =
-    stays_as readings n run.between t places places run.roomier.bytes run.roomier.notices (λ target. refl) (went_put acts readings n s run.between r places only run.ran.went h)
+pub put_roomier : (acts : List Action) (pieces : List Piece) (n : ℕ) (s t : State) (r : Result (Unit {0}) SinkError) (places : DeferredTarget → Option ℕ) → OnlyPuts acts → RanRoomier acts s t r → Laid pieces n s places → Laid pieces n t places
+put_roomier acts pieces n s t r places only run h =
+    stays_as pieces n run.between t places places run.roomier.bytes run.roomier.notices (λ target. refl) (went_put acts pieces n s run.between r places only run.ran.went h)
 
 -- An instruction that is put once there is room.
 
@@ -298,10 +225,18 @@ pub if_ok : {E P Q : Type 0} (r : Result (Unit {0}) E) → (P → Q) → OnOk r 
 if_ok (Ok tt) f h = f h
 if_ok (Err e) f h = tt
 
-pub pushed : {M : Type 0} (m : Meant M) (readings : List Reading) (s t : State) (old new : DeferredTarget → Option ℕ) → s.records ≡ true → ReadsRelative m → ((target : DeferredTarget) → new target ≡ old target) → Filled readings (length s.bytes) s old → AddsInstruction m s t → FilledOn m.parts readings t new
-pushed m readings s t old new records relative same h adds =
-    let told : t.notices ≡ s.notices ++ notices_of m.memory (length s.bytes) adds.reads.reading = adds.notices ∙ ap (λ (z : Bool). if z then s.notices ++ notices_of m.memory (length s.bytes) adds.reads.reading else s.notices) records in
-    filled_on readings s t old new adds.added m.parts m.memory adds.reads adds.bytes told relative same h
+pub pushed : {M : Type 0} (m : Meant M) (pieces : List Piece) (s t : State) (old new : DeferredTarget → Option ℕ) → s.records ≡ true → ReadsRelative m → ((target : DeferredTarget) → new target ≡ old target) → Laid pieces (length s.bytes) s old → AddsInstruction m s t → LaidOn whole (parts_as (line_of m.parts.row) m.parts) pieces t new
+unfolding reads_by_line
+pushed m pieces s t old new records relative same h adds =
+    let r = adds.reads.reading in
+    let told : List Notice = notices_of m.memory (length s.bytes) r in
+    let notices : t.notices ≡ s.notices ++ told = adds.notices ∙ ap (λ (z : Bool). if z then s.notices ++ told else s.notices) records in
+    let row : r.row ≡ m.parts.row = ap (λ (p : Parts). p.row) adds.reads.same in
+    let place : r.place ≡ m.parts.place = ap (λ (p : Parts). p.place) adds.reads.same in
+    let is : relative_in r.place ≡ unsettled m.memory (line_of r.row).imm = ap relative_in place ∙ relative ∙ ap (λ z. unsettled m.memory (line_of z).imm) (sym row) in
+    laid_whole (parts_as (line_of m.parts.row) m.parts) pieces s t old new adds.added told (reads_by_line m.parts adds.added adds.reads) adds.bytes notices
+    (told_by m.memory (line_of r.row).imm r.place (length s.bytes) r is ∙ same_field (length s.bytes) r r.place)
+    (unpatched_by m.memory (line_of r.row).imm r.place is) same h
 
 pub on_err : {E P : Type 0} (r : Result (Unit {0}) E) → P → OnErr r P
 on_err (Ok tt) h = tt

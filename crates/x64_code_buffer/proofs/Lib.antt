@@ -1,6 +1,8 @@
 pub mod Fields
 pub mod Uses
 pub mod Patched
+pub mod Laying
+pub mod Pieces
 pub mod Filling
 pub mod Fronts
 pub mod Relocated

@@ -5,8 +5,8 @@ use Rattle.std.proofs.lemmas.List.{length-append}
 use Rattle.cax64_machine_code.specs.Fields.{mod_of, rm_of, reg_of, base_of, number_at, s32, signed_of}
 use Rattle.cax64_machine_code.specs.Line.{prefix_matches, after, digit_matches, opcode_at, opcode_bytes, imm_bytes}
 use Rattle.cax64_machine_code.specs.Prefix.{Prefix, x_of, b_of}
-use Rattle.cax64_machine_code.specs.Reading.{Parts, Found, reading_of, read, place_at, reg_place, imm_at, operands_of, operands_at, matched_at, find, vvvv_at, reg_view}
-use Rattle.cax64_machine_code.specs.Rows.{line_of, all_rows}
+use Rattle.cax64_machine_code.specs.ReadLine.{LineReading, find_line, line_reading_of, read_line}
+use Rattle.cax64_machine_code.specs.Reading.{PartsOf, FoundOf, place_at, reg_place, imm_at, operands_of, matched_at, vvvv_at, reg_view}
 use Rattle.cax64_machine_code.specs.Tail.{Tail, read_tail, sib_at, disp_at, disp32_at, displaced, scaled_index}
 use Rattle.cax64_machine_code.specs.declared.line.ImmField.{ImmField}
 use Rattle.cax64_machine_code.specs.declared.line.ImmField.TheVariants.{NoImm, Imm, Simm}
@@ -19,15 +19,13 @@ use Rattle.cax64_machine_code.specs.declared.line.TailField.{TailField}
 use Rattle.cax64_machine_code.specs.declared.line.TailField.TheVariants.{NoTail, Modrm}
 use Rattle.cax64_machine_code.specs.declared.reading.Place.{Place}
 use Rattle.cax64_machine_code.specs.declared.reading.Place.TheVariants.{Reg, Mem, Rip}
-use Rattle.cax64_machine_code.specs.declared.reading.Reading.{Reading}
 use Rattle.cax64_machine_code.specs.declared.reading.RegView.TheVariants.{Low, High}
-use Rattle.cax64_machine_code.specs.declared.row.Row.{Row}
-use Rattle.cax64_machine_code.proofs.Matched.{find_is}
+use Rattle.cax64_machine_code.proofs.ReadLine.{LineSteps, line_finds, line_steps}
 use Rattle.cax64_machine_code.proofs.Uniqueness.{behind, some_if}
-use Rattle.cax64_machine_code.proofs.Whole.{row_matches, Steps, steps, read_found}
-use Rattle.x64_code_buffer.specs.Filled.{imm_behind, field_place}
+use Rattle.x64_code_buffer.specs.Laid.{line_imm_behind, line_field_place}
 use Rattle.x64_code_buffer.proofs.Fields.{number_of_four}
 use Rattle.x64_code_buffer.proofs.Fronts.{prefix_front}
+use Rattle.x64_code_buffer.proofs.Laying.{is_rip, is_some_rip}
 
 some_same : {A : Type 0} (a b : A) → ◌≡◌ {A = Option A} (Some a) (Some b) → a ≡ b
 some_same a b e = cc
@@ -58,15 +56,11 @@ unfolding after
 after_self [] rest = refl
 after_self (c ∷ opcode) rest = rw (itself c) (after_self opcode rest)
 
-digit_same : (tail : TailField) (m : ℕ) (a b : List ℕ) → digit_matches tail (m ∷ a) ≡ true → digit_matches tail (m ∷ b) ≡ true
-digit_same NoTail m a b h = refl
-digit_same (Modrm reg place) m a b h = h
-
-matched_same : (line : Line) (p : Prefix) (bytes a b : List ℕ) (m : ℕ) → matched_at line p bytes ≡ Some (m ∷ a) → matched_at line p (opcode_bytes line.opcode ++ (m ∷ b)) ≡ Some (m ∷ b)
-matched_same line p bytes a b m h =
-    let both = some_if (prefix_matches line p) (opcode_at line bytes) (m ∷ a) h in
-    let k = behind line bytes (m ∷ a) both.1 in
-    rw (both.0, after_self (opcode_bytes line.opcode) (m ∷ b), digit_same line.tail m a b k.digit) refl
+matched_again : (line : Line) (p : Prefix) (bytes a b : List ℕ) → matched_at line p bytes ≡ Some a → (digit_matches line.tail a ≡ true → digit_matches line.tail b ≡ true) → matched_at line p (opcode_bytes line.opcode ++ b) ≡ Some b
+matched_again line p bytes a b h same =
+    let both = some_if (prefix_matches line p) (opcode_at line bytes) a h in
+    let k = behind line bytes a both.1 in
+    rw (both.0, after_self (opcode_bytes line.opcode) b, same k.digit) refl
 
 matched_is : (line : Line) (p : Prefix) (bytes rest : List ℕ) → matched_at line p bytes ≡ Some rest → bytes ≡ opcode_bytes line.opcode ++ rest
 matched_is line p bytes rest h =
@@ -84,11 +78,6 @@ record RipTail (x b : ℕ) (bytes : List ℕ) (t : Tail) : Type 0 where
   bytes_are : bytes ≡ m ∷ one ∷ two ∷ three ∷ last ∷ t.rest
   place_is : t.place ≡ Rip (s32 (four one two three last))
   again : (c d e f : ℕ) (rest : List ℕ) → read_tail x b 1 (m ∷ c ∷ d ∷ e ∷ f ∷ rest) ≡ Some (record { reg = t.reg; place = Rip (s32 (four c d e f)); rest = rest })
-
-abbrev pub is_rip : Place → Bool
-is_rip (Reg view) = false
-is_rip (Mem base index disp) = false
-is_rip (Rip disp) = true
 
 reg_displaced : (reg : ℕ) (base : Option ℕ) (index : Option (ℕ × ℕ)) (o : Option (ℤ × List ℕ)) (t : Tail) → displaced reg (Mem base index) o ≡ Some t → is_rip t.place ≡ false
 reg_displaced reg base index None t h = cc
@@ -177,21 +166,24 @@ imm_length (Simm size) bytes r h = mapped_length (λ (n : ℕ). Some (signed_of 
 -- The operands.
 
 -- parts whose relative place is another
-abbrev pub moved : Parts → ℤ → Parts
+abbrev moved : PartsOf Line → ℤ → PartsOf Line
 moved parts disp = record { row = parts.row; reg = parts.reg; vvvv = parts.vvvv; place = Some (Rip disp); imm = parts.imm }
 
-record RipOperands (field : TailField) (row : Row) (line : Line) (p : Prefix) (bytes : List ℕ) (found : Found) : Type 0 where
-  m : ℕ
+-- Of the bytes behind an opcode: four, with b before them and k behind, and then what is left, t of them the tail; and with
+-- any other four there the line finds the parts so.
+record Operands (field : TailField) (line : Line) (p : Prefix) (bytes : List ℕ) (found : FoundOf Line) (b k t : ℕ) (so : ℤ → PartsOf Line) : Type 0 where
+  before : List ℕ
   one : ℕ
   two : ℕ
   three : ℕ
   last : ℕ
-  imm : List ℕ
-  bytes_are : bytes ≡ m ∷ one ∷ two ∷ three ∷ last ∷ imm
-  row_is : found.parts.row ≡ row
-  tail_is : found.tail ≡ 5
-  imm_is : length imm ≡ imm_bytes line.imm + length found.rest
-  again : (c d e f : ℕ) → operands_of field row line p (m ∷ c ∷ d ∷ e ∷ f ∷ imm) ≡ Some (record { parts = moved found.parts (s32 (four c d e f)); tail = 5; rest = found.rest })
+  after : List ℕ
+  bytes_are : bytes ≡ before ++ (one ∷ two ∷ three ∷ last ∷ after)
+  before_is : length before ≡ b
+  after_is : length after ≡ k + length found.rest
+  tail_is : found.tail ≡ t
+  digit : (c d e f : ℕ) → digit_matches field bytes ≡ true → digit_matches field (before ++ (c ∷ d ∷ e ∷ f ∷ after)) ≡ true
+  again : (c d e f : ℕ) → operands_of field line line p (before ++ (c ∷ d ∷ e ∷ f ∷ after)) ≡ Some (record { parts = so (s32 (four c d e f)); tail = found.tail; rest = found.rest })
 
 reg_place_no_rip : (field : PlaceField) (p : Prefix) (view : _) (place : Place) → reg_place field p view ≡ Some place → is_rip place ≡ false
 reg_place_no_rip Memory p view place h = cc
@@ -204,54 +196,107 @@ rip_place field p (Reg view) place h r = no_true (sym r ∙ reg_place_no_rip fie
 rip_place field p (Mem base index disp) place h r = no_true (sym r ∙ sym (ap is_rip (some_same _ _ h)))
 rip_place field p (Rip disp) place h r = refl
 
-abbrev pub is_some_rip : Option Place → Bool
-is_some_rip None = false
-is_some_rip (Some place) = is_rip place
+five_more : (m c d e f : ℕ) (imm : List ℕ) → length (m ∷ c ∷ d ∷ e ∷ f ∷ imm) - length imm ≡ 5
+five_more m c d e f imm = omega arith
 
-five : (m c d e f : ℕ) (imm : List ℕ) → length (m ∷ c ∷ d ∷ e ∷ f ∷ imm) - length imm ≡ 5
-five m c d e f imm = omega arith
-
-by_imm : (reg : RegField) (field : PlaceField) (row : Row) (line : Line) (p : Prefix) (bytes : List ℕ) (t : Tail) (place : Place) (o : Option (Option ℤ × List ℕ)) (found : Found) → imm_at line.imm t.rest ≡ o → RipTail (x_of p) (b_of p) bytes t → option_map {T = Option ℤ × List ℕ} {U = Found} (λ i. record { parts = record { row = row; reg = reg_view reg p t.reg; vvvv = vvvv_at line.prefix p; place = Some place; imm = i.0 }; tail = length bytes - length t.rest; rest = i.1 }) o ≡ Some found → RipOperands (Modrm reg field) row line p bytes found
-by_imm reg field row line p bytes t place None found ei h k = cc
-by_imm reg field row line p bytes t place (Some i) found ei h k =
-    let e : record { parts = record { row = row; reg = reg_view reg p t.reg; vvvv = vvvv_at line.prefix p; place = Some place; imm = i.0 }; tail = length bytes - length t.rest; rest = i.1 } ≡ found = some_same _ _ k in
-    let tail : length bytes - length t.rest ≡ 5 = ap (λ (z : List ℕ). length z - length t.rest) h.bytes_are ∙ five h.m h.one h.two h.three h.last t.rest in
-    let rest : length i.1 ≡ length found.rest = ap (λ (z : Found). length z.rest) e in
+by_imm : (reg : RegField) (field : PlaceField) (line : Line) (p : Prefix) (bytes : List ℕ) (t : Tail) (place : Place) (o : Option (Option ℤ × List ℕ)) (found : FoundOf Line) → imm_at line.imm t.rest ≡ o → RipTail (x_of p) (b_of p) bytes t → option_map {T = Option ℤ × List ℕ} {U = FoundOf Line} (λ i. record { parts = record { row = line; reg = reg_view reg p t.reg; vvvv = vvvv_at line.prefix p; place = Some place; imm = i.0 }; tail = length bytes - length t.rest; rest = i.1 }) o ≡ Some found → Operands (Modrm reg field) line p bytes found 1 (imm_bytes line.imm) 5 (moved found.parts)
+by_imm reg field line p bytes t place None found ei h k = cc
+by_imm reg field line p bytes t place (Some i) found ei h k =
+    let e : record { parts = record { row = line; reg = reg_view reg p t.reg; vvvv = vvvv_at line.prefix p; place = Some place; imm = i.0 }; tail = length bytes - length t.rest; rest = i.1 } ≡ found = some_same _ _ k in
+    let five : length bytes - length t.rest ≡ 5 = ap (λ (z : List ℕ). length z - length t.rest) h.bytes_are ∙ five_more h.m h.one h.two h.three h.last t.rest in
+    let tail : found.tail ≡ 5 = sym (ap (λ (z : FoundOf Line). z.tail) e) ∙ five in
+    let rest : length i.1 ≡ length found.rest = ap (λ (z : FoundOf Line). length z.rest) e in
     record {
-      m = h.m;
+      before = h.m ∷ [];
       one = h.one;
       two = h.two;
       three = h.three;
       last = h.last;
-      imm = t.rest;
+      after = t.rest;
       bytes_are = h.bytes_are;
-      row_is = sym (ap (λ (z : Found). z.parts.row) e);
-      tail_is = sym (ap (λ (z : Found). z.tail) e) ∙ tail;
-      imm_is = omega (arith, imm_length line.imm t.rest i ei, rest);
-      again = λ c d e' f. rw (h.again c d e' f t.rest, ei, five h.m c d e' f t.rest) (ap (λ (z : Found). Some (record { parts = moved z.parts (s32 (four c d e' f)); tail = 5; rest = z.rest })) e);
+      before_is = refl;
+      after_is = omega (arith, imm_length line.imm t.rest i ei, rest);
+      tail_is = tail;
+      digit = λ c d e' f k. ap (digit_matches (Modrm reg field)) (sym h.bytes_are) ∙ k;
+      again = λ c d e' f.
+          rw (h.again c d e' f t.rest, ei, five_more h.m c d e' f t.rest) (ap (λ (z : FoundOf Line). Some (record { parts = moved z.parts (s32 (four c d e' f)); tail = 5; rest = z.rest })) e)
+          ∙ ap (λ (n : ℕ). Some (record { parts = moved found.parts (s32 (four c d e' f)); tail = n; rest = found.rest })) (sym tail);
     }
 
-by_place : (reg : RegField) (field : PlaceField) (row : Row) (line : Line) (p : Prefix) (bytes : List ℕ) (t : Tail) (o : Option Place) (found : Found) → place_at field p t.place ≡ o → (is_rip t.place ≡ true → RipTail (x_of p) (b_of p) bytes t) → option_and_then {T = Place} {U = Found} (λ place. option_map (λ i. record { parts = record { row = row; reg = reg_view reg p t.reg; vvvv = vvvv_at line.prefix p; place = Some place; imm = i.0 }; tail = length bytes - length t.rest; rest = i.1 }) (imm_at line.imm t.rest)) o ≡ Some found → is_some_rip found.parts.place ≡ true → RipOperands (Modrm reg field) row line p bytes found
-by_place reg field row line p bytes t None found ep tail h r = cc
-by_place reg field row line p bytes t (Some place) found ep tail h r =
+by_place : (reg : RegField) (field : PlaceField) (line : Line) (p : Prefix) (bytes : List ℕ) (t : Tail) (o : Option Place) (found : FoundOf Line) → place_at field p t.place ≡ o → (is_rip t.place ≡ true → RipTail (x_of p) (b_of p) bytes t) → option_and_then {T = Place} {U = FoundOf Line} (λ place. option_map (λ i. record { parts = record { row = line; reg = reg_view reg p t.reg; vvvv = vvvv_at line.prefix p; place = Some place; imm = i.0 }; tail = length bytes - length t.rest; rest = i.1 }) (imm_at line.imm t.rest)) o ≡ Some found → is_some_rip found.parts.place ≡ true → Operands (Modrm reg field) line p bytes found 1 (imm_bytes line.imm) 5 (moved found.parts)
+by_place reg field line p bytes t None found ep tail h r = cc
+by_place reg field line p bytes t (Some place) found ep tail h r =
     let is : is_rip place ≡ true = placed (imm_at line.imm t.rest) h in
-    by_imm reg field row line p bytes t place (imm_at line.imm t.rest) found refl (tail (rip_place field p t.place place ep is)) h
+    by_imm reg field line p bytes t place (imm_at line.imm t.rest) found refl (tail (rip_place field p t.place place ep is)) h
   where
-    placed : (o : Option (Option ℤ × List ℕ)) → option_map {T = Option ℤ × List ℕ} {U = Found} (λ i. record { parts = record { row = row; reg = reg_view reg p t.reg; vvvv = vvvv_at line.prefix p; place = Some place; imm = i.0 }; tail = length bytes - length t.rest; rest = i.1 }) o ≡ Some found → is_rip place ≡ true
+    placed : (o : Option (Option ℤ × List ℕ)) → option_map {T = Option ℤ × List ℕ} {U = FoundOf Line} (λ i. record { parts = record { row = line; reg = reg_view reg p t.reg; vvvv = vvvv_at line.prefix p; place = Some place; imm = i.0 }; tail = length bytes - length t.rest; rest = i.1 }) o ≡ Some found → is_rip place ≡ true
     placed None k = cc
-    placed (Some i) k = ap (λ (z : Found). is_some_rip z.parts.place) (some_same _ _ k) ∙ r
+    placed (Some i) k = ap (λ (z : FoundOf Line). is_some_rip z.parts.place) (some_same _ _ k) ∙ r
 
-by_tail : (reg : RegField) (field : PlaceField) (row : Row) (line : Line) (p : Prefix) (bytes : List ℕ) (o : Option Tail) (found : Found) → read_tail (x_of p) (b_of p) 1 bytes ≡ o → option_and_then {T = Tail} {U = Found} (λ t. option_and_then (λ place. option_map (λ i. record { parts = record { row = row; reg = reg_view reg p t.reg; vvvv = vvvv_at line.prefix p; place = Some place; imm = i.0 }; tail = length bytes - length t.rest; rest = i.1 }) (imm_at line.imm t.rest)) (place_at field p t.place)) o ≡ Some found → is_some_rip found.parts.place ≡ true → RipOperands (Modrm reg field) row line p bytes found
-by_tail reg field row line p bytes None found et h r = cc
-by_tail reg field row line p bytes (Some t) found et h r = by_place reg field row line p bytes t (place_at field p t.place) found refl (rip_tail (x_of p) (b_of p) bytes t et) h r
+by_tail : (reg : RegField) (field : PlaceField) (line : Line) (p : Prefix) (bytes : List ℕ) (o : Option Tail) (found : FoundOf Line) → read_tail (x_of p) (b_of p) 1 bytes ≡ o → option_and_then {T = Tail} {U = FoundOf Line} (λ t. option_and_then (λ place. option_map (λ i. record { parts = record { row = line; reg = reg_view reg p t.reg; vvvv = vvvv_at line.prefix p; place = Some place; imm = i.0 }; tail = length bytes - length t.rest; rest = i.1 }) (imm_at line.imm t.rest)) (place_at field p t.place)) o ≡ Some found → is_some_rip found.parts.place ≡ true → Operands (Modrm reg field) line p bytes found 1 (imm_bytes line.imm) 5 (moved found.parts)
+by_tail reg field line p bytes None found et h r = cc
+by_tail reg field line p bytes (Some t) found et h r = by_place reg field line p bytes t (place_at field p t.place) found refl (rip_tail (x_of p) (b_of p) bytes t et) h r
 
-bare_no_rip : (row : Row) (line : Line) (p : Prefix) (o : Option (Option ℤ × List ℕ)) (found : Found) → option_map {T = Option ℤ × List ℕ} {U = Found} (λ i. record { parts = record { row = row; reg = None; vvvv = vvvv_at line.prefix p; place = None; imm = i.0 }; tail = 0; rest = i.1 }) o ≡ Some found → is_some_rip found.parts.place ≡ false
-bare_no_rip row line p None found h = cc
-bare_no_rip row line p (Some i) found h = sym (ap (λ (z : Found). is_some_rip z.parts.place) (some_same _ _ h))
+bare_no_rip : (line : Line) (p : Prefix) (o : Option (Option ℤ × List ℕ)) (found : FoundOf Line) → option_map {T = Option ℤ × List ℕ} {U = FoundOf Line} (λ i. record { parts = record { row = line; reg = None; vvvv = vvvv_at line.prefix p; place = None; imm = i.0 }; tail = 0; rest = i.1 }) o ≡ Some found → is_some_rip found.parts.place ≡ false
+bare_no_rip line p None found h = cc
+bare_no_rip line p (Some i) found h = sym (ap (λ (z : FoundOf Line). is_some_rip z.parts.place) (some_same _ _ h))
 
-rip_operands : (field : TailField) (row : Row) (line : Line) (p : Prefix) (bytes : List ℕ) (found : Found) → operands_of field row line p bytes ≡ Some found → is_some_rip found.parts.place ≡ true → RipOperands field row line p bytes found
-rip_operands NoTail row line p bytes found h r = no_true (sym r ∙ bare_no_rip row line p (imm_at line.imm bytes) found h)
-rip_operands (Modrm reg field) row line p bytes found h r = by_tail reg field row line p bytes (read_tail (x_of p) (b_of p) 1 bytes) found refl h r
+rip_operands : (field : TailField) (line : Line) (p : Prefix) (bytes : List ℕ) (found : FoundOf Line) → operands_of field line line p bytes ≡ Some found → is_some_rip found.parts.place ≡ true → Operands field line p bytes found 1 (imm_bytes line.imm) 5 (moved found.parts)
+rip_operands NoTail line p bytes found h r = no_true (sym r ∙ bare_no_rip line p (imm_at line.imm bytes) found h)
+rip_operands (Modrm reg field) line p bytes found h r = by_tail reg field line p bytes (read_tail (x_of p) (b_of p) 1 bytes) found refl h r
+
+-- parts whose immediate is another
+abbrev distant : PartsOf Line → ℤ → PartsOf Line
+distant parts distance = record { row = parts.row; reg = parts.reg; vvvv = parts.vvvv; place = parts.place; imm = Some distance }
+
+-- what is read of four bytes
+abbrev Four : List ℕ → ℕ × List ℕ → Type 0
+Four bytes n = (a : ℕ) × (b : ℕ) × (c : ℕ) × (d : ℕ) × (bytes ≡ a ∷ b ∷ c ∷ d ∷ n.1)
+
+four_there : (bytes : List ℕ) (n : ℕ × List ℕ) → number_at 4 bytes ≡ Some n → Four bytes n
+unfolding number_at
+four_there [] n h = cc
+four_there (a ∷ []) n h = cc
+four_there (a ∷ b ∷ []) n h = cc
+four_there (a ∷ b ∷ c ∷ []) n h = cc
+four_there (a ∷ b ∷ c ∷ d ∷ rest) n h = (a, b, c, d, ap (λ (z : ℕ × List ℕ). a ∷ b ∷ c ∷ d ∷ z.1) (some_same _ _ h))
+
+abbrev far_made : Line → Prefix → Option ℤ × List ℕ → FoundOf Line
+far_made line p i = record { parts = record { row = line; reg = None; vvvv = vvvv_at line.prefix p; place = None; imm = i.0 }; tail = 0; rest = i.1 }
+
+no_digit : (tail : TailField) (bytes : List ℕ) → tail ≡ NoTail → digit_matches tail bytes ≡ true
+no_digit tail bytes e = rw e refl
+
+far_by : (line : Line) (p : Prefix) (bytes : List ℕ) (o : Option (ℕ × List ℕ)) (found : FoundOf Line) → number_at 4 bytes ≡ o → line.tail ≡ NoTail → line.imm ≡ Simm 4 → option_map {T = Option ℤ × List ℕ} {U = FoundOf Line} (far_made line p) (option_map {T = ℕ × List ℕ} {U = Option ℤ × List ℕ} (λ n. (Some (signed_of 4 n.0), n.1)) o) ≡ Some found → Operands line.tail line p bytes found 0 0 0 (distant found.parts)
+far_by line p bytes None found en tail imm h = cc
+far_by line p bytes (Some n) found en tail imm h =
+    let q = four_there bytes n en in
+    let e : far_made line p (Some (signed_of 4 n.0), n.1) ≡ found = some_same _ _ h in
+    let rest : n.1 ≡ found.rest = ap (λ (z : FoundOf Line). z.rest) e in
+    record {
+      before = [];
+      one = q.0;
+      two = q.1;
+      three = q.2;
+      last = q.3;
+      after = found.rest;
+      bytes_are = q.4 ∙ ap (λ (z : List ℕ). q.0 ∷ q.1 ∷ q.2 ∷ q.3 ∷ z) rest;
+      before_is = refl;
+      after_is = omega arith;
+      tail_is = sym (ap (λ (z : FoundOf Line). z.tail) e);
+      digit = λ c d e' f k. no_digit line.tail (c ∷ d ∷ e' ∷ f ∷ found.rest) tail;
+      again = λ c d e' f.
+          let fresh : List ℕ = c ∷ d ∷ e' ∷ f ∷ found.rest in
+          ap (λ (t : TailField). operands_of t line line p fresh) tail
+          ∙ ap (λ (i : ImmField). option_map {T = Option ℤ × List ℕ} {U = FoundOf Line} (far_made line p) (imm_at i fresh)) imm
+          ∙ ap (λ (o : Option (ℕ × List ℕ)). option_map {T = Option ℤ × List ℕ} {U = FoundOf Line} (far_made line p) (option_map {T = ℕ × List ℕ} {U = Option ℤ × List ℕ} (λ n. (Some (signed_of 4 n.0), n.1)) o)) (number_of_four c d e' f found.rest)
+          ∙ ap (λ (z : FoundOf Line). Some (record { parts = distant z.parts (s32 (four c d e' f)); tail = z.tail; rest = found.rest })) e;
+    }
+
+far_operands : (line : Line) (p : Prefix) (bytes : List ℕ) (found : FoundOf Line) → line.tail ≡ NoTail → line.imm ≡ Simm 4 → operands_of line.tail line line p bytes ≡ Some found → Operands line.tail line p bytes found 0 0 0 (distant found.parts)
+far_operands line p bytes found tail imm h =
+    let bare : option_map {T = Option ℤ × List ℕ} {U = FoundOf Line} (far_made line p) (imm_at line.imm bytes) ≡ Some found = ap (λ (t : TailField). operands_of t line line p bytes) (sym tail) ∙ h in
+    far_by line p bytes (number_at 4 bytes) found refl tail imm (ap (λ (i : ImmField). option_map {T = Option ℤ × List ℕ} {U = FoundOf Line} (far_made line p) (imm_at i bytes)) (sym imm) ∙ bare)
 
 -- The whole instruction.
 
@@ -267,9 +312,31 @@ has_opcode o = by_escape o.escape refl
     by_escape true e = record { first = 0x0F; later = o.byte ∷ []; is = rw e refl }
     by_escape false e = record { first = o.byte; later = []; is = rw e refl }
 
--- Of the bytes of a relative instruction: its field, with what stands before and behind; and with any other four bytes
--- there it reads as the same, but for the place.
-pub record Relocated (w : List ℕ) (r : Reading) : Type 0 where
+-- what stands before the operands: the line finds behind it whatever operands they are
+record Header (line : Line) (p : Prefix) (w rest : List ℕ) : Type 0 where
+  front : List ℕ
+  bytes_are : w ≡ front ++ rest
+  again : (fresh : List ℕ) (found : FoundOf Line) → (digit_matches line.tail rest ≡ true → digit_matches line.tail fresh ≡ true) → operands_of line.tail line line p fresh ≡ Some found → find_line line (front ++ fresh) ≡ Some found
+
+header : (line : Line) (w : List ℕ) (found : FoundOf Line) (st : LineSteps line w found) → Header line st.prefix w st.rest
+header line w found st =
+    let op = has_opcode line.opcode in
+    let left : st.behind ≡ op.first ∷ (op.later ++ st.rest) = matched_is line st.prefix st.behind st.rest st.matched ∙ ap (λ (z : List ℕ). z ++ st.rest) op.is in
+    let head = prefix_front w st.prefix op.first (op.later ++ st.rest) (st.prefix_is ∙ ap (λ (z : List ℕ). Some (st.prefix, z)) left) in
+    let v : List ℕ = head.0 in
+    record {
+      front = v ++ op.later;
+      bytes_are = head.1 ∙ sym (append_assoc v op.later st.rest);
+      again = λ fresh now same ops.
+          let matched : matched_at line st.prefix (op.first ∷ (op.later ++ fresh)) ≡ Some fresh =
+          ap (λ (z : List ℕ). matched_at line st.prefix (z ++ fresh)) (sym op.is) ∙ matched_again line st.prefix st.behind st.rest fresh st.matched same in
+          ap (find_line line) (append_assoc v op.later fresh)
+          ∙ line_finds (v ++ (op.later ++ fresh)) (op.first ∷ (op.later ++ fresh)) fresh st.prefix line now (head.2 (op.later ++ fresh)) matched ops;
+    }
+
+-- Of the bytes of an instruction: the four at f, with what stands before and the k bytes behind them; and with any other
+-- four there its line reads it so.
+pub record Slot (w : List ℕ) (line : Line) (f k : ℕ) (so : ℤ → LineReading) : Type 0 where
   pub front : List ℕ
   pub one : ℕ
   pub two : ℕ
@@ -277,74 +344,82 @@ pub record Relocated (w : List ℕ) (r : Reading) : Type 0 where
   pub last : ℕ
   pub behind : List ℕ
   pub bytes_are : w ≡ front ++ (one ∷ two ∷ three ∷ last ∷ behind)
-  pub field_is : length front ≡ field_place r
-  pub behind_is : length behind ≡ imm_behind r
-  pub again : (c d e f : ℕ) → read (front ++ (c ∷ d ∷ e ∷ f ∷ behind)) ≡ Some (record r { place = Some (Rip (s32 (four c d e f))) })
+  pub field_is : length front ≡ f
+  pub behind_is : length behind ≡ k
+  pub again : (c d e g : ℕ) → read_line line (front ++ (c ∷ d ∷ e ∷ g ∷ behind)) ≡ Some (so (s32 (four c d e g)))
+
+sized : (w front : List ℕ) (a b c d : ℕ) (after : List ℕ) (k : ℕ) → w ≡ front ++ (a ∷ b ∷ c ∷ d ∷ after) → length after ≡ k → length w ≡ length front + 4 + k
+sized w front a b c d after k e h = ap length e ∙ length-append front (a ∷ b ∷ c ∷ d ∷ after) ∙ omega (arith, h)
+
+pub slot_size : (w : List ℕ) (line : Line) (f k : ℕ) (so : ℤ → LineReading) → Slot w line f k so → length w ≡ f + 4 + k
+slot_size w line f k so h = sized w h.front h.one h.two h.three h.last h.behind k h.bytes_are h.behind_is ∙ ap (λ (n : ℕ). n + 4 + k) h.field_is
+
+found_by : (bytes : List ℕ) (o : Option (FoundOf Line)) (r : LineReading) → option_map {T = FoundOf Line} {U = LineReading} (line_reading_of bytes) o ≡ Some r → (found : FoundOf Line) × (o ≡ Some found) × (line_reading_of bytes found ≡ r)
+found_by bytes None r h = cc
+found_by bytes (Some found) r h = (found, refl, some_same _ _ h)
+
+found_reads : (line : Line) (v : List ℕ) (found : FoundOf Line) (r : LineReading) → find_line line v ≡ Some found → line_reading_of v found ≡ r → read_line line v ≡ Some r
+unfolding read_line
+found_reads line v found r h e = rw (h, e) refl
 
 no_less : (n k : ℕ) → n - k ≡ n → 1 ≤ n → k ≡ 0
 no_less n k h least = omega arith
 
-reading_again : (w v : List ℕ) (found : Found) (r : Reading) (disp : ℤ) → length v ≡ length w → found.tail ≡ 5 → reading_of w found ≡ r → reading_of v (record { parts = moved found.parts disp; tail = 5; rest = found.rest }) ≡ record r { place = Some (Rip disp) }
-reading_again w v found r disp len tail e =
-    ap (λ (n : ℕ). record { row = found.parts.row; length = n - length found.rest; tail = 5; reg = found.parts.reg; vvvv = found.parts.vvvv; place = Some (Rip disp); imm = found.parts.imm }) len
-    ∙ ap (λ (n : ℕ). record { row = found.parts.row; length = length w - length found.rest; tail = n; reg = found.parts.reg; vvvv = found.parts.vvvv; place = Some (Rip disp); imm = found.parts.imm }) (sym tail)
-    ∙ ap (λ (z : Reading). record z { place = Some (Rip disp) }) e
+nothing_left : (w : List ℕ) (found : FoundOf Line) (r : LineReading) → line_reading_of w found ≡ r → r.length ≡ length w → 1 ≤ r.length → length found.rest ≡ 0
+nothing_left w found r e len least =
+    let size : length w - length found.rest ≡ r.length = ap (λ (z : LineReading). z.length) e in
+    no_less (length w) (length found.rest) (size ∙ len) (omega arith)
 
-found_reads : (v : List ℕ) (found : Found) (r : Reading) → find v ≡ Some found → reading_of v found ≡ r → read v ≡ Some r
-unfolding read
-found_reads v found r h e = rw (h, e) refl
+as_long : (w v : List ℕ) (found : FoundOf Line) → length v ≡ length w → line_reading_of v found ≡ line_reading_of w found
+as_long w v found e = ap (λ (n : ℕ). record { line = found.parts.row; length = n - length found.rest; tail = found.tail; reg = found.parts.reg; vvvv = found.parts.vvvv; place = found.parts.place; imm = found.parts.imm }) e
 
-length_six : (v o : List ℕ) (m c d e f : ℕ) (imm : List ℕ) → length (v ++ (o ++ (m ∷ c ∷ d ∷ e ∷ f ∷ imm))) ≡ length v + length o + 5 + length imm
-length_six v o m c d e f imm = length-append v (o ++ (m ∷ c ∷ d ∷ e ∷ f ∷ imm)) ∙ omega (arith, length-append o (m ∷ c ∷ d ∷ e ∷ f ∷ imm))
-
-regroup : (v o : List ℕ) (m : ℕ) (rest : List ℕ) → ((v ++ o) ++ (m ∷ [])) ++ rest ≡ v ++ (o ++ (m ∷ rest))
-regroup v o m rest = append_assoc (v ++ o) (m ∷ []) rest ∙ append_assoc v o (m ∷ rest)
-
-by_steps : (w : List ℕ) (r : Reading) (found : Found) (st : Steps w found) → reading_of w found ≡ r → r.length ≡ length w → 1 ≤ r.length → RipOperands (line_of st.row).tail st.row (line_of st.row) st.prefix st.rest found → matched_at (line_of st.row) st.prefix st.behind ≡ Some st.rest → Relocated w r
-unfolding operands_at
-by_steps w r found st e len least ops matched =
-    let line = line_of st.row in
-    let op = has_opcode line.opcode in
-    let left : st.behind ≡ op.first ∷ (op.later ++ st.rest) = matched_is line st.prefix st.behind st.rest matched ∙ ap (λ (z : List ℕ). z ++ st.rest) op.is in
-    let head = prefix_front w st.prefix op.first (op.later ++ st.rest) (st.prefix_is ∙ ap (λ (z : List ℕ). Some (st.prefix, z)) left) in
-    let v : List ℕ = head.0 in
-    let old : List ℕ = ops.m ∷ ops.one ∷ ops.two ∷ ops.three ∷ ops.last ∷ ops.imm in
-    let whole : w ≡ v ++ (op.later ++ old) = head.1 ∙ ap (λ (z : List ℕ). v ++ (op.later ++ z)) ops.bytes_are in
-    let size : length w ≡ length v + length op.later + 5 + length ops.imm = ap length whole ∙ length_six v op.later ops.m ops.one ops.two ops.three ops.last ops.imm in
-    let left_length : length w - length found.rest ≡ r.length = ap (λ (z : Reading). z.length) e in
-    let none : length found.rest ≡ 0 = no_less (length w) (length found.rest) (left_length ∙ len) (omega arith) in
-    let row : r.row ≡ st.row = sym (ap (λ (z : Reading). z.row) e) ∙ ops.row_is in
-    let tail : r.tail ≡ 5 = sym (ap (λ (z : Reading). z.tail) e) ∙ ops.tail_is in
-    let imm : imm_behind r ≡ imm_bytes line.imm = ap (λ (z : Row). imm_bytes (line_of z).imm) row in
-    let behind : length ops.imm ≡ imm_behind r = omega (arith, ops.imm_is, none, imm) in
-    let front_length : length ((v ++ op.later) ++ (ops.m ∷ [])) ≡ length v + length op.later + 1 = length-append (v ++ op.later) (ops.m ∷ []) ∙ omega (arith, length-append v op.later) in
+slotted : (w : List ℕ) (line : Line) (found : FoundOf Line) (st : LineSteps line w found) (parts : ℤ → PartsOf Line) (so : ℤ → LineReading) (f b k t : ℕ) → Operands line.tail line st.prefix st.rest found b k t parts → length found.rest ≡ 0 → ((n : ℕ) → b ≤ n → length w ≡ n + 4 + k → n ≡ f) → ((z : ℤ) → line_reading_of w (record { parts = parts z; tail = found.tail; rest = found.rest }) ≡ so z) → Slot w line f k so
+slotted w line found st parts so f b k t ops none place reading =
+    let after : length ops.after ≡ k = omega (arith, ops.after_is, none) in
+    let h = header line w found st in
+    let front : List ℕ = h.front ++ ops.before in
+    let all : w ≡ front ++ (ops.one ∷ ops.two ∷ ops.three ∷ ops.last ∷ ops.after) =
+    h.bytes_are ∙ ap (λ (z : List ℕ). h.front ++ z) ops.bytes_are ∙ sym (append_assoc h.front ops.before (ops.one ∷ ops.two ∷ ops.three ∷ ops.last ∷ ops.after)) in
+    let size : length w ≡ length front + 4 + k = sized w front ops.one ops.two ops.three ops.last ops.after k all after in
     record {
-      front = (v ++ op.later) ++ (ops.m ∷ []);
+      front = front;
       one = ops.one;
       two = ops.two;
       three = ops.three;
       last = ops.last;
-      behind = ops.imm;
-      bytes_are = whole ∙ sym (regroup v op.later ops.m (ops.one ∷ ops.two ∷ ops.three ∷ ops.last ∷ ops.imm));
-      field_is = front_length ∙ omega (arith, size, len, tail, behind);
-      behind_is = behind;
-      again = λ c d e' f.
-          let fresh : List ℕ = ops.m ∷ c ∷ d ∷ e' ∷ f ∷ ops.imm in
-          let now : List ℕ = v ++ (op.later ++ fresh) in
-          let is_matched : matched_at line st.prefix (op.first ∷ (op.later ++ fresh)) ≡ Some fresh =
-          ap (λ (z : List ℕ). matched_at line st.prefix (z ++ fresh)) (sym op.is)
-          ∙ matched_same line st.prefix st.behind (ops.one ∷ ops.two ∷ ops.three ∷ ops.last ∷ ops.imm) (c ∷ d ∷ e' ∷ f ∷ ops.imm) ops.m (matched ∙ ap Some ops.bytes_are) in
-          let is_found = find_is now (op.first ∷ (op.later ++ fresh)) fresh st.prefix st.row (record { parts = moved found.parts (s32 (four c d e' f)); tail = 5; rest = found.rest }) (head.2 (op.later ++ fresh)) is_matched (ops.again c d e' f) in
-          let same_size : length now ≡ length w = length_six v op.later ops.m c d e' f ops.imm ∙ sym size in
-          ap read (regroup v op.later ops.m (c ∷ d ∷ e' ∷ f ∷ ops.imm))
-          ∙ found_reads now _ _ is_found (reading_again w now found r (s32 (four c d e' f)) same_size ops.tail_is e);
+      behind = ops.after;
+      bytes_are = all;
+      field_is = place (length front) (omega (arith, length-append h.front ops.before, ops.before_is)) size;
+      behind_is = after;
+      again = λ c d e g.
+          let v : List ℕ = front ++ (c ∷ d ∷ e ∷ g ∷ ops.after) in
+          let now : FoundOf Line = record { parts = parts (s32 (four c d e g)); tail = found.tail; rest = found.rest } in
+          let is_found : find_line line v ≡ Some now = ap (find_line line) (append_assoc h.front ops.before (c ∷ d ∷ e ∷ g ∷ ops.after)) ∙ h.again (ops.before ++ (c ∷ d ∷ e ∷ g ∷ ops.after)) now (ops.digit c d e g) (ops.again c d e g) in
+          found_reads line v now (so (s32 (four c d e g))) is_found (as_long w v now (sized v front c d e g ops.after k refl after ∙ sym size) ∙ reading (s32 (four c d e g)));
     }
 
-pub relocated : (w : List ℕ) (r : Reading) → read w ≡ Some r → r.length ≡ length w → 1 ≤ r.length → is_some_rip r.place ≡ true → Relocated w r
-unfolding operands_at
+-- the field of a relative place
+pub relocated : (w : List ℕ) (r : LineReading) → read_line r.line w ≡ Some r → r.length ≡ length w → 1 ≤ r.length → is_some_rip r.place ≡ true → Slot w r.line (line_field_place r) (line_imm_behind r) (λ z. record r { place = Some (Rip z) })
+unfolding read_line
 relocated w r h len least rip =
-    let f = read_found w r h in
-    let st = steps w f.0 f.1 in
-    let matched = row_matches st.prefix st.behind all_rows st.row st.rest st.row_is in
-    let is : is_some_rip f.0.parts.place ≡ true = ap (λ (z : Reading). is_some_rip z.place) f.2 ∙ rip in
-    by_steps w r f.0 st f.2 len least (rip_operands (line_of st.row).tail st.row (line_of st.row) st.prefix st.rest f.0 st.operands_are is) matched
+    let f = found_by w (find_line r.line w) r h in
+    let found = f.0 in
+    let st = line_steps r.line w found f.1 in
+    let is : is_some_rip found.parts.place ≡ true = ap (λ (z : LineReading). is_some_rip z.place) f.2 ∙ rip in
+    let o = rip_operands r.line.tail r.line st.prefix st.rest found st.operands_are is in
+    let none : length found.rest ≡ 0 = nothing_left w found r f.2 len least in
+    let tail : r.tail ≡ 5 = sym (ap (λ (z : LineReading). z.tail) f.2) ∙ o.tail_is in
+    slotted w r.line found st (moved found.parts) (λ z. record r { place = Some (Rip z) }) (line_field_place r) 1 (line_imm_behind r) 5 o none
+    (λ n low size. omega (arith, low, size, len, tail)) (λ z. ap (λ (y : LineReading). record y { place = Some (Rip z) }) f.2)
+
+-- the distance of a jump, which stands at its end
+pub relocated_jump : (w : List ℕ) (r : LineReading) → read_line r.line w ≡ Some r → r.length ≡ length w → 1 ≤ r.length → r.line.tail ≡ NoTail → r.line.imm ≡ Simm 4 → Slot w r.line (r.length - 4) 0 (λ z. record r { imm = Some z })
+unfolding read_line
+relocated_jump w r h len least tail imm =
+    let f = found_by w (find_line r.line w) r h in
+    let found = f.0 in
+    let st = line_steps r.line w found f.1 in
+    let o = far_operands r.line st.prefix st.rest found tail imm st.operands_are in
+    let none : length found.rest ≡ 0 = nothing_left w found r f.2 len least in
+    slotted w r.line found st (distant found.parts) (λ z. record r { imm = Some z }) (r.length - 4) 0 0 0 o none
+    (λ n low size. omega (arith, size, len)) (λ z. ap (λ (y : LineReading). record y { imm = Some z }) f.2)

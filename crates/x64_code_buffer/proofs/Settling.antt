@@ -1,15 +1,16 @@
 use Rattle.std.proofs.Common.{◌≡◌, inl, ℕ, suc, ◌+◌, ◌-◌, ◌<◌, ◌≤◌, arith, refl, ◌∙◌, ap, sym, subst, List, [], ◌∷◌, ◌++◌, true, Option, Some, None, length, take, drop, get_or, All, append-nil}
-use Rattle.std.proofs.lemmas.List.{get_or-take, get_or-drop, length-append, length-drop, length-take-le}
+use Rattle.std.proofs.lemmas.List.{get_or-take, get_or-drop, length-drop, length-take-le}
 use Rattle.std.proofs.lemmas.List.Elements.{All-cons}
-use Rattle.cax64_machine_code.specs.Reading.{read}
+use Rattle.cax64_machine_code.specs.ReadLine.{LineReading, read_line}
 use Rattle.cax64_machine_code.specs.declared.reading.Place.{Place}
 use Rattle.cax64_machine_code.specs.declared.reading.Place.TheVariants.{Reg, Mem, Rip}
-use Rattle.cax64_machine_code.specs.declared.reading.Reading.{Reading}
 use Rattle.cax64_sink.specs.declared.DeferredTarget.{DeferredTarget}
 use Rattle.cax64_sink.specs.declared.DeferredTarget.TheVariants as target
-use Rattle.x64_code_buffer.specs.Filled.{imm_behind, field_place, ReadsEach, field_at, fields_from, places_told}
+use Rattle.x64_code_buffer.specs.Filled.{places_told}
+use Rattle.x64_code_buffer.specs.Laid.{Piece, whole, open_jump, reading_in, readings_in, line_imm_behind, line_field_place, LinesRead, Open, EachOpen, line_field_at, piece_field, piece_fields}
 use Rattle.x64_code_buffer.specs.Use.{Use, links, IsOutside, AreApart, EachApart}
-use Rattle.x64_code_buffer.proofs.Relocated.{is_some_rip, Relocated, relocated}
+use Rattle.x64_code_buffer.proofs.Laying.{is_some_rip}
+use Rattle.x64_code_buffer.proofs.Relocated.{slot_size, relocated, relocated_jump}
 
 pub some_same : {A : Type 0} (a b : A) → ◌≡◌ {A = Option A} (Some a) (Some b) → a ≡ b
 some_same a b e = cc
@@ -44,7 +45,34 @@ same_piece n at len x y hx hy within same =
     same_list (piece n at len x) (piece n at len y) (lx ∙ sym (piece_length n at len y hy within))
     (λ i below. let l : i < len = omega arith in piece_at n at len x i within l ∙ same i l ∙ sym (piece_at n at len y i within l))
 
--- Fields of later readings stand behind.
+-- The field of a piece is within its bytes.
+
+pub one_piece : (a : List ℕ) (r : LineReading) → ((rest : List ℕ) → read_line r.line (take r.length a ++ rest) ≡ Some r) → r.length ≤ length a → (read_line r.line (take r.length a) ≡ Some r) × (r.length ≡ length (take r.length a))
+one_piece a r h within = (ap (read_line r.line) (sym (append-nil (take r.length a))) ∙ h [], sym (length-take-le r.length a within))
+
+-- there is none, or one between a place and another
+abbrev pub FieldWithin : ℕ → ℕ → List ℕ → Type 0
+FieldWithin at end [] = Unit {0}
+FieldWithin at end (x ∷ xs) = (at ≤ x) × (x + 4 ≤ end) × (xs ≡ [])
+
+place_within : (at : ℕ) (r : LineReading) (o : Option Place) → (is_some_rip o ≡ true → line_field_place r + 4 ≤ r.length) → FieldWithin at (at + r.length) (line_field_at at r o)
+place_within at r None fits = tt
+place_within at r (Some (Reg view)) fits = tt
+place_within at r (Some (Mem base index disp)) fits = tt
+place_within at r (Some (Rip disp)) fits = let f : line_field_place r + 4 ≤ r.length = fits refl in (omega arith, omega arith, refl)
+
+pub field_within : (p : Piece) (at : ℕ) (a : List ℕ) → ((rest : List ℕ) → read_line (reading_in p).line (take (reading_in p).length a ++ rest) ≡ Some (reading_in p)) → 1 ≤ (reading_in p).length → (reading_in p).length ≤ length a → Open p → FieldWithin at (at + (reading_in p).length) (piece_field at p)
+field_within (whole r) at a reads least within opened =
+    let one = one_piece a r reads within in
+    let w = take r.length a in
+    place_within at r r.place (λ rip. let size = slot_size w r.line (line_field_place r) (line_imm_behind r) _ (relocated w r one.0 one.1 least rip) in omega (arith, one.1))
+field_within (open_jump r) at a reads least within opened =
+    let one = one_piece a r reads within in
+    let w = take r.length a in
+    let size = slot_size w r.line (r.length - 4) 0 _ (relocated_jump w r one.0 one.1 least opened.0 opened.1) in
+    (omega (arith, one.1), omega (arith, one.1), refl)
+
+-- Fields of later pieces stand behind.
 
 abbrev pub Above : ℕ → List ℕ → Type 0
 Above at [] = Unit {0}
@@ -54,15 +82,16 @@ above_less : (a b : ℕ) (xs : List ℕ) → a ≤ b → Above b xs → Above a 
 above_less a b [] h k = tt
 above_less a b (x ∷ xs) h k = (omega arith, above_less a b xs h k.1)
 
-pub fields_above : (at : ℕ) (rs : List Reading) → Above at (fields_from at rs)
-fields_above at [] = tt
-fields_above at (r ∷ rs) = by_place r.place (above_less at (at + r.length) (fields_from (at + r.length) rs) (omega arith) (fields_above (at + r.length) rs))
-  where
-    by_place : (o : Option Place) → Above at (fields_from (at + r.length) rs) → Above at (field_at at r o ++ fields_from (at + r.length) rs)
-    by_place None h = h
-    by_place (Some (Reg view)) h = h
-    by_place (Some (Mem base index disp)) h = h
-    by_place (Some (Rip disp)) h = (omega arith, h)
+above_both : (at end : ℕ) (xs ys : List ℕ) → FieldWithin at end xs → Above at ys → Above at (xs ++ ys)
+above_both at end [] ys w h = h
+above_both at end (x ∷ xs) ys w h = (w.0, subst (λ (z : List ℕ). Above at (z ++ ys)) (sym w.2) h)
+
+pub fields_above : (at : ℕ) (ps : List Piece) (a : List ℕ) → LinesRead (readings_in ps) a → EachOpen ps → Above at (piece_fields at ps)
+fields_above at [] a h opened = tt
+fields_above at (p ∷ ps) a h opened =
+    let n = (reading_in p).length in
+    above_both at (at + n) (piece_field at p) (piece_fields (at + n) ps) (field_within p at a h.0 h.1 h.2 opened.0)
+    (above_less at (at + n) (piece_fields (at + n) ps) (omega arith) (fields_above (at + n) ps (drop n a) h.3 opened.1))
 
 pub outside_below : (low i : ℕ) (us : List Use) → i < low → Above low (places_told us) → All (IsOutside i) (links us)
 outside_below low i [] below h = λ k d within. absurd (omega arith)
@@ -76,37 +105,25 @@ apart_below low u ((at, target.Label l) ∷ us) below h = All-cons (AreApart u) 
 apart_below low u ((at, target.Constant c) ∷ us) below h = All-cons (AreApart u) (at, target.Constant c) (links us) (inl (omega (arith, h.0))) (apart_below low u us below h.1)
 apart_below low u ((at, target.None) ∷ us) below h = apart_below low u us below h.1
 
--- The field of a relative reading is within its bytes.
+linked_apart : (end p : ℕ) (t : DeferredTarget) (us : List Use) → p + 4 ≤ end → Above end (places_told us) → EachApart (links us) → EachApart (links ((p, t) ∷ us))
+linked_apart end p (target.Label l) us fits above later = (apart_below end (p, target.Label l) us fits above, later)
+linked_apart end p (target.Constant c) us fits above later = (apart_below end (p, target.Constant c) us fits above, later)
+linked_apart end p target.None us fits above later = later
 
-pub one_piece : (a : List ℕ) (r : Reading) → ((rest : List ℕ) → read (take r.length a ++ rest) ≡ Some r) → r.length ≤ length a → (read (take r.length a) ≡ Some r) × (r.length ≡ length (take r.length a))
-one_piece a r h within = (ap read (sym (append-nil (take r.length a))) ∙ h [], sym (length-take-le r.length a within))
+apart_both : (at end : ℕ) (xs ys : List ℕ) (us : List Use) → FieldWithin at end xs → Above end ys → ((us' : List Use) → places_told us' ≡ ys → EachApart (links us')) → places_told us ≡ xs ++ ys → EachApart (links us)
+apart_both at end [] ys us w above later e = later us e
+apart_both at end (x ∷ xs) ys [] w above later e = cc
+apart_both at end (x ∷ xs) ys (u ∷ us) w above later e =
+    let p : u.0 ≡ x = cc in
+    let left : places_told us ≡ xs ++ ys = cc in
+    let rest : places_told us ≡ ys = left ∙ ap (λ (z : List ℕ). z ++ ys) w.2 in
+    linked_apart end u.0 u.1 us (omega (arith, w.1)) (subst (Above end) (sym rest) above) (later us rest)
 
-pub field_within : (w : List ℕ) (r : Reading) → Relocated w r → r.length ≡ length w → field_place r + 4 + imm_behind r ≡ r.length
-field_within w r h len =
-    let all : length w ≡ length h.front + (4 + length h.behind) = ap length h.bytes_are ∙ length-append h.front (h.one ∷ h.two ∷ h.three ∷ h.last ∷ h.behind) ∙ omega arith in
-    omega (arith, h.field_is, h.behind_is)
-
-pub each_apart : (rs : List Reading) (at : ℕ) (us : List Use) (a : List ℕ) → ReadsEach rs a → places_told us ≡ fields_from at rs → EachApart (links us)
-each_apart [] at [] a h told = tt
-each_apart [] at (u ∷ us) a h told = cc
-each_apart (r ∷ rs) at us a h told =
-    let one = one_piece a r h.0 h.2 in
-    by_place r.place us
-    (λ rip. let f = field_within (take r.length a) r (relocated (take r.length a) r one.0 one.1 h.1 rip) one.1 in omega arith)
-    (λ us' e. each_apart rs (at + r.length) us' (drop r.length a) h.3 e) told
-  where
-    by_target : (p : ℕ) (t : DeferredTarget) (us : List Use) → p + 4 ≤ at + r.length → places_told us ≡ fields_from (at + r.length) rs → EachApart (links us) → EachApart (links ((p, t) ∷ us))
-    by_target p (target.Label l) us fits e later = (apart_below (at + r.length) (p, target.Label l) us fits (subst (Above (at + r.length)) (sym e) (fields_above (at + r.length) rs)), later)
-    by_target p (target.Constant c) us fits e later = (apart_below (at + r.length) (p, target.Constant c) us fits (subst (Above (at + r.length)) (sym e) (fields_above (at + r.length) rs)), later)
-    by_target p target.None us fits e later = later
-
-    by_place : (o : Option Place) (us : List Use) → (is_some_rip o ≡ true → field_place r + 4 ≤ r.length) → ((us' : List Use) → places_told us' ≡ fields_from (at + r.length) rs → EachApart (links us')) → places_told us ≡ field_at at r o ++ fields_from (at + r.length) rs → EachApart (links us)
-    by_place None us fits later e = later us e
-    by_place (Some (Reg view)) us fits later e = later us e
-    by_place (Some (Mem base index disp)) us fits later e = later us e
-    by_place (Some (Rip disp)) [] fits later e = cc
-    by_place (Some (Rip disp)) (u ∷ us) fits later e =
-        let p : u.0 ≡ at + field_place r = cc in
-        let rest : places_told us ≡ fields_from (at + r.length) rs = cc in
-        let f : field_place r + 4 ≤ r.length = fits refl in
-        by_target u.0 u.1 us (omega arith) rest (later us rest)
+pub each_apart : (ps : List Piece) (at : ℕ) (us : List Use) (a : List ℕ) → LinesRead (readings_in ps) a → EachOpen ps → places_told us ≡ piece_fields at ps → EachApart (links us)
+each_apart [] at [] a h opened told = tt
+each_apart [] at (u ∷ us) a h opened told = cc
+each_apart (p ∷ ps) at us a h opened told =
+    let n = (reading_in p).length in
+    apart_both at (at + n) (piece_field at p) (piece_fields (at + n) ps) us (field_within p at a h.0 h.1 h.2 opened.0)
+    (fields_above (at + n) ps (drop n a) h.3 opened.1)
+    (λ us' e. each_apart ps (at + n) us' (drop n a) h.3 opened.1 e) told

@@ -8,6 +8,7 @@ use Rattle.cax64_sink.specs.Sink.{State}
 use Rattle.cax64_sink.specs.declared.DeferredTarget.{DeferredTarget}
 use Rattle.x64_code_buffer.specs.Binding.{SamePlaces, place_bound, spare_labels}
 use Rattle.x64_code_buffer.specs.Filled.{Filled}
+use Rattle.x64_code_buffer.specs.Laid.{Piece, Laid}
 use Rattle.x64_code_buffer.specs.declared.buffer.CodeBuffer.{CodeBuffer}
 
 -- it as a sink
@@ -40,9 +41,10 @@ keeps_labels_on a b c h k = record {
   places = λ target. k.places target ∙ h.places target;
 }
 
--- with whatever the old one was filled, the new one is
-abbrev pub StaysFilled : {A : Type 0} → CodeBuffer A → CodeBuffer A → Type 0
-StaysFilled old new = (readings : List Reading) (n : ℕ) → Filled readings n (buffer_state old) (places_of old) → Filled readings n (buffer_state new) (places_of new)
+-- With whatever the old one was filled, the new one is; and in whatever pieces it was laid out.
+pub record StaysFilled {A : Type 0} (old new : CodeBuffer A) : Type 0 where
+  pub filled : (readings : List Reading) (n : ℕ) → Filled readings n (buffer_state old) (places_of old) → Filled readings n (buffer_state new) (places_of new)
+  pub laid : (pieces : List Piece) (n : ℕ) → Laid pieces n (buffer_state old) (places_of old) → Laid pieces n (buffer_state new) (places_of new)
 
 -- Bytes, notices and offsets are as before, and the rooms no smaller.
 pub record AsBefore (old new : State) : Type 0 where

@@ -1,14 +1,15 @@
 -- A buffer that is laid out in instructions, each of which reads by its line, and of which some jump to labels.
-use Rattle.std.specs.Prelude.{◌≡◌, ◌≤◌, ◌⊎◌, ℕ, ◌+◌, ◌-◌, ℤ, pos, ◌+ℤ◌, ◌-ℤ◌, Option, Some, None, List, [], ◌∷◌, ◌++◌, length, take, drop}
+use Rattle.std.specs.Prelude.{◌≡◌, ◌≤◌, ◌⊎◌, ℕ, zero, suc, ◌+◌, ◌-◌, ℤ, pos, ◌+ℤ◌, ◌-ℤ◌, Option, Some, None, option_map, option_and_then, List, [], ◌∷◌, ◌++◌, length, take, drop}
 use Rattle.cax64_machine_code.specs.Address.{modulo_64_bits}
 use Rattle.cax64_machine_code.specs.Line.{imm_bytes}
-use Rattle.cax64_machine_code.specs.ReadLine.{LineReading, read_line}
+use Rattle.cax64_machine_code.specs.ReadLine.{LineReading, read_line, read_of, with_line}
 use Rattle.cax64_machine_code.specs.Reading.{PartsOf}
 use Rattle.cax64_machine_code.specs.declared.line.ImmField.TheVariants.{Simm}
 use Rattle.cax64_machine_code.specs.declared.line.Line.{Line}
 use Rattle.cax64_machine_code.specs.declared.line.TailField.TheVariants.{NoTail}
 use Rattle.cax64_machine_code.specs.declared.reading.Place.{Place}
 use Rattle.cax64_machine_code.specs.declared.reading.Place.TheVariants.{Reg, Mem, Rip}
+use Rattle.cax64_machine_code.specs.declared.reading.Reading.{Reading}
 use Rattle.cax64_sink.specs.Sink.{State}
 use Rattle.cax64_sink.specs.declared.DeferredTarget.{DeferredTarget}
 use Rattle.cax64_sink.specs.declared.DeferredTarget.TheVariants as target
@@ -28,6 +29,11 @@ reading_in (open_jump r) = r
 abbrev pub readings_in : List Piece → List LineReading
 readings_in [] = []
 readings_in (p ∷ later) = reading_in p ∷ readings_in later
+
+-- readings by rows as pieces, each by the line of its row
+abbrev pub whole_pieces : List Reading → List Piece
+whole_pieces [] = []
+whole_pieces (r ∷ later) = whole (with_line r) ∷ whole_pieces later
 
 -- what a reading by a line says but for its length
 abbrev pub parts_in : LineReading → PartsOf Line
@@ -89,10 +95,10 @@ pub record Laid (pieces : List Piece) (n : ℕ) (s : State) (places : DeferredTa
   pub bound : (target : DeferredTarget) (place : ℕ) → places target ≡ Some place → (PieceBegins 0 pieces place ⊎ (n ≤ place)) × (place ≤ length s.bytes)
 
 -- It is laid out to its end with one piece more, which reads as what is meant.
-pub record LaidOn (as : LineReading → Piece) (meant : PartsOf Line) (pieces : List Piece) (s : State) (places : DeferredTarget → Option ℕ) : Type 0 where
+pub record LaidOn (kind : LineReading → Piece) (meant : PartsOf Line) (pieces : List Piece) (s : State) (places : DeferredTarget → Option ℕ) : Type 0 where
   pub reading : LineReading
   pub same : ◌≡◌ {A = PartsOf Line} (parts_in reading) meant
-  pub laid : Laid (pieces ++ as reading ∷ []) (length s.bytes) s places
+  pub laid : Laid (pieces ++ kind reading ∷ []) (length s.bytes) s places
 
 -- a reading that differs in its place alone, whose address is the place that the target is bound to
 pub record LineLeads (places : DeferredTarget → Option ℕ) (target : DeferredTarget) (end : ℕ) (old new : LineReading) : Type 0 where
@@ -155,3 +161,11 @@ pub record LaidOut (pieces : List Piece) (n : ℕ) (s : State) (places : Deferre
   pub now : List LineReading
   pub reads : LinesRead now (take n code)
   pub settled : EachSettled places 0 pieces (uses_of s.notices) now
+
+-- so many readings, each by the first of some lines that reads what the one before left, and the rest
+unfoldable pub read_all_of : List Line → List ℕ → ℕ → Option (List LineReading × List ℕ)
+read_all_of lines bytes zero = Some ([], bytes)
+read_all_of lines bytes (suc count) =
+    option_and_then
+    (λ first. option_map (λ later. (first ∷ later.0, later.1)) (read_all_of lines (drop first.length bytes) count))
+    (read_of lines bytes)

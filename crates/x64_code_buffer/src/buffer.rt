@@ -4,6 +4,8 @@ ghost use Rattle.std.specs.Prelude.{◌≡◌, ◌↔◌, refl, ◌+◌, ◌⊎�
 ghost use Rattle.std.specs.Int.{to_le_bytes, w16, w32, w64};
 ghost use Rattle.cax64_encoder.specs.EncodeError.{fault_found, IfRefused, NotRefused, OnFault};
 ghost use Rattle.cax64_encoder.specs.Instruction.{can_encode_in, fault_in, len_in, notices_in, Adds};
+ghost use Rattle.cax64_machine_code.specs.ReadLine.{parts_as};
+ghost use Rattle.cax64_machine_code.specs.Rows.{line_of};
 ghost use Rattle.cax64_machine_code.specs.declared.reading.Reading.{Reading};
 ghost use Rattle.cax64_sink.specs.Call.{Step, put, trap, target};
 ghost use Rattle.cax64_sink.specs.Keeps.{Keeps};
@@ -39,6 +41,7 @@ pub struct CodeBuffer<A: Allocator> {
 impl<A: Allocator + Copy> CodeBuffer<A> {
     ghost use Rattle.x64_code_buffer.specs.Buffer.{buffer_state, label_count, label_room, places_of};
     ghost use Rattle.x64_code_buffer.specs.Filled.{Filled};
+    ghost use Rattle.x64_code_buffer.specs.Laid.{Laid};
 
     /// An empty buffer that knows no offset, gave no label and bound nothing. Takes no memory.
     #[inline(always)]
@@ -52,6 +55,7 @@ impl<A: Allocator + Copy> CodeBuffer<A> {
         ensures label_room { label_room result ≡ 0 }
         ensures places { (target : DeferredTarget) → places_of result target ≡ None }
         ensures filled { Filled [] 0 (buffer_state result) (places_of result) }
+        ensures laid { Laid [] 0 (buffer_state result) (places_of result) }
     {
         CodeBuffer {
             recorder: Recorder::new(alloc),
@@ -66,6 +70,7 @@ impl<A: Allocator> CodeBuffer<A> {
     ghost use Rattle.cax64_sink.specs.Cleared.{cleared};
     ghost use Rattle.x64_code_buffer.specs.Buffer.{AsBefore, StaysFilled, buffer_state, label_count, label_room, places_of};
     ghost use Rattle.x64_code_buffer.specs.Filled.{Filled, FilledOn, Finished};
+    ghost use Rattle.x64_code_buffer.specs.Laid.{Laid, LaidOn, LaidOut, Piece, whole};
     ghost use Rattle.x64_code_buffer.specs.Use.{uses_of, links, first_refusal, EachApart, IsOutside, IsPatched};
 
     /// Makes `offset` known, or replaces its value. Takes no memory.
@@ -186,6 +191,7 @@ impl<A: Allocator> CodeBuffer<A> {
         ensures label_room { label_room self.new ≡ label_room self.old }
         ensures places { SamePlaces (places_of self.old) (places_of self.new) }
         ensures filled { let meant = (I.meant inst.now (buffer_state self.old).offsets).parts in (readings : List Reading) → Filled readings (length (buffer_state self.old).bytes) (buffer_state self.old) (places_of self.old) → OnOk result (FilledOn meant readings (buffer_state self.new) (places_of self.new)) }
+        ensures laid { let meant = (I.meant inst.now (buffer_state self.old).offsets).parts in (pieces : List Piece) → Laid pieces (length (buffer_state self.old).bytes) (buffer_state self.old) (places_of self.old) → OnOk result (LaidOn whole (parts_as (line_of meant.row) meant) pieces (buffer_state self.new) (places_of self.new)) }
         ensures refused { OnErr result (StaysFilled self.old self.new) }
     {
         make_room(&mut self.recorder, &mut self.is_fresh)?;
@@ -211,6 +217,7 @@ impl<A: Allocator> CodeBuffer<A> {
         ensures label_room { label_room self.new ≡ label_room self.old }
         ensures places { SamePlaces (places_of self.old) (places_of self.new) }
         ensures filled { let meant = (I.meant inst.now (buffer_state self.old).offsets).parts in (readings : List Reading) → Filled readings (length (buffer_state self.old).bytes) (buffer_state self.old) (places_of self.old) → OnOk result (FilledOn meant readings (buffer_state self.new) (places_of self.new)) }
+        ensures laid { let meant = (I.meant inst.now (buffer_state self.old).offsets).parts in (pieces : List Piece) → Laid pieces (length (buffer_state self.old).bytes) (buffer_state self.old) (places_of self.old) → OnOk result (LaidOn whole (parts_as (line_of meant.row) meant) pieces (buffer_state self.new) (places_of self.new)) }
         ensures refused { OnErr result (StaysFilled self.old self.new) }
     {
         if let Some(fault) = inst.first_fault(&self.recorder) {
@@ -235,6 +242,7 @@ impl<A: Allocator> CodeBuffer<A> {
         ensures fields { EachApart (links (uses_of (buffer_state self).notices)) → IfOk result (λ code. All (IsPatched (places_of self) (buffer_state self).bytes code.items) (links (uses_of (buffer_state self).notices))) }
         ensures others { (i : ℕ) → All (IsOutside i) (links (uses_of (buffer_state self).notices)) → IfOk result (λ code. slice_index code.items i ≡ slice_index (buffer_state self).bytes i) }
         ensures finished { (readings : List Reading) (n : ℕ) → Filled readings n (buffer_state self) (places_of self) → IfOk result (λ code. Finished readings n (buffer_state self) (places_of self) code.items) }
+        ensures laid { (pieces : List Piece) (n : ℕ) → Laid pieces n (buffer_state self) (places_of self) → IfOk result (λ code. LaidOut pieces n (buffer_state self) (places_of self) code.items) }
     {
         // In parts, of which the one with the offsets isn't moved where it isn't handed back.
         let CodeBuffer {
@@ -265,6 +273,7 @@ impl<A: Allocator> CodeBuffer<A> {
         ensures fields { EachApart (links (uses_of (buffer_state self.old).notices)) → OnOk result (All (IsPatched (places_of self.old) (buffer_state self.old).bytes (buffer_state self.new).bytes) (links (uses_of (buffer_state self.old).notices))) }
         ensures others { (i : ℕ) → All (IsOutside i) (links (uses_of (buffer_state self.old).notices)) → OnOk result (slice_index (buffer_state self.new).bytes i ≡ slice_index (buffer_state self.old).bytes i) }
         ensures finished { (readings : List Reading) (n : ℕ) → Filled readings n (buffer_state self.old) (places_of self.old) → OnOk result (Finished readings n (buffer_state self.old) (places_of self.old) (buffer_state self.new).bytes) }
+        ensures laid { (pieces : List Piece) (n : ℕ) → Laid pieces n (buffer_state self.old) (places_of self.old) → OnOk result (LaidOut pieces n (buffer_state self.old) (places_of self.old) (buffer_state self.new).bytes) }
         ensures notices { OnOk result ((buffer_state self.new).notices ≡ []) }
         ensures byte_room { (buffer_state self.new).byte_room ≡ (buffer_state self.old).byte_room }
         ensures notice_room { FallsBy (buffer_state self.old).notice_room (buffer_state self.new).notice_room 0 }
@@ -286,6 +295,7 @@ impl<A: Allocator> CodeBuffer<A> {
         ensures label_room { label_room self.new ≡ label_room self.old + label_count self.old }
         ensures places { (target : DeferredTarget) → places_of self.new target ≡ None }
         ensures filled { Filled [] 0 (buffer_state self.new) (places_of self.new) }
+        ensures laid { Laid [] 0 (buffer_state self.new) (places_of self.new) }
     {
         self.recorder.clear();
         self.bindings.clear();

@@ -1,11 +1,15 @@
 //! Laws of the items here. The functions do nothing: their clauses are the laws.
 
-ghost use Rattle.std.specs.Prelude.{◌≡◌, ◌↔◌, ℕ, true, Option, Some, List, [], take, length};
+ghost use Rattle.std.specs.Prelude.{◌≡◌, ◌↔◌, ℕ, pos, ◌-ℤ◌, true, Option, Some, All, Contains, List, [], take, length};
+ghost use Rattle.cax64_machine_code.specs.Address.{modulo_64_bits};
+ghost use Rattle.cax64_machine_code.specs.Apart.{each_two};
 ghost use Rattle.cax64_machine_code.specs.Sequence.{read_all};
+ghost use Rattle.cax64_machine_code.specs.declared.line.Line.{Line};
 ghost use Rattle.cax64_machine_code.specs.declared.reading.Reading.{Reading};
 ghost use Rattle.cax64_sink.specs.Sink.{State};
 ghost use Rattle.cax64_sink.specs.declared.DeferredTarget.{DeferredTarget};
 ghost use Rattle.x64_code_buffer.specs.Filled.{Filled, Finished};
+ghost use Rattle.x64_code_buffer.specs.Laid.{Laid, LaidOut, Piece, led_to, read_all_of, reading_in, readings_in, whole_pieces};
 ghost use Rattle.x64_code_buffer.specs.declared.errors.BindError.{BindError};
 ghost use Rattle.x64_code_buffer.specs.declared.errors.FinishError.{FinishError};
 
@@ -18,6 +22,32 @@ pub fn what_is_filled_reads()
         → Filled readings n s places → read_all (take n s.bytes) (length readings) ≡ Some (readings, []) }
     ensures finished { (readings : List Reading) (n : ℕ) (s : State) (places : DeferredTarget → Option ℕ) (code : List ℕ)
         → (f : Finished readings n s places code) → read_all (take n code) (length f.now) ≡ Some (f.now, []) }
+{}
+
+/// A buffer is filled with readings exactly where it is laid out in them as whole pieces, each by the line of its row; and
+/// what is laid out in these is finished.
+pub fn what_is_filled_is_laid_out()
+    ensures filled { (readings : List Reading) (n : ℕ) (s : State) (places : DeferredTarget → Option ℕ)
+        → Filled readings n s places ↔ Laid (whole_pieces readings) n s places }
+    ensures finished { (readings : List Reading) (n : ℕ) (s : State) (places : DeferredTarget → Option ℕ) (code : List ℕ)
+        → LaidOut (whole_pieces readings) n s places code → Finished readings n s places code }
+{}
+
+/// The first n bytes of a buffer that is laid out up to n read as its pieces, one behind the other, and nothing is left; and
+/// so they do once it is finished. They are read by any lines of which each two are apart, if those of the pieces are
+/// among them.
+pub fn what_is_laid_out_reads()
+    ensures laid { (lines : List Line) (pieces : List Piece) (n : ℕ) (s : State) (places : DeferredTarget → Option ℕ)
+        → each_two lines ≡ true → All (λ p. Contains lines (reading_in p).line) pieces
+        → Laid pieces n s places → read_all_of lines (take n s.bytes) (length pieces) ≡ Some (readings_in pieces, []) }
+    ensures laid_out { (lines : List Line) (pieces : List Piece) (n : ℕ) (s : State) (places : DeferredTarget → Option ℕ) (code : List ℕ)
+        → each_two lines ≡ true → All (λ p. Contains lines (reading_in p).line) pieces
+        → (l : LaidOut pieces n s places code) → read_all_of lines (take n code) (length pieces) ≡ Some (l.now, []) }
+{}
+
+/// The distance from the end of a jump to a place leads there.
+pub fn a_jump_leads()
+    ensures { (place end : ℕ) → led_to (Some (pos place -ℤ pos end)) end ≡ Some (modulo_64_bits (pos place)) }
 {}
 
 /// Errors compare equal where they are equal, and nowhere else.
