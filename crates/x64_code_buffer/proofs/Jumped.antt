@@ -1,15 +1,15 @@
 use Rattle.std.proofs.Common.{◌≡◌, ℕ, ◌+◌, ◌-◌, ◌≤◌, arith, refl, ◌∙◌, ap, sym, List, [], ◌∷◌, ◌++◌, append-nil, length-append, Bool, true, Option, Some, None, Result, Ok, Err, ℤ, pos, length, take}
-use Rattle.std.specs.Prelude.{if◌then◌else◌, IfErr, IfSome, IsOk, OnErr, OnOk}
-use Rattle.cax64_address.specs.declared.amode.Amode.{Amode}
+use Rattle.std.specs.Prelude.{if◌then◌else◌, IfErr, IfSome, IsOk, IsSome, OnErr, OnOk}
 use Rattle.cax64_encoder.specs.Code.{code_actions}
 use Rattle.cax64_encoder.specs.declared.code.Code.{Code}
-use Rattle.cax64_machine_code.proofs.ReadLine.{row_reads_as}
 use Rattle.cax64_machine_code.specs.Fields.{IsBytes}
-use Rattle.cax64_machine_code.specs.Len.{line_len, len_of}
+use Rattle.cax64_machine_code.specs.Len.{len_of, line_len, opcode_len, prefix_len}
+use Rattle.cax64_machine_code.specs.Line.{imm_bytes}
 use Rattle.cax64_machine_code.specs.ReadLine.{ReadsLineAs}
 use Rattle.cax64_machine_code.specs.Rows.{line_of}
-use Rattle.cax64_machine_code.specs.Sequence.{ReadsAs}
 use Rattle.cax64_machine_code.specs.declared.line.Line.{Line}
+use Rattle.cax64_machine_code.specs.declared.line.PrefixField.{PrefixField}
+use Rattle.cax64_machine_code.specs.declared.line.PrefixField.TheVariants.{LegacyField, VexField}
 use Rattle.cax64_machine_code.specs.declared.reading.Reading.{Reading}
 use Rattle.cax64_machine_code.specs.declared.row.Row.{Row}
 use Rattle.cax64_sink.proofs.Ends.{ran_keeps}
@@ -23,9 +23,13 @@ use Rattle.cax64_sink.specs.declared.DeferredTarget.{DeferredTarget}
 use Rattle.cax64_sink.specs.declared.Notice.{Notice}
 use Rattle.cax64_sink.specs.declared.Notice.TheVariants.{Target}
 use Rattle.cax64_sink.specs.declared.SinkError.{SinkError}
-use Rattle.x64_code_buffer.proofs.Filling.{falls_after_none, filled_on}
+use Rattle.x64_code_buffer.proofs.Filling.{falls_after_none}
+use Rattle.x64_code_buffer.proofs.Jumping.{jump_line, long_is}
+use Rattle.x64_code_buffer.proofs.Laying.{laid_jump, laid_plain}
+use Rattle.x64_code_buffer.proofs.Pieces.{filled_is_laid, laid_on_is_filled_on}
 use Rattle.x64_code_buffer.specs.Buffer.{AsBefore}
 use Rattle.x64_code_buffer.specs.Filled.{Filled, FilledOn}
+use Rattle.x64_code_buffer.specs.Laid.{Laid, LaidOn, Piece, open_jump, whole, whole_pieces}
 use Rattle.x64_code_buffer.specs.Jump.{AddsAt, AddsJump, WritesJump, jump_parts, long_row, told_at}
 use Rattle.x64_code_buffer.specs.declared.jump.Jump.{Jump}
 
@@ -91,13 +95,21 @@ pub on_ok : {E P : Type 0} (r : Result (Unit {0}) E) → P → OnOk r P
 on_ok (Ok tt) h = h
 on_ok (Err e) h = tt
 
-pub no_err : {E P : Type 0} (r : Result (Unit {0}) E) → r ≡ Ok tt → OnErr r P
-no_err (Ok tt) h = tt
-no_err (Err e) h = cc
+pub no_err : {E : Type 0} (P : Type 0) (r : Result (Unit {0}) E) → r ≡ Ok tt → OnErr r P
+no_err P (Ok v) h = tt
+no_err P (Err e) h = cc
 
-pub no_error : {E : Type 0} {P : E → Type 0} (r : Result (Unit {0}) E) → r ≡ Ok tt → IfErr r P
-no_error (Ok tt) h = tt
-no_error (Err e) h = cc
+pub no_error : {E : Type 0} (P : E → Type 0) (r : Result (Unit {0}) E) → r ≡ Ok tt → IfErr r P
+no_error P (Ok v) h = tt
+no_error P (Err e) h = cc
+
+prefix_same : (prefix : PrefixField) (line : Line) (row : Row) (z : ℤ) → prefix_len prefix line (jump_parts line z) ≡ prefix_len prefix line (jump_parts row z)
+prefix_same (LegacyField set rexed) line row z = refl
+prefix_same (VexField pp map l field) line row z = refl
+
+-- as many bytes by a row as by its line
+pub len_same : (row : Row) (z : ℤ) → line_len (line_of row) (jump_parts (line_of row) z) ≡ len_of (jump_parts row z)
+len_same row z = ap (λ (n : ℕ). n + (opcode_len (line_of row).opcode + (0 + imm_bytes (line_of row).imm))) (prefix_same (line_of row).prefix (line_of row) row z)
 
 pub adds_at : (row : Row) (z : ℤ) (s t : State) (r : Result (Unit {0}) SinkError) → JumpPut (line_of row) z None s t r → AddsAt row z s t
 adds_at row z s t r h = record {
@@ -105,7 +117,7 @@ adds_at row z s t r h = record {
   bytes = h.bytes;
   are_bytes = h.are_bytes;
   reads = h.reads;
-  length = h.length;
+  length = h.length ∙ len_same row z;
   notices = h.notices ∙ append-nil s.notices;
 }
 
@@ -115,13 +127,42 @@ adds_jump jump target s t r h = record {
   bytes = h.bytes;
   are_bytes = h.are_bytes;
   reads = h.reads;
-  length = h.length;
+  length = h.length ∙ len_same (long_row jump) (pos 0);
   notices = h.notices;
 }
 
--- A buffer that was filled is filled with a whole jump more.
+-- A buffer that was laid out is laid out with a jump more.
+
+pub laid_at : (row : Row) (z : ℤ) (pieces : List Piece) (s t : State) (places : DeferredTarget → Option ℕ) → AddsAt row z s t → Laid pieces (length s.bytes) s places → LaidOn whole (jump_parts (line_of row) z) pieces t places
+laid_at row z pieces s t places adds h =
+    laid_plain (jump_parts (line_of row) z) pieces s t places places adds.added [] adds.reads adds.bytes (adds.notices ∙ sym (append-nil s.notices)) refl refl (λ target. refl) h
+
 pub filled_at : (row : Row) (z : ℤ) (readings : List Reading) (s t : State) (places : DeferredTarget → Option ℕ) → AddsAt row z s t → Filled readings (length s.bytes) s places → FilledOn (jump_parts row z) readings t places
 filled_at row z readings s t places adds h =
-    let reads : ReadsAs (jump_parts row z) adds.added = row_reads_as row (jump_parts (line_of row) z) adds.added refl adds.reads in
-    let none : Option (Amode ℕ) = None in
-    filled_on readings s t places places adds.added (jump_parts row z) none reads adds.bytes (adds.notices ∙ sym (append-nil s.notices)) refl (λ target. refl) h
+    laid_on_is_filled_on (jump_parts row z) readings t places (laid_at row z (whole_pieces readings) s t places adds (filled_is_laid readings (length s.bytes) s places h))
+
+pub laid_open : (jump : Jump) (target : DeferredTarget) (pieces : List Piece) (s t : State) (places : DeferredTarget → Option ℕ) → AddsJump jump target s t → Laid pieces (length s.bytes) s places → LaidOn open_jump (jump_parts (line_of (long_row jump)) (pos 0)) pieces t places
+laid_open jump target pieces s t places adds h =
+    let line : line_of (long_row jump) ≡ jump_line (line_of (long_row jump)).opcode 4 = (long_is jump).is in
+    laid_jump (jump_parts (line_of (long_row jump)) (pos 0)) pieces s t places places adds.added target adds.reads (ap (λ (l : Line). l.tail) line) (ap (λ (l : Line). l.imm) line) refl adds.bytes adds.notices (λ target. refl) h
+
+-- The short form, where there is one.
+
+pub record NearPut (o : Option Row) (z : ℤ) (s t : State) (r : Result (Unit {0}) SinkError) : Type 0 where
+  pub row : Row
+  pub is : o ≡ Some row
+  pub put : JumpPut (line_of row) z None s t r
+
+pub near_put : (o : Option Row) (z : ℤ) (code : Code) (s u t : State) (r : Result (Unit {0}) SinkError) → IsSome o → IfSome o (λ row. WritesJump (line_of row) z None code) → AsBefore s u → u.records ≡ true → u.records ≡ s.records → u.answers ≡ s.answers → HasRoom u.byte_room 13 → HasRoom u.notice_room 1 → Ran (code_actions code) u t r → NearPut o z s t r
+near_put None z code s u t r some h before records same_records same_answers bytes told run = cc
+near_put (Some row) z code s u t r some h before records same_records same_answers bytes told run = record {
+  row = row;
+  is = refl;
+  put = jump_put (line_of row) z None code s u t r h before records same_records same_answers bytes told run;
+}
+
+pub at_some : (P : Row → Type 0) (o : Option Row) (row : Row) → o ≡ Some row → P row → IfSome o P
+at_some P o row is h = rw is h
+
+pub of_some : (P : Row → Type 0) (o : Option Row) (row : Row) → o ≡ Some row → IfSome o P → P row
+of_some P o row is h = rw is at h

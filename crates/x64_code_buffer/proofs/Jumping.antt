@@ -96,6 +96,28 @@ short_is (If cond.Ge) = of_byte 0x7D 1 (omega arith) (λ rest. refl)
 short_is (If cond.Le) = of_byte 0x7E 1 (omega arith) (λ rest. refl)
 short_is (If cond.G) = of_byte 0x7F 1 (omega arith) (λ rest. refl)
 
+-- a short form has two bytes
+pub short_len : (jump : Jump) (z : ℤ) → IfSome (short_row jump) (λ row. line_len (line_of row) (jump_parts (line_of row) z) ≡ 2)
+unfolding line_of
+short_len Call z = tt
+short_len Always z = refl
+short_len (If cond.O) z = refl
+short_len (If cond.No) z = refl
+short_len (If cond.B) z = refl
+short_len (If cond.Ae) z = refl
+short_len (If cond.E) z = refl
+short_len (If cond.Ne) z = refl
+short_len (If cond.Be) z = refl
+short_len (If cond.A) z = refl
+short_len (If cond.S) z = refl
+short_len (If cond.Ns) z = refl
+short_len (If cond.P) z = refl
+short_len (If cond.Np) z = refl
+short_len (If cond.L) z = refl
+short_len (If cond.Ge) z = refl
+short_len (If cond.Le) z = refl
+short_len (If cond.G) z = refl
+
 -- Distances.
 
 pub far_imm : (z : ℤ) → FitsSigned w32 z → IsImm (Simm 4) (Some z) (to_le_bytes w32 (cast_unsigned w32 z))

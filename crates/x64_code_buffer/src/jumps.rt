@@ -2,6 +2,7 @@
 
 ghost use Rattle.std.specs.Prelude.{◌≡◌, pos, ℕ, List, None, OnOk, OnErr, IfErr, IfSome, IsOk, IsSome, length};
 ghost use Rattle.cax64_machine_code.specs.Len.{len_of};
+ghost use Rattle.cax64_machine_code.specs.Rows.{line_of};
 ghost use Rattle.cax64_machine_code.specs.declared.reading.Reading.{Reading};
 ghost use Rattle.cax64_sink.specs.Keeps.{Keeps};
 ghost use Rattle.cax64_sink.specs.Room.{HasRoom, FallsBy};
@@ -17,6 +18,7 @@ impl<A: Allocator> CodeBuffer<A> {
     ghost use Rattle.x64_code_buffer.specs.Binding.{SamePlaces};
     ghost use Rattle.x64_code_buffer.specs.Buffer.{AsBefore, StaysFilled, buffer_state, label_count, label_room, places_of};
     ghost use Rattle.x64_code_buffer.specs.Filled.{Filled, FilledOn};
+    ghost use Rattle.x64_code_buffer.specs.Laid.{Laid, LaidOn, Piece, open_jump, whole};
     ghost use Rattle.x64_code_buffer.specs.Jump.{AddsAt, AddsJump, AddsNear, jump_len, jump_notices, jump_parts, long_row, near_distance, short_row};
 
     /// Puts the form of a jump or a call that has four bytes of distance, which are 0 until [`finish`](Self::finish) patches
@@ -35,6 +37,7 @@ impl<A: Allocator> CodeBuffer<A> {
         ensures labels { label_count self.new ≡ label_count self.old }
         ensures label_room { label_room self.new ≡ label_room self.old }
         ensures places { SamePlaces (places_of self.old) (places_of self.new) }
+        ensures laid { (pieces : List Piece) → Laid pieces (length (buffer_state self.old).bytes) (buffer_state self.old) (places_of self.old) → OnOk result (LaidOn open_jump (jump_parts (line_of (long_row jump)) (pos 0)) pieces (buffer_state self.new) (places_of self.new)) }
         ensures refused { OnErr result (StaysFilled self.old self.new) }
     {
         make_room(&mut self.recorder, &mut self.is_fresh)?;
@@ -55,6 +58,7 @@ impl<A: Allocator> CodeBuffer<A> {
         ensures label_room { label_room self.new ≡ label_room self.old }
         ensures places { SamePlaces (places_of self.old) (places_of self.new) }
         ensures filled { (readings : List Reading) → Filled readings (length (buffer_state self.old).bytes) (buffer_state self.old) (places_of self.old) → OnOk result (FilledOn (jump_parts (long_row jump) distance) readings (buffer_state self.new) (places_of self.new)) }
+        ensures laid { (pieces : List Piece) → Laid pieces (length (buffer_state self.old).bytes) (buffer_state self.old) (places_of self.old) → OnOk result (LaidOn whole (jump_parts (line_of (long_row jump)) distance) pieces (buffer_state self.new) (places_of self.new)) }
         ensures refused { OnErr result (StaysFilled self.old self.new) }
     {
         make_room(&mut self.recorder, &mut self.is_fresh)?;
@@ -79,6 +83,7 @@ impl<A: Allocator> CodeBuffer<A> {
         ensures label_room { label_room self.new ≡ label_room self.old }
         ensures places { SamePlaces (places_of self.old) (places_of self.new) }
         ensures filled { (readings : List Reading) → Filled readings (length (buffer_state self.old).bytes) (buffer_state self.old) (places_of self.old) → OnOk result (IfSome (short_row jump) (λ row. FilledOn (jump_parts row distance) readings (buffer_state self.new) (places_of self.new))) }
+        ensures laid { (pieces : List Piece) → Laid pieces (length (buffer_state self.old).bytes) (buffer_state self.old) (places_of self.old) → OnOk result (IfSome (short_row jump) (λ row. LaidOn whole (jump_parts (line_of row) distance) pieces (buffer_state self.new) (places_of self.new))) }
         ensures refused { OnErr result (StaysFilled self.old self.new) }
     {
         make_room(&mut self.recorder, &mut self.is_fresh)?;
@@ -101,6 +106,8 @@ impl<A: Allocator> CodeBuffer<A> {
         ensures label_room { label_room self.new ≡ label_room self.old }
         ensures places { SamePlaces (places_of self.old) (places_of self.new) }
         ensures filled { (readings : List Reading) → Filled readings (length (buffer_state self.old).bytes) (buffer_state self.old) (places_of self.old) → IfSome (near_distance jump (places_of self.old target) (length (buffer_state self.old).bytes)) (λ d. OnOk result (IfSome (short_row jump) (λ row. FilledOn (jump_parts row d) readings (buffer_state self.new) (places_of self.new)))) }
+        ensures laid_near { (pieces : List Piece) → Laid pieces (length (buffer_state self.old).bytes) (buffer_state self.old) (places_of self.old) → IfSome (near_distance jump (places_of self.old target) (length (buffer_state self.old).bytes)) (λ d. OnOk result (IfSome (short_row jump) (λ row. LaidOn whole (jump_parts (line_of row) d) pieces (buffer_state self.new) (places_of self.new)))) }
+        ensures laid_far { (pieces : List Piece) → Laid pieces (length (buffer_state self.old).bytes) (buffer_state self.old) (places_of self.old) → near_distance jump (places_of self.old target) (length (buffer_state self.old).bytes) ≡ None → OnOk result (LaidOn open_jump (jump_parts (line_of (long_row jump)) (pos 0)) pieces (buffer_state self.new) (places_of self.new)) }
         ensures refused { OnErr result (StaysFilled self.old self.new) }
     {
         let here = self.bytes().len();

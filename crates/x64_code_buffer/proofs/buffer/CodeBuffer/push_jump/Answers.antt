@@ -1,15 +1,9 @@
-use Rattle.std.proofs.Common.{rules, ◌≡◌, pos, ℕ, List, None, OnOk, OnErr, IfErr, IfSome, IsOk, IsSome, length, ◌+◌, ◌-◌, ◌*◌, ◌<◌, ◌≤◌, ◌/◌, ◌%◌, Bool, true, false, nat_eq, nat_lt, [], ◌∷◌, ◌++◌, slice_index_or, slice_set, bit_and, bit_or, Fits, w8, w32, w64, Bor, MutBor, ℤ, ◌+ℤ◌, ◌-ℤ◌, ◌*ℤ◌, ◌≤ℤ◌, ◌<ℤ◌, FitsSigned, to_z, of_z}
-use Rattle.cax64_machine_code.specs.Len.{len_of}
-use Rattle.cax64_machine_code.specs.declared.reading.Reading.{Reading}
-use Rattle.cax64_sink.specs.Keeps.{Keeps}
-use Rattle.cax64_sink.specs.Room.{HasRoom, FallsBy}
-use Rattle.cax64_sink.specs.declared.SinkError.{SinkError}
-use Rattle.x64_code_buffer.specs.Binding.{SamePlaces}
-use Rattle.x64_code_buffer.specs.Buffer.{AsBefore, StaysFilled, buffer_state, label_count, label_room, places_of}
-use Rattle.x64_code_buffer.specs.Filled.{Filled, FilledOn}
-use Rattle.x64_code_buffer.specs.Jump.{AddsAt, AddsJump, AddsNear, jump_len, jump_notices, jump_parts, long_row, near_distance, short_row}
+use Rattle.std.proofs.Common.{◌≡◌, ◌∙◌, ℤ, Option, None, length, subst, sym}
+use Rattle.cax64_sink.specs.Recorder.{recorder_state}
+use Rattle.cax64_sink.specs.Room.{FallsBy}
+use Rattle.x64_code_buffer.specs.Buffer.{places_of}
+use Rattle.x64_code_buffer.specs.Jump.{jump_len, near_distance}
 use Rattle.x64_code_buffer.proofs.buffer.CodeBuffer.push_jump.Goals as goal
 
--- src/jumps.rt:91:5
 pub returns-in-None-clause-byte_room : goal.returns-in-None-clause-byte_room
 returns-in-None-clause-byte_room g c = ?
