@@ -10,4 +10,5 @@ pub mod Settling
 pub mod Finished
 pub mod Jumping
 pub mod Jumped
+pub mod Putting
 pub mod Padded

@@ -4,30 +4,36 @@ use Rattle.std.proofs.Math.Nat.{mod-add-mod, add-mod_left}
 use Rattle.std.proofs.lemmas.Bool.Decides.{nat_tests}
 use Rattle.std.proofs.lemmas.List.{replicate_more}
 use Rattle.std.proofs.lemmas.Nat.{mod_below}
-use Rattle.cax64_address.specs.declared.amode.Amode.{Amode}
 use Rattle.cax64_encoder.proofs.Nops.{nop_encodes}
 use Rattle.cax64_encoder.specs.Encodes.{EncodesAs}
 use Rattle.cax64_encoder.specs.Meant.{nop_meant}
 use Rattle.cax64_encoder.specs.Nop.{nop_bytes, nop_parts, nop_place}
 use Rattle.cax64_encoder.specs.NopActions.{nop_actions}
-use Rattle.cax64_encoder.specs.Relative.{relative_in}
-use Rattle.cax64_machine_code.specs.Reading.{Parts}
+use Rattle.cax64_machine_code.specs.ReadLine.{parts_as}
+use Rattle.cax64_machine_code.specs.Reading.{PartsOf}
+use Rattle.cax64_machine_code.specs.Rows.{line_of}
 use Rattle.cax64_machine_code.specs.Sequence.{ReadsAs}
+use Rattle.cax64_machine_code.specs.declared.line.Line.{Line}
 use Rattle.cax64_machine_code.specs.declared.reading.Reading.{Reading}
 use Rattle.cax64_operand.specs.NopRow.{nop_row}
 use Rattle.cax64_operand.specs.declared.nop.Nop.{Nop}
 use Rattle.cax64_operand.specs.declared.nop.Nop.TheVariants.{One, Two, Three, Four, Five, Six, Seven, Eight, Nine}
-use Rattle.cax64_sink.proofs.Rooms.{less_room, notes_is_length, ran_byte_room, ran_notice_room, ran_succeeds, size_is_length}
-use Rattle.cax64_sink.proofs.Runs.{ran_bytes, ran_notices, ran_offsets}
+use Rattle.cax64_sink.proofs.Ends.{ran_keeps}
+use Rattle.cax64_sink.proofs.Rooms.{ notes_is_length, ran_byte_room, ran_notice_room, ran_succeeds, size_is_length}
+use Rattle.cax64_sink.proofs.Runs.{ran_bytes, ran_notices}
 use Rattle.cax64_sink.specs.Room.{FallsBy, HasRoom, Room}
 use Rattle.cax64_sink.specs.Run.{Ran, all_bytes, all_notices, byte_total, notice_total}
 use Rattle.cax64_sink.specs.Sink.{State}
 use Rattle.cax64_sink.specs.declared.DeferredTarget.{DeferredTarget}
 use Rattle.cax64_sink.specs.declared.Notice.{Notice}
 use Rattle.cax64_sink.specs.declared.SinkError.{SinkError}
-use Rattle.x64_code_buffer.proofs.Filling.{filled_on, stays_as}
+use Rattle.x64_code_buffer.proofs.Filling.{stays_as}
+use Rattle.x64_code_buffer.proofs.Laying.{is_some_rip, laid_plain}
+use Rattle.x64_code_buffer.proofs.Pieces.{filled_is_laid, laid_is_filled, laid_on_is_filled_on, reads_by_line}
 use Rattle.x64_code_buffer.specs.Filled.{Filled, FilledOn}
-use Rattle.x64_code_buffer.specs.Padding.{EachNop, FilledUp, missing_to, nops_bytes}
+use Rattle.x64_code_buffer.specs.Laid.{Laid, LaidOn, Piece, whole, whole_pieces}
+use Rattle.x64_code_buffer.specs.Padding.{EachNop, FilledUp, LaidUp, missing_to, nops_bytes, padding}
+use Rattle.x64_code_buffer.specs.Put.{PutsBytes}
 
 -- The next multiple.
 
@@ -75,11 +81,7 @@ no_more false x y e = refl
 
 pub record NopPut (nop : Nop) (s t : State) (r : Result (Unit {0}) SinkError) : Type 0 where
   pub ok : IsOk r
-  pub bytes : t.bytes ≡ s.bytes ++ nop_bytes nop
-  pub notices : t.notices ≡ s.notices
-  pub byte_room : FallsBy s.byte_room t.byte_room (length (nop_bytes nop))
-  pub notice_room : FallsBy s.notice_room t.notice_room 0
-  pub offsets : t.offsets ≡ s.offsets
+  pub puts : PutsBytes (nop_bytes nop) s t
 
 pub nop_put : (nop : Nop) (s t : State) (r : Result (Unit {0}) SinkError) → HasRoom s.byte_room (length (nop_bytes nop)) → HasRoom s.notice_room 0 → Ran (nop_actions nop) s t r → NopPut nop s t r
 nop_put nop s t r bytes told run =
@@ -92,11 +94,13 @@ nop_put nop s t r bytes told run =
     let is : r ≡ Ok tt = is_ok_is r ok in
     record {
       ok = ok;
-      bytes = ran_bytes run is ∙ ap (λ (z : List ℕ). s.bytes ++ z) exact;
-      notices = ran_notices run is ∙ no_more s.records s.notices _ (quiet (length s.bytes));
-      byte_room = rw size at (ran_byte_room run);
-      notice_room = rw none at (ran_notice_room run);
-      offsets = ran_offsets run;
+      puts = record {
+        bytes = ran_bytes run is ∙ ap (λ (z : List ℕ). s.bytes ++ z) exact;
+        notices = ran_notices run is ∙ no_more s.records s.notices _ (quiet (length s.bytes));
+        byte_room = subst (λ (n : ℕ). FallsBy s.byte_room t.byte_room n) size (ran_byte_room run);
+        notice_room = subst (λ (n : ℕ). FallsBy s.notice_room t.notice_room n) none (ran_notice_room run);
+        keeps = ran_keeps run;
+      };
     }
 
 -- No-operations, one behind the other.
@@ -112,37 +116,70 @@ pub nines_length : (n : ℕ) → length (nops_bytes (replicate n Nine)) ≡ 9 * 
 nines_length zero = refl
 nines_length (suc n) = omega (arith, nines_length n)
 
--- A buffer that was filled is filled with them.
+pub padding_one : (nines : ℕ) (nop : Nop) → nops_bytes (padding nines (Some nop)) ≡ nops_bytes (replicate nines Nine) ++ nop_bytes nop
+padding_one nines nop = nops_more (replicate nines Nine) nop
 
-nop_relative : (nop : Nop) → relative_in (nop_place nop) ≡ None
-nop_relative One = refl
-nop_relative Two = refl
-nop_relative Three = refl
-nop_relative Four = refl
-nop_relative Five = refl
-nop_relative Six = refl
-nop_relative Seven = refl
-nop_relative Eight = refl
-nop_relative Nine = refl
+pub padding_none : (nines : ℕ) → nops_bytes (padding nines None) ≡ nops_bytes (replicate nines Nine)
+padding_none nines = ap nops_bytes (append-nil (replicate nines Nine))
 
-one_filled : (nop : Nop) (readings : List Reading) (s : State) (places : DeferredTarget → Option ℕ) → Filled readings (length s.bytes) s places → FilledOn (nop_parts (nop_row nop) nop) readings (record s { bytes = s.bytes ++ nop_bytes nop }) places
+-- A buffer that was laid out is laid out with them.
+
+nop_plain : (nop : Nop) → is_some_rip (nop_place nop) ≡ false
+nop_plain One = refl
+nop_plain Two = refl
+nop_plain Three = refl
+nop_plain Four = refl
+nop_plain Five = refl
+nop_plain Six = refl
+nop_plain Seven = refl
+nop_plain Eight = refl
+nop_plain Nine = refl
+
+abbrev with_nop : Nop → State → State
+with_nop nop s = record s { bytes = s.bytes ++ nop_bytes nop }
+
+abbrev nop_line_parts : Nop → PartsOf Line
+nop_line_parts nop = parts_as (line_of (nop_row nop)) (nop_parts (nop_row nop) nop)
+
+one_laid : (nop : Nop) (pieces : List Piece) (s : State) (places : DeferredTarget → Option ℕ) → Laid pieces (length s.bytes) s places → LaidOn whole (nop_line_parts nop) pieces (with_nop nop s) places
+one_laid nop pieces s places h =
+    laid_plain (nop_line_parts nop) pieces s (with_nop nop s) places places (nop_bytes nop) [] (reads_by_line (nop_parts (nop_row nop) nop) (nop_bytes nop) (nop_reads_as nop)) refl (sym (append-nil s.notices)) refl (nop_plain nop) (λ target. refl) h
+
+one_filled : (nop : Nop) (readings : List Reading) (s : State) (places : DeferredTarget → Option ℕ) → Filled readings (length s.bytes) s places → FilledOn (nop_parts (nop_row nop) nop) readings (with_nop nop s) places
 one_filled nop readings s places h =
-    let none : Option (Amode ℕ) = None in
-    filled_on readings s (record s { bytes = s.bytes ++ nop_bytes nop }) places places (nop_bytes nop) (nop_parts (nop_row nop) nop) none (nop_reads_as nop) refl (sym (append-nil s.notices)) (nop_relative nop) (λ target. refl) h
+    laid_on_is_filled_on (nop_parts (nop_row nop) nop) readings (with_nop nop s) places (one_laid nop (whole_pieces readings) s places (filled_is_laid readings (length s.bytes) s places h))
+
+pub laid_up : (nops : List Nop) (pieces : List Piece) (s t : State) (places : DeferredTarget → Option ℕ) → t.bytes ≡ s.bytes ++ nops_bytes nops → t.notices ≡ s.notices → Laid pieces (length s.bytes) s places → LaidUp pieces t places
+laid_up [] pieces s t places bytes notices h =
+    let same : t.bytes ≡ s.bytes = bytes ∙ append-nil s.bytes in
+    let laid : Laid pieces (length s.bytes) t places = stays_as pieces (length s.bytes) s t places places same notices (λ target. refl) h in
+    record {
+      more = [];
+      nops = tt;
+      laid = rw (append-nil pieces, same) laid;
+    }
+laid_up (nop ∷ nops) pieces s t places bytes notices h =
+    let on = one_laid nop pieces s places h in
+    let later : LaidUp (pieces ++ whole on.reading ∷ []) t places = laid_up nops (pieces ++ whole on.reading ∷ []) (with_nop nop s) t places (bytes ∙ sym (append_assoc s.bytes (nop_bytes nop) (nops_bytes nops))) notices on.laid in
+    let joined : (pieces ++ whole on.reading ∷ []) ++ later.more ≡ pieces ++ (whole on.reading ∷ later.more) = append_assoc pieces (whole on.reading ∷ []) later.more in
+    record {
+      more = whole on.reading ∷ later.more;
+      nops = ((nop, on.reading, refl, on.same), later.nops);
+      laid = subst (λ (z : List Piece). Laid z (length t.bytes) t places) joined later.laid;
+    }
 
 pub filled_up : (nops : List Nop) (readings : List Reading) (s t : State) (places : DeferredTarget → Option ℕ) → t.bytes ≡ s.bytes ++ nops_bytes nops → t.notices ≡ s.notices → Filled readings (length s.bytes) s places → FilledUp readings t places
 filled_up [] readings s t places bytes notices h =
     let same : t.bytes ≡ s.bytes = bytes ∙ append-nil s.bytes in
-    let filled : Filled readings (length s.bytes) t places = stays_as readings (length s.bytes) s t places places same notices (λ target. refl) h in
+    let laid : Laid (whole_pieces readings) (length s.bytes) t places = stays_as (whole_pieces readings) (length s.bytes) s t places places same notices (λ target. refl) (filled_is_laid readings (length s.bytes) s places h) in
     record {
       more = [];
       nops = tt;
-      filled = rw (append-nil readings, same) filled;
+      filled = rw (append-nil readings, same) (laid_is_filled readings (length s.bytes) t places laid);
     }
 filled_up (nop ∷ nops) readings s t places bytes notices h =
     let on = one_filled nop readings s places h in
-    let u : State = record s { bytes = s.bytes ++ nop_bytes nop } in
-    let later : FilledUp (readings ++ on.reading ∷ []) t places = filled_up nops (readings ++ on.reading ∷ []) u t places (bytes ∙ sym (append_assoc s.bytes (nop_bytes nop) (nops_bytes nops))) notices on.filled in
+    let later : FilledUp (readings ++ on.reading ∷ []) t places = filled_up nops (readings ++ on.reading ∷ []) (with_nop nop s) t places (bytes ∙ sym (append_assoc s.bytes (nop_bytes nop) (nops_bytes nops))) notices on.filled in
     let joined : (readings ++ on.reading ∷ []) ++ later.more ≡ readings ++ (on.reading ∷ later.more) = append_assoc readings (on.reading ∷ []) later.more in
     record {
       more = on.reading ∷ later.more;

@@ -9,4 +9,5 @@ pub mod Padding
 pub mod Buffer
 pub mod Message
 -- Steps of the proofs.
+pub mod Put
 pub mod Patching

@@ -1,13 +1,15 @@
 //! A buffer that is filled up to a multiple with no-operations.
 
-ghost use Rattle.std.specs.Prelude.{◌≡◌, ◌<◌, ◌≤◌, ◌+◌, ◌%◌, ◌^◌, List, MatchOption, OnOk, OnErr, IfErr, IsOk, length};
+ghost use Rattle.std.specs.Prelude.{◌≡◌, ◌<◌, ◌≤◌, ◌+◌, ◌*◌, ◌%◌, ◌^◌, List, MatchOption, OnOk, OnErr, IfErr, IsOk, length, replicate};
 ghost use Rattle.cax64_encoder.specs.Nop.{nop_bytes};
 ghost use Rattle.cax64_machine_code.specs.declared.reading.Reading.{Reading};
 ghost use Rattle.cax64_sink.specs.Keeps.{Keeps};
 ghost use Rattle.cax64_sink.specs.Recorder.{recorder_state};
 ghost use Rattle.cax64_sink.specs.Room.{HasRoom, FallsBy};
 ghost use Rattle.cax64_sink.specs.declared.SinkError.{SinkError};
-ghost use Rattle.x64_code_buffer.specs.Padding.{AddsPadding, missing_to};
+ghost use Rattle.cax64_operand.specs.declared.nop.Nop.TheVariants.{Nine};
+ghost use Rattle.x64_code_buffer.specs.Padding.{AddsPadding, PutsPadding, missing_to, nops_bytes};
+ghost use Rattle.x64_code_buffer.specs.Put.{PutsBytes};
 
 use crate::buffer::CodeBuffer;
 use cax64_encoder::nop::nop_code;
@@ -45,11 +47,7 @@ fn nop_of(len: usize) -> Option<Nop>
 /// Puts a no-operation for which there is room.
 fn put_nop<A: Allocator>(recorder: &mut Recorder<A>, nop: Nop)
     requires { HasRoom (recorder_state recorder.old).byte_room (length (nop_bytes nop)) }
-    ensures bytes { (recorder_state recorder.new).bytes ≡ (recorder_state recorder.old).bytes ++ nop_bytes nop }
-    ensures notices { (recorder_state recorder.new).notices ≡ (recorder_state recorder.old).notices }
-    ensures byte_room { FallsBy (recorder_state recorder.old).byte_room (recorder_state recorder.new).byte_room (length (nop_bytes nop)) }
-    ensures notice_room { FallsBy (recorder_state recorder.old).notice_room (recorder_state recorder.new).notice_room 0 }
-    ensures offsets { (recorder_state recorder.new).offsets ≡ (recorder_state recorder.old).offsets }
+    ensures { PutsBytes (nop_bytes nop) (recorder_state recorder.old) (recorder_state recorder.new) }
 {
     nop_code(nop).put(recorder).unwrap();
 }
@@ -57,11 +55,7 @@ fn put_nop<A: Allocator>(recorder: &mut Recorder<A>, nop: Nop)
 /// Puts so many no-operations of nine bytes, for which there is room.
 fn put_nines<A: Allocator>(recorder: &mut Recorder<A>, count: usize)
     requires { HasRoom (recorder_state recorder.old).byte_room (9 * count) }
-    ensures bytes { (recorder_state recorder.new).bytes ≡ (recorder_state recorder.old).bytes ++ nops_bytes (replicate count Nine) }
-    ensures notices { (recorder_state recorder.new).notices ≡ (recorder_state recorder.old).notices }
-    ensures byte_room { FallsBy (recorder_state recorder.old).byte_room (recorder_state recorder.new).byte_room (9 * count) }
-    ensures notice_room { FallsBy (recorder_state recorder.old).notice_room (recorder_state recorder.new).notice_room 0 }
-    ensures offsets { (recorder_state recorder.new).offsets ≡ (recorder_state recorder.old).offsets }
+    ensures { PutsBytes (nops_bytes (replicate count Nine)) (recorder_state recorder.old) (recorder_state recorder.new) }
 {
     for _nine in 0..count {
         put_nop(recorder, Nop::Nine);
@@ -71,11 +65,7 @@ fn put_nines<A: Allocator>(recorder: &mut Recorder<A>, count: usize)
 /// Puts so many bytes of no-operations, for which there is room.
 fn put_padding<A: Allocator>(recorder: &mut Recorder<A>, len: usize)
     requires { HasRoom (recorder_state recorder.old).byte_room len }
-    ensures adds { AddsPadding (recorder_state recorder.old) (recorder_state recorder.new) }
-    ensures length { length (recorder_state recorder.new).bytes ≡ length (recorder_state recorder.old).bytes + len }
-    ensures byte_room { FallsBy (recorder_state recorder.old).byte_room (recorder_state recorder.new).byte_room len }
-    ensures notice_room { FallsBy (recorder_state recorder.old).notice_room (recorder_state recorder.new).notice_room 0 }
-    ensures offsets { (recorder_state recorder.new).offsets ≡ (recorder_state recorder.old).offsets }
+    ensures { PutsPadding len (recorder_state recorder.old) (recorder_state recorder.new) }
 {
     put_nines(recorder, len / 9);
     if let Some(nop) = nop_of(len % 9) {
@@ -87,7 +77,8 @@ impl<A: Allocator> CodeBuffer<A> {
     ghost use Rattle.x64_code_buffer.specs.Binding.{SamePlaces};
     ghost use Rattle.x64_code_buffer.specs.Buffer.{AsBefore, StaysFilled, buffer_state, label_count, label_room, places_of};
     ghost use Rattle.x64_code_buffer.specs.Filled.{Filled};
-    ghost use Rattle.x64_code_buffer.specs.Padding.{FilledUp};
+    ghost use Rattle.x64_code_buffer.specs.Laid.{Laid, Piece};
+    ghost use Rattle.x64_code_buffer.specs.Padding.{FilledUp, LaidUp};
 
     /// Fills up to the next multiple of 2 to the power with as few no-operations as there can be: of nine bytes, and one of
     /// the rest. Where the number of bytes is a multiple already, nothing is put.
@@ -108,6 +99,7 @@ impl<A: Allocator> CodeBuffer<A> {
         ensures label_room { label_room self.new ≡ label_room self.old }
         ensures places { SamePlaces (places_of self.old) (places_of self.new) }
         ensures filled { (readings : List Reading) → Filled readings (length (buffer_state self.old).bytes) (buffer_state self.old) (places_of self.old) → OnOk result (FilledUp readings (buffer_state self.new) (places_of self.new)) }
+        ensures laid { (pieces : List Piece) → Laid pieces (length (buffer_state self.old).bytes) (buffer_state self.old) (places_of self.old) → OnOk result (LaidUp pieces (buffer_state self.new) (places_of self.new)) }
         ensures stays { StaysFilled self.old self.new }
     {
         let missing = missing_to(self.recorder.bytes().len(), 1 << u32::from(power));

@@ -7,6 +7,7 @@ ghost use Rattle.cax64_sink.specs.Keeps.{Keeps};
 ghost use Rattle.cax64_sink.specs.Recorder.{recorder_state, with_patch};
 ghost use Rattle.cax64_sink.specs.Room.{HasRoom, FallsBy};
 ghost use Rattle.cax64_sink.specs.declared.SinkError.{SinkError};
+ghost use Rattle.x64_code_buffer.specs.Put.{PutsBytes};
 
 use crate::buffer::CodeBuffer;
 use cax64_sink::{CodeSink, Recorder, SinkError};
@@ -15,11 +16,7 @@ use std::alloc::Allocator;
 /// Puts bytes for which there is room.
 fn put_all<A: Allocator>(recorder: &mut Recorder<A>, bytes: &[u8])
     requires { HasRoom (recorder_state recorder.old).byte_room (length bytes.now) }
-    ensures bytes { (recorder_state recorder.new).bytes ≡ (recorder_state recorder.old).bytes ++ bytes.now }
-    ensures notices { (recorder_state recorder.new).notices ≡ (recorder_state recorder.old).notices }
-    ensures byte_room { FallsBy (recorder_state recorder.old).byte_room (recorder_state recorder.new).byte_room (length bytes.now) }
-    ensures notice_room { FallsBy (recorder_state recorder.old).notice_room (recorder_state recorder.new).notice_room 0 }
-    ensures offsets { (recorder_state recorder.new).offsets ≡ (recorder_state recorder.old).offsets }
+    ensures { PutsBytes bytes.now (recorder_state recorder.old) (recorder_state recorder.new) }
 {
     for byte in bytes {
         recorder.put1(*byte).unwrap();
@@ -30,6 +27,7 @@ impl<A: Allocator> CodeBuffer<A> {
     ghost use Rattle.x64_code_buffer.specs.Binding.{SamePlaces};
     ghost use Rattle.x64_code_buffer.specs.Buffer.{AsBefore, StaysFilled, buffer_state, label_count, label_room, places_of};
     ghost use Rattle.x64_code_buffer.specs.Filled.{Filled};
+    ghost use Rattle.x64_code_buffer.specs.Laid.{Laid, Piece};
 
     /// How many bytes were put.
     pub fn len(&self) -> usize
@@ -69,8 +67,8 @@ impl<A: Allocator> CodeBuffer<A> {
     /// Writes four bytes over those from `at` on, the lowest first. Takes no memory.
     ///
     /// All four have to be there: `at` is at most their number less 4. Where they aren't, a build that wasn't proved may
-    /// abort. What the buffer is filled with in front of `at` stays; what these bytes were part of may read as something
-    /// else.
+    /// abort. What the buffer is filled with, or laid out in, in front of `at` stays so; what these bytes were part of
+    /// may read as something else.
     pub fn patch4(&mut self, at: usize, value: u32)
         requires { at + 4 ≤ length (buffer_state self.old).bytes }
         ensures state { buffer_state self.new ≡ with_patch at (to_le_bytes w32 value) (buffer_state self.old) }
@@ -78,6 +76,7 @@ impl<A: Allocator> CodeBuffer<A> {
         ensures label_room { label_room self.new ≡ label_room self.old }
         ensures places { SamePlaces (places_of self.old) (places_of self.new) }
         ensures filled { (readings : List Reading) (n : ℕ) → n ≤ at → Filled readings n (buffer_state self.old) (places_of self.old) → Filled readings n (buffer_state self.new) (places_of self.new) }
+        ensures laid { (pieces : List Piece) (n : ℕ) → n ≤ at → Laid pieces n (buffer_state self.old) (places_of self.old) → Laid pieces n (buffer_state self.new) (places_of self.new) }
     {
         self.recorder.patch4(at, value);
     }
