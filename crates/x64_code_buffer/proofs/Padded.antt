@@ -1,6 +1,6 @@
 use Rattle.std.proofs.Common.{◌≡◌, ◌≢◌, ℕ, zero, suc, ◌+◌, ◌-◌, ◌*◌, ◌/◌, ◌%◌, ◌≤◌, ◌<◌, arith, refl, ◌∙◌, ap, sym, subst, List, [], ◌∷◌, ◌++◌, append_assoc, append-nil, length-append, Bool, true, false, Option, Some, None, Result, Ok, Err, length}
 use Rattle.std.specs.Prelude.{◌==◌, if◌then◌else◌, IfSome, IsOk, MatchOption, replicate}
-use Rattle.std.proofs.Math.Nat.{mod-add-mod, add-mod_left}
+use Rattle.std.proofs.Math.Nat.{mod-add-mod, add-mod_left, zero-mod}
 use Rattle.std.proofs.lemmas.Bool.Decides.{nat_tests}
 use Rattle.std.proofs.lemmas.List.{replicate_more}
 use Rattle.std.proofs.lemmas.Nat.{mod_below}
@@ -44,7 +44,10 @@ not_zero : (n : ℕ) → (n == 0) ≡ false → n ≢ 0
 not_zero n h = grind (arith, nat_tests)
 
 itself_none : (size : ℕ) → 1 ≤ size → size % size ≡ 0
-itself_none size h = omega (arith, add-mod_left size 0)
+itself_none size h =
+    let e : size + 0 ≡ size = omega arith in
+    let f : size % size ≡ 0 % size = rw e at (add-mod_left size 0) in
+    f ∙ zero-mod size
 
 aligned_by : (a size : ℕ) (b : Bool) → 1 ≤ size → (a % size == 0) ≡ b → (a + (if b then 0 else size - a % size)) % size ≡ 0
 aligned_by a size true h e = let none : a + 0 ≡ a = omega arith in rw none (zero_is (a % size) e)
@@ -156,7 +159,7 @@ laid_up [] pieces s t places bytes notices h =
     record {
       more = [];
       nops = tt;
-      laid = rw (append-nil pieces, same) laid;
+      laid = subst (λ (n : ℕ). Laid (pieces ++ []) n t places) (ap length (sym same)) (rw (append-nil pieces) laid);
     }
 laid_up (nop ∷ nops) pieces s t places bytes notices h =
     let on = one_laid nop pieces s places h in
@@ -175,7 +178,7 @@ filled_up [] readings s t places bytes notices h =
     record {
       more = [];
       nops = tt;
-      filled = rw (append-nil readings, same) (laid_is_filled readings (length s.bytes) t places laid);
+      filled = subst (λ (n : ℕ). Filled (readings ++ []) n t places) (ap length (sym same)) (rw (append-nil readings) (laid_is_filled readings (length s.bytes) t places laid));
     }
 filled_up (nop ∷ nops) readings s t places bytes notices h =
     let on = one_filled nop readings s places h in

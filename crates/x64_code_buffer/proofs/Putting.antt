@@ -1,4 +1,5 @@
-use Rattle.std.proofs.Common.{◌≡◌, ℕ, ◌+◌, ◌≤◌, arith, refl, ◌∙◌, ap, sym, subst, List, [], ◌∷◌, ◌++◌, append_assoc, append-nil, length-append, Bool, true, false, Result, Ok, Err, length}
+use Rattle.std.proofs.Common.{◌≡◌, ℕ, ◌+◌, ◌≤◌, arith, refl, ◌∙◌, ap, sym, subst, List, [], ◌∷◌, ◌++◌, append_assoc, append-nil, length-append, Bool, true, false, Option, Result, Ok, Err, length, take, drop}
+use Rattle.std.proofs.lemmas.List.{length-take-le, take-append-le, take-take}
 use Rattle.std.specs.Prelude.{if◌then◌else◌, is_ok, IsOk}
 use Rattle.cax64_sink.proofs.Rooms.{falls_by_none, less_room}
 use Rattle.cax64_sink.specs.Call.{Step, put}
@@ -6,7 +7,16 @@ use Rattle.cax64_sink.specs.Room.{FallsBy, HasRoom, Room}
 use Rattle.cax64_sink.specs.Sink.{State}
 use Rattle.cax64_sink.specs.declared.Notice.{Notice}
 use Rattle.cax64_sink.specs.declared.SinkError.{SinkError}
+use Rattle.cax64_sink.specs.Keeps.{Keeps}
+use Rattle.cax64_sink.specs.Recorder.{written_over}
+use Rattle.cax64_sink.proofs.Patches.{length_written_over}
+use Rattle.cax64_sink.specs.declared.DeferredTarget.{DeferredTarget}
+use Rattle.x64_code_buffer.proofs.Filling.{falls_after_none, stays}
+use Rattle.x64_code_buffer.specs.Buffer.{AsBefore}
+use Rattle.x64_code_buffer.specs.Filled.{places_told}
+use Rattle.x64_code_buffer.specs.Laid.{Laid, Piece}
 use Rattle.x64_code_buffer.specs.Put.{PutsBytes}
+use Rattle.x64_code_buffer.specs.Use.{uses_of}
 
 -- Bytes that are put where there is room, one string behind the other.
 
@@ -56,3 +66,38 @@ put_once b s t r ok step = record {
   notice_room = step.notice_room;
   keeps = record { offsets = step.offsets; records = step.records; answers = step.answers };
 }
+
+-- Bytes that are put once there is room for them.
+
+pub puts_after : (added : List ℕ) (s u t : State) → AsBefore s u → Keeps s u → PutsBytes added u t → PutsBytes added s t
+puts_after added s u t before keeps h = record {
+  bytes = h.bytes ∙ ap (λ (z : List ℕ). z ++ added) before.bytes;
+  notices = h.notices ∙ before.notices;
+  byte_room = falls_after_none s.byte_room u.byte_room t.byte_room (length added) before.byte_room h.byte_room;
+  notice_room = falls_after_none s.notice_room u.notice_room t.notice_room 0 before.notice_room h.notice_room;
+  keeps = record { offsets = h.keeps.offsets ∙ keeps.offsets; records = h.keeps.records ∙ keeps.records; answers = h.keeps.answers ∙ keeps.answers };
+}
+
+pub stays_put : (added : List ℕ) (pieces : List Piece) (n : ℕ) (s t : State) (old new : DeferredTarget → Option ℕ) → PutsBytes added s t → ((target : DeferredTarget) → new target ≡ old target) → Laid pieces n s old → Laid pieces n t new
+stays_put added pieces n s t old new h same laid = stays pieces n s t old new added h.bytes (ap (λ (z : List Notice). places_told (uses_of z)) h.notices) same laid
+
+-- Bytes that are written over those behind what is laid out.
+
+four_over : (bytes more : List ℕ) (at n : ℕ) → at + length more ≤ length bytes → n ≤ at → take n (written_over bytes at more) ≡ take n bytes
+four_over bytes more at n within before =
+    let front : List ℕ = take at bytes in
+    let len : length front ≡ at = length-take-le at bytes (omega arith) in
+    let grouped : length (front ++ more) ≡ length front + length more = length-append front more in
+    take-append-le n (front ++ more) (drop (at + length more) bytes) (omega arith) ∙ take-append-le n front more (omega arith) ∙ take-take n at bytes before
+
+pub stays_patched : (more : List ℕ) (at : ℕ) (pieces : List Piece) (n : ℕ) (s t : State) (places : DeferredTarget → Option ℕ) → at + length more ≤ length s.bytes → n ≤ at → t.bytes ≡ written_over s.bytes at more → t.notices ≡ s.notices → Laid pieces n s places → Laid pieces n t places
+stays_patched more at pieces n s t places within before bytes notices h =
+    let len : length t.bytes ≡ length s.bytes = ap length bytes ∙ length_written_over s.bytes at more within in
+    let front : take n t.bytes ≡ take n s.bytes = ap (take n) bytes ∙ four_over s.bytes more at n within before in
+    record {
+      within = omega (arith, len, h.within);
+      reads = rw front h.reads;
+      opened = h.opened;
+      told = ap (λ (z : List Notice). places_told (uses_of z)) notices ∙ h.told;
+      bound = λ target place e. let b = h.bound target place e in (b.0, omega (arith, len, b.1));
+    }

@@ -5,5 +5,5 @@ use Rattle.x64_code_buffer.specs.Padding.{nops_bytes}
 use Rattle.x64_code_buffer.specs.Put.{PutsBytes}
 use Rattle.x64_code_buffer.proofs.align.put_nines.Given as goal
 
-abbrev pub invariant-loop-_nine : goal.invariant-loop-_nine
-invariant-loop-_nine g l = PutsBytes (nops_bytes (replicate l._nine Nine)) (recorder_state l.initial.recorder) (recorder_state l.recorder)
+abbrev pub invariant-loop-nine : goal.invariant-loop-nine
+invariant-loop-nine g l = PutsBytes (nops_bytes (replicate l._nine Nine)) (recorder_state l.initial.recorder) (recorder_state l.recorder)
