@@ -1,9 +1,9 @@
-use Rattle.std.proofs.Common.{◌≡◌, ◌≢◌, ℕ, zero, suc, ◌+◌, ◌-◌, ◌*◌, ◌/◌, ◌%◌, ◌≤◌, ◌<◌, arith, refl, ◌∙◌, ap, sym, subst, List, [], ◌∷◌, ◌++◌, append_assoc, append-nil, length-append, Bool, true, false, Option, Some, None, Result, Ok, Err, length}
+use Rattle.std.proofs.Common.{◌≡◌, ◌≢◌, ℕ, zero, suc, ◌+◌, ◌-◌, ◌*◌, ◌/◌, ◌%◌, ◌^◌, ◌≤◌, ◌<◌, arith, refl, ◌∙◌, ap, sym, subst, List, [], ◌∷◌, ◌++◌, append_assoc, append-nil, length-append, Bool, true, false, Option, Some, None, Result, Ok, Err, length}
 use Rattle.std.specs.Prelude.{◌==◌, if◌then◌else◌, IfSome, IsOk, MatchOption, replicate}
 use Rattle.std.proofs.Math.Nat.{mod-add-mod, add-mod_left, zero-mod}
 use Rattle.std.proofs.lemmas.Bool.Decides.{nat_tests}
 use Rattle.std.proofs.lemmas.List.{replicate_more}
-use Rattle.std.proofs.lemmas.Nat.{mod_below}
+use Rattle.std.proofs.lemmas.Nat.{mod_below, one_shl, pow_pos}
 use Rattle.cax64_encoder.proofs.Nops.{nop_encodes}
 use Rattle.cax64_encoder.specs.Encodes.{EncodesAs}
 use Rattle.cax64_encoder.specs.Meant.{nop_meant}
@@ -21,18 +21,21 @@ use Rattle.cax64_operand.specs.declared.nop.Nop.TheVariants.{One, Two, Three, Fo
 use Rattle.cax64_sink.proofs.Ends.{ran_keeps}
 use Rattle.cax64_sink.proofs.Rooms.{ notes_is_length, ran_byte_room, ran_notice_room, ran_succeeds, size_is_length}
 use Rattle.cax64_sink.proofs.Runs.{ran_bytes, ran_notices}
-use Rattle.cax64_sink.specs.Room.{FallsBy, HasRoom, Room}
+use Rattle.cax64_sink.specs.Keeps.{Keeps}
+use Rattle.cax64_sink.specs.Room.{FallsBy, HasRoom}
 use Rattle.cax64_sink.specs.Run.{Ran, all_bytes, all_notices, byte_total, notice_total}
 use Rattle.cax64_sink.specs.Sink.{State}
 use Rattle.cax64_sink.specs.declared.DeferredTarget.{DeferredTarget}
 use Rattle.cax64_sink.specs.declared.Notice.{Notice}
 use Rattle.cax64_sink.specs.declared.SinkError.{SinkError}
 use Rattle.x64_code_buffer.proofs.Filling.{stays_as}
+use Rattle.x64_code_buffer.proofs.Putting.{puts_after}
+use Rattle.x64_code_buffer.specs.Buffer.{AsBefore}
 use Rattle.x64_code_buffer.proofs.Laying.{is_some_rip, laid_plain}
 use Rattle.x64_code_buffer.proofs.Pieces.{filled_is_laid, laid_is_filled, laid_on_is_filled_on, reads_by_line}
 use Rattle.x64_code_buffer.specs.Filled.{Filled, FilledOn}
 use Rattle.x64_code_buffer.specs.Laid.{Laid, LaidOn, Piece, whole, whole_pieces}
-use Rattle.x64_code_buffer.specs.Padding.{EachNop, FilledUp, LaidUp, missing_to, nops_bytes, padding}
+use Rattle.x64_code_buffer.specs.Padding.{AddsPadding, EachNop, FilledUp, LaidUp, PutsPadding, missing_to, nops_bytes, padding}
 use Rattle.x64_code_buffer.specs.Put.{PutsBytes}
 
 -- The next multiple.
@@ -65,6 +68,12 @@ missing_by a size false h e = let some : a % size ≢ 0 = not_zero (a % size) e 
 
 pub missing_below : (a size : ℕ) → 1 ≤ size → missing_to a size < size
 missing_below a size h = missing_by a size (a % size == 0) h refl
+
+pub least_power : (n : ℕ) → 1 ≤ 2 ^ n
+least_power n = omega (arith, pow_pos n)
+
+pub shifted : (k n : ℕ) → k ≡ n → n < 64 → (1 * 2 ^ k) % 18446744073709551616 ≡ 2 ^ n
+shifted k n e h = rw e (one_shl n 64 h)
 
 -- A no-operation that is put where there is room.
 
@@ -188,4 +197,30 @@ filled_up (nop ∷ nops) readings s t places bytes notices h =
       more = on.reading ∷ later.more;
       nops = ((nop, on.same), later.nops);
       filled = subst (λ (z : List Reading). Filled z (length t.bytes) t places) joined later.filled;
+    }
+
+-- Filled up to the next multiple.
+
+pub record Aligned (size : ℕ) (s t : State) : Type 0 where
+  pub multiple : length t.bytes % size ≡ 0
+  pub nearest : length t.bytes < length s.bytes + size
+  pub adds : AddsPadding s t
+  pub nops : List Nop
+  pub puts : PutsBytes (nops_bytes nops) s t
+  pub byte_room : FallsBy s.byte_room t.byte_room (missing_to (length s.bytes) size)
+
+pub aligned_by_padding : (size len : ℕ) (s u t : State) → AsBefore s u → Keeps s u → PutsPadding len u t → len ≡ missing_to (length s.bytes) size → 1 ≤ size → Aligned size s t
+aligned_by_padding size len s u t before keeps h is least =
+    let nops : List Nop = padding h.nines h.rest in
+    let puts : PutsBytes (nops_bytes nops) s t = puts_after (nops_bytes nops) s u t before keeps h.puts in
+    let all : length (nops_bytes nops) ≡ missing_to (length s.bytes) size = h.len_is ∙ is in
+    let sum : length t.bytes ≡ length s.bytes + missing_to (length s.bytes) size = ap length puts.bytes ∙ length-append s.bytes (nops_bytes nops) ∙ ap (λ (n : ℕ). length s.bytes + n) all in
+    let few : missing_to (length s.bytes) size < size = missing_below (length s.bytes) size least in
+    record {
+      multiple = ap (λ (n : ℕ). n % size) sum ∙ aligned (length s.bytes) size least;
+      nearest = omega (arith, sum, few);
+      adds = record { nines = h.nines; rest = h.rest; short = h.short; bytes = puts.bytes; notices = puts.notices };
+      nops = nops;
+      puts = puts;
+      byte_room = subst (λ (n : ℕ). FallsBy s.byte_room t.byte_room n) all puts.byte_room;
     }

@@ -1,6 +1,6 @@
 use Rattle.std.proofs.Common.{◌≡◌, ℕ, ◌+◌, ◌≤◌, arith, refl, ◌∙◌, ap, sym, subst, List, [], ◌∷◌, ◌++◌, append_assoc, append-nil, length-append, Bool, true, false, Option, Result, Ok, Err, length, take, drop}
 use Rattle.std.proofs.lemmas.List.{length-take-le, take-append-le, take-take}
-use Rattle.std.specs.Prelude.{if◌then◌else◌, is_ok, IsOk}
+use Rattle.std.specs.Prelude.{if◌then◌else◌, is_ok, IsErr, IsOk, OnOk}
 use Rattle.cax64_sink.proofs.Rooms.{falls_by_none, less_room}
 use Rattle.cax64_sink.specs.Call.{Step, put}
 use Rattle.cax64_sink.specs.Room.{FallsBy, HasRoom, Room}
@@ -40,6 +40,10 @@ puts_on a b s u t h k = record {
   notice_room = falls_on s.notice_room u.notice_room t.notice_room 0 0 h.notice_room k.notice_room;
   keeps = record { offsets = k.keeps.offsets ∙ h.keeps.offsets; records = k.keeps.records ∙ h.keeps.records; answers = k.keeps.answers ∙ h.keeps.answers };
 }
+
+-- a room that is no smaller falls by no more than any number
+pub falls_more : (r q : Room) (n : ℕ) → FallsBy r q 0 → FallsBy r q n
+falls_more r q n h k room = h k (less_room r (k + n) (k + 0) (omega arith) room)
 
 -- what is left of the room
 pub room_left : (a : List ℕ) (s t : State) (n k : ℕ) → PutsBytes a s t → HasRoom s.byte_room n → k + length a ≤ n → HasRoom t.byte_room k
@@ -101,3 +105,7 @@ stays_patched more at pieces n s t places within before bytes notices h =
       told = ap (λ (z : List Notice). places_told (uses_of z)) notices ∙ h.told;
       bound = λ target place e. let b = h.bound target place e in (b.0, omega (arith, len, b.1));
     }
+
+pub no_ok : {E : Type 0} (P : Type 0) (r : Result (Unit {0}) E) → IsErr r → OnOk r P
+no_ok P (Ok v) h = cc
+no_ok P (Err e) h = tt
