@@ -1,8 +1,8 @@
 use Rattle.std.proofs.Common.{◌≡◌, ℕ, ◌+◌, ◌≤◌, arith, refl, ◌∙◌, ap, sym, subst, List, [], ◌∷◌, ◌++◌, append_assoc, append-nil, length-append, Bool, true, false, Option, Result, Ok, Err, length, take, drop}
 use Rattle.std.proofs.lemmas.List.{length-take-le, take-append-le, take-take}
-use Rattle.std.specs.Prelude.{if◌then◌else◌, is_ok, IsErr, IsOk, OnOk}
+use Rattle.std.specs.Prelude.{if◌then◌else◌, is_ok, IsErr, IsOk, OnErr, OnOk}
 use Rattle.cax64_sink.proofs.Rooms.{falls_by_none, less_room}
-use Rattle.cax64_sink.specs.Call.{Step, put}
+use Rattle.cax64_sink.specs.Call.{Action, Step, put}
 use Rattle.cax64_sink.specs.Room.{FallsBy, HasRoom, Room}
 use Rattle.cax64_sink.specs.Sink.{State}
 use Rattle.cax64_sink.specs.declared.Notice.{Notice}
@@ -109,3 +109,12 @@ stays_patched more at pieces n s t places within before bytes notices h =
 pub no_ok : {E : Type 0} (P : Type 0) (r : Result (Unit {0}) E) → IsErr r → OnOk r P
 no_ok P (Ok v) h = cc
 no_ok P (Err e) h = tt
+
+-- A call that was refused.
+
+pub if_err : {E : Type 0} (P : Type 0) (r : Result (Unit {0}) E) → ((e : E) → r ≡ Err e → P) → OnErr r P
+if_err P (Ok v) h = tt
+if_err P (Err e) h = h e refl
+
+pub step_refused : (act : Action) (s t : State) (r : Result (Unit {0}) SinkError) (e : SinkError) → r ≡ Err e → Step act s t r → (t.bytes ≡ s.bytes) × (t.notices ≡ s.notices)
+step_refused act s t r e is step = let f : Step act s t (Err e) = rw is at step in (f.bytes, f.notices)

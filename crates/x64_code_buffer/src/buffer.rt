@@ -420,6 +420,7 @@ impl<A: Allocator> CodeSink for CodeBuffer<A> {
         ensures labels { label_count self.new ≡ label_count self.old }
         ensures label_room { label_room self.new ≡ label_room self.old }
         ensures places { SamePlaces (places_of self.old) (places_of self.new) }
+        ensures refused { OnErr result (StaysFilled self.old self.new) }
     {
         self.recorder.use_target(place)
     }
