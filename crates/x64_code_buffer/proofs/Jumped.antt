@@ -1,4 +1,4 @@
-use Rattle.std.proofs.Common.{◌≡◌, ℕ, ◌+◌, ◌-◌, ◌≤◌, arith, refl, ◌∙◌, ap, sym, List, [], ◌∷◌, ◌++◌, append-nil, length-append, Bool, true, Option, Some, None, Result, Ok, Err, ℤ, pos, length, take}
+use Rattle.std.proofs.Common.{◌≡◌, ℕ, ◌+◌, ◌-◌, ◌≤◌, arith, refl, ◌∙◌, ap, sym, List, [], ◌++◌, append-nil, Bool, true, Option, Some, None, Result, Ok, Err, ℤ, pos, length}
 use Rattle.std.specs.Prelude.{if◌then◌else◌, IfErr, IfSome, IsOk, IsSome, OnErr, OnOk}
 use Rattle.cax64_encoder.specs.Code.{code_actions}
 use Rattle.cax64_encoder.specs.declared.code.Code.{Code}
@@ -16,12 +16,11 @@ use Rattle.cax64_sink.proofs.Ends.{ran_keeps}
 use Rattle.cax64_sink.proofs.Rooms.{less_room, notes_is_length, ran_byte_room, ran_notice_room, ran_succeeds, size_is_length}
 use Rattle.cax64_sink.proofs.Runs.{ran_bytes, ran_notices}
 use Rattle.cax64_sink.specs.Keeps.{Keeps}
-use Rattle.cax64_sink.specs.Room.{FallsBy, HasRoom, Room}
-use Rattle.cax64_sink.specs.Run.{Ran, all_bytes, all_notices, byte_total, notice_total}
+use Rattle.cax64_sink.specs.Room.{FallsBy, HasRoom}
+use Rattle.cax64_sink.specs.Run.{Ran, all_bytes, byte_total, notice_total}
 use Rattle.cax64_sink.specs.Sink.{State}
 use Rattle.cax64_sink.specs.declared.DeferredTarget.{DeferredTarget}
 use Rattle.cax64_sink.specs.declared.Notice.{Notice}
-use Rattle.cax64_sink.specs.declared.Notice.TheVariants.{Target}
 use Rattle.cax64_sink.specs.declared.SinkError.{SinkError}
 use Rattle.x64_code_buffer.proofs.Filling.{falls_after_none}
 use Rattle.x64_code_buffer.proofs.Jumping.{jump_line, long_is}

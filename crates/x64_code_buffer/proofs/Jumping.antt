@@ -1,4 +1,4 @@
-use Rattle.std.proofs.Common.{◌≡◌, ℕ, ◌+◌, ◌-◌, ◌/◌, ◌%◌, ◌^◌, ◌≤◌, ◌<◌, arith, refl, ◌∙◌, ap, sym, subst, List, [], ◌∷◌, ◌++◌, true, Option, Some, None, ℤ, pos, length, append_assoc, Bool, false, append-nil, length-append}
+use Rattle.std.proofs.Common.{◌≡◌, ℕ, ◌+◌, ◌-◌, ◌/◌, ◌%◌, ◌^◌, ◌≤◌, ◌<◌, arith, refl, ◌∙◌, ap, sym, subst, List, [], ◌∷◌, ◌++◌, true, Option, Some, None, ℤ, length, append_assoc, Bool, false, append-nil, length-append}
 use Rattle.std.specs.Int.{cast_unsigned, to_le_bytes, w8, w32}
 use Rattle.std.specs.Int.RustNames.{FitsSigned}
 use Rattle.std.specs.Prelude.{IfSome, if◌then◌else◌}
@@ -23,9 +23,8 @@ use Rattle.cax64_machine_code.specs.declared.line.TailField.TheVariants.{NoTail}
 use Rattle.cax64_machine_code.specs.declared.row.Row.{Row}
 use Rattle.cax64_sink.proofs.PutRuns.{all_bytes-puts, all_notices-puts}
 use Rattle.cax64_sink.proofs.Runs.{all_bytes_append, all_notices_append}
-use Rattle.cax64_sink.specs.Call.{Action, put}
+use Rattle.cax64_sink.specs.Call.{put}
 use Rattle.cax64_sink.specs.Puts.{puts}
-use Rattle.cax64_sink.specs.Rest.{long_actions}
 use Rattle.cax64_sink.specs.Run.{all_bytes, all_notices}
 use Rattle.cax64_sink.specs.declared.DeferredTarget.{DeferredTarget}
 use Rattle.cax64_sink.specs.declared.Notice.{Notice}
@@ -33,7 +32,6 @@ use Rattle.x64_code_buffer.specs.Jump.{WritesJump, jump_parts, long_row, short_r
 use Rattle.x64_code_buffer.specs.declared.jump.Condition.TheVariants as cond
 use Rattle.x64_code_buffer.specs.declared.jump.Jump.{Jump}
 use Rattle.x64_code_buffer.specs.declared.jump.Jump.TheVariants.{Call, Always, If}
-
 
 -- The lines of jumps: an opcode that begins with no prefix, and so many bytes of distance.
 

@@ -1,5 +1,5 @@
-use Rattle.std.proofs.Common.{◌≡◌, ◌≢◌, ℕ, zero, suc, ◌+◌, ◌-◌, ◌*◌, ◌/◌, ◌%◌, ◌^◌, ◌≤◌, ◌<◌, arith, refl, ◌∙◌, ap, sym, subst, List, [], ◌∷◌, ◌++◌, append_assoc, append-nil, length-append, Bool, true, false, Option, Some, None, Result, Ok, Err, length}
-use Rattle.std.specs.Prelude.{◌==◌, if◌then◌else◌, IfSome, IsOk, MatchOption, replicate}
+use Rattle.std.proofs.Common.{◌≡◌, ◌≢◌, ℕ, zero, suc, ◌+◌, ◌-◌, ◌*◌, ◌%◌, ◌^◌, ◌≤◌, ◌<◌, arith, refl, ◌∙◌, ap, sym, subst, List, [], ◌∷◌, ◌++◌, append_assoc, append-nil, length-append, Bool, true, false, Option, Some, None, Result, Ok, Err, length}
+use Rattle.std.specs.Prelude.{◌==◌, if◌then◌else◌, IsOk, replicate}
 use Rattle.std.proofs.Math.Nat.{mod-add-mod, add-mod_left, zero-mod}
 use Rattle.std.proofs.lemmas.Bool.Decides.{nat_tests}
 use Rattle.std.proofs.lemmas.List.{replicate_more}
@@ -19,7 +19,7 @@ use Rattle.cax64_operand.specs.NopRow.{nop_row}
 use Rattle.cax64_operand.specs.declared.nop.Nop.{Nop}
 use Rattle.cax64_operand.specs.declared.nop.Nop.TheVariants.{One, Two, Three, Four, Five, Six, Seven, Eight, Nine}
 use Rattle.cax64_sink.proofs.Ends.{ran_keeps}
-use Rattle.cax64_sink.proofs.Rooms.{ notes_is_length, ran_byte_room, ran_notice_room, ran_succeeds, size_is_length}
+use Rattle.cax64_sink.proofs.Rooms.{notes_is_length, ran_byte_room, ran_notice_room, ran_succeeds, size_is_length}
 use Rattle.cax64_sink.proofs.Runs.{ran_bytes, ran_notices}
 use Rattle.cax64_sink.specs.Keeps.{Keeps}
 use Rattle.cax64_sink.specs.Room.{FallsBy, HasRoom}
@@ -35,7 +35,7 @@ use Rattle.x64_code_buffer.proofs.Laying.{is_some_rip, laid_plain}
 use Rattle.x64_code_buffer.proofs.Pieces.{filled_is_laid, laid_is_filled, laid_on_is_filled_on, reads_by_line}
 use Rattle.x64_code_buffer.specs.Filled.{Filled, FilledOn}
 use Rattle.x64_code_buffer.specs.Laid.{Laid, LaidOn, Piece, whole, whole_pieces}
-use Rattle.x64_code_buffer.specs.Padding.{AddsPadding, EachNop, FilledUp, LaidUp, PutsPadding, missing_to, nops_bytes, padding}
+use Rattle.x64_code_buffer.specs.Padding.{AddsPadding, FilledUp, LaidUp, PutsPadding, missing_to, nops_bytes, padding}
 use Rattle.x64_code_buffer.specs.Put.{PutsBytes}
 
 -- The next multiple.

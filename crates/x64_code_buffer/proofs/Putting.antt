@@ -1,4 +1,4 @@
-use Rattle.std.proofs.Common.{◌≡◌, ℕ, ◌+◌, ◌≤◌, arith, refl, ◌∙◌, ap, sym, subst, List, [], ◌∷◌, ◌++◌, append_assoc, append-nil, length-append, Bool, true, false, Option, Result, Ok, Err, length, take, drop}
+use Rattle.std.proofs.Common.{◌≡◌, ℕ, ◌+◌, ◌≤◌, arith, refl, ◌∙◌, ap, sym, subst, List, [], ◌++◌, append_assoc, append-nil, length-append, Bool, true, false, Option, Result, Ok, Err, length, take, drop}
 use Rattle.std.proofs.lemmas.List.{length-take-le, take-append-le, take-take}
 use Rattle.std.specs.Prelude.{if◌then◌else◌, is_ok, IsErr, IsOk, OnErr, OnOk}
 use Rattle.cax64_sink.proofs.Rooms.{falls_by_none, less_room}

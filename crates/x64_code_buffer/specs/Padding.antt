@@ -1,5 +1,5 @@
 -- No-operations that fill a buffer up to a multiple. (Intel SDM, volume 2, NOP, table 4-12.)
-use Rattle.std.specs.Prelude.{◌≡◌, ◌≤◌, ◌<◌, ℕ, ◌+◌, ◌-◌, ◌%◌, ◌^◌, ◌==◌, if◌then◌else◌, IfSome, Option, Some, None, List, [], ◌∷◌, ◌++◌, length, replicate}
+use Rattle.std.specs.Prelude.{◌≡◌, ◌<◌, ℕ, ◌-◌, ◌%◌, ◌==◌, if◌then◌else◌, IfSome, Option, Some, None, List, [], ◌∷◌, ◌++◌, length, replicate}
 use Rattle.cax64_encoder.specs.Nop.{nop_bytes, nop_parts}
 use Rattle.cax64_machine_code.specs.ReadLine.{LineReading, parts_as}
 use Rattle.cax64_machine_code.specs.Reading.{PartsOf}

@@ -1,4 +1,4 @@
-use Rattle.std.proofs.Common.{◌≡◌, arith, ap, subst, sym, ℕ, ◌*◌, ◌+◌, List, ◌++◌, length}
+use Rattle.std.proofs.Common.{◌≡◌, arith, subst, sym, ℕ, ◌*◌, List}
 use Rattle.std.specs.Prelude.{replicate}
 use Rattle.cax64_encoder.specs.Nop.{nop_bytes}
 use Rattle.cax64_operand.specs.declared.nop.Nop.TheVariants.{Nine}

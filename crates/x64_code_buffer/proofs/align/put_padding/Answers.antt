@@ -1,4 +1,4 @@
-use Rattle.std.proofs.Common.{◌≡◌, arith, ap, subst, sym, ◌∙◌, ℕ, ◌*◌, ◌/◌, ◌%◌, ◌<◌, List, ◌++◌, Some, None, length, length-append}
+use Rattle.std.proofs.Common.{◌≡◌, arith, ap, subst, sym, ℕ, ◌/◌, ◌%◌, List, ◌++◌, Some, None, length, length-append}
 use Rattle.std.specs.Prelude.{replicate}
 use Rattle.cax64_encoder.specs.Nop.{nop_bytes}
 use Rattle.cax64_operand.specs.declared.nop.Nop.TheVariants.{Nine}

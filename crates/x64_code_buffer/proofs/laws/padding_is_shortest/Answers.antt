@@ -1,5 +1,5 @@
-use Rattle.std.proofs.Common.{◌≡◌, ◌≤◌, ◌<◌, ◌*◌, ◌+◌, ap, arith, ℕ, List, [], ◌∷◌, Option, Some, None, length, length-append}
-use Rattle.std.specs.Prelude.{IfSome, replicate}
+use Rattle.std.proofs.Common.{◌≡◌, ◌≤◌, ◌*◌, ap, arith, ℕ, List, [], ◌∷◌, Option, Some, None, length, length-append}
+use Rattle.std.specs.Prelude.{replicate}
 use Rattle.std.proofs.lemmas.List.{length-replicate}
 use Rattle.cax64_encoder.specs.Nop.{nop_bytes}
 use Rattle.cax64_operand.specs.declared.nop.Nop.{Nop}

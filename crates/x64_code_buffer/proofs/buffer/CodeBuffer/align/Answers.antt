@@ -1,4 +1,4 @@
-use Rattle.std.proofs.Common.{◌≡◌, ◌≤◌, ◌*◌, ◌%◌, ◌^◌, ◌∙◌, arith, ap, refl, subst, sym, ℕ, List, length}
+use Rattle.std.proofs.Common.{◌≡◌, ◌*◌, ◌%◌, ◌^◌, ◌∙◌, arith, ap, refl, ℕ, List, length}
 use Rattle.cax64_sink.specs.Recorder.{recorder_state}
 use Rattle.x64_code_buffer.specs.Buffer.{buffer_state, places_of}
 use Rattle.x64_code_buffer.specs.Padding.{missing_to, nops_bytes}

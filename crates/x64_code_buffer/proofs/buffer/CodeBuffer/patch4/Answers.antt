@@ -1,4 +1,4 @@
-use Rattle.std.proofs.Common.{ap, refl}
+use Rattle.std.proofs.Common.{ap}
 use Rattle.std.specs.Int.{to_le_bytes, w32}
 use Rattle.cax64_sink.specs.Recorder.{recorder_state}
 use Rattle.cax64_sink.specs.Sink.{State}

@@ -1,6 +1,5 @@
 use Rattle.std.proofs.Common.{refl}
 use Rattle.cax64_sink.specs.Recorder.{recorder_state}
-use Rattle.x64_code_buffer.specs.Binding.{place_bound}
 use Rattle.x64_code_buffer.specs.Buffer.{buffer_state, places_of}
 use Rattle.x64_code_buffer.specs.Put.{PutsBytes}
 use Rattle.x64_code_buffer.proofs.Filling.{stays_both}
