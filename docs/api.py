@@ -23,7 +23,7 @@ SECTIONS = (
     ("Addresses", "Amode AmodeOffset AmodeOffsetPlusKnownOffset Scale GprMem XmmMem emit_modrm_sib_disp rex::Disp Dialect"),
     ("Immediates", "Imm8 Imm16 Imm32 Imm64 Simm8 Simm16 Simm32 Extension OutOfRange"),
     ("Sinks", "CodeSink Recorder FixedSink Notice TrapCode DeferredTarget Label Constant KnownOffset SinkError"),
-    ("The code buffer", "CodeBuffer BindError FinishError patched_field"),
+    ("The code buffer", "CodeBuffer Jump Condition BindError FinishError patched_field"),
     ("Instructions as data", "InstData DataOperand DataOperands DataError"),
     ("Reading", "reader::read_inst reader::Reading reader::Place reader::RegView"),
     ("Features", "Feature AvailableFeatures Features"),
@@ -52,7 +52,8 @@ def uses(crate):
         if used:
             for name in re.findall(r"\w+", used[2]):
                 source = used[1].split("::")[0]
-                found[module + name] = (source if (ROOT / "crates" / source).is_dir() else crate), name
+                is_crate = (ROOT / "crates" / source).is_dir() and not (ROOT / f"crates/{crate}/src/{source}.rt").exists()
+                found[module + name] = (source if is_crate else crate), name
     return found
 
 

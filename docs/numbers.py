@@ -114,6 +114,8 @@ SENTENCES = (
     (rf"{NUMBER} answers of `first_fault`, {NUMBER} lists", of("faults"), of("refusals")),
     (rf"{NUMBER} code buffers, {NUMBER} fields", of("buffers"), of("patched")),
     (rf"{NUMBER} readings and {NUMBER} runs", of("reader"), of("program")),
+    (rf"{NUMBER} scripts of jumps", of("jumps")),
+    (rf"the jumps of {NUMBER} scripts", of("jumps")),
 )
 
 

@@ -2,50 +2,42 @@
 
 use client::places::at;
 use client::registers::{Reg, Regs};
-use cranelift_assembler_x64::inst::{andps_a, jne_d8, lock_addl_mi_sxb, lock_addl_mr};
+use cranelift_assembler_x64::inst::{andps_a, lock_addl_mi_sxb, lock_addl_mr};
 use cranelift_assembler_x64::reader::{Place, read_inst};
 use cranelift_assembler_x64::{
     CodeSink, Constant, DeferredTarget, EncodeError, Gpr, Label, Row, Simm8, SinkError, Xmm, XmmMem,
 };
 use std::alloc::Allocator;
-use x64_code_buffer::CodeBuffer;
+use x64_code_buffer::{CodeBuffer, Condition, Jump};
 
 /// The key of a constant of sixteen bytes. Keys are the caller's to choose.
 const MASK: Constant = Constant(7);
-
-/// A jump of two bytes from here back to the top, while the last result isn't 0. `None` where that is too far.
-fn jump_back(top: usize, here: usize) -> Option<jne_d8> {
-    let distance = top as i128 - (here as i128 + 2);
-    let distance = i8::try_from(distance).ok()?;
-    Some(jne_d8::new(Simm8::new(distance)))
-}
-
-/// Adds register 1 to a word, masks vector register 0, and counts another word down to 0. False where the top is too far.
-fn push_loop<A: Allocator>(
-    buffer: &mut CodeBuffer<A>,
-    total: Label,
-    left: Label,
-) -> Result<bool, EncodeError> {
-    let top = buffer.bytes().len();
-    let total = at(DeferredTarget::Label(total));
-    let left = at(DeferredTarget::Label(left));
-    let mask = XmmMem::Mem(at(DeferredTarget::Constant(MASK)));
-    buffer.push_checked(&lock_addl_mr::<Regs>::new(total, Gpr::new(Reg(1))))?;
-    buffer.push_checked(&andps_a::<Regs>::new(Xmm::new(Reg(0)), mask))?;
-    buffer.push_checked(&lock_addl_mi_sxb::<Regs>::new(left, Simm8::new(-1)))?;
-    match jump_back(top, buffer.bytes().len()) {
-        Some(jump) => buffer.push_checked(&jump).map(|()| true),
-        None => Ok(false),
-    }
-}
 
 /// A call of the buffer that isn't a checked one has the sink's error alone.
 fn or_refused<T>(answer: Result<T, SinkError>) -> Result<T, EncodeError> {
     answer.map_err(|error| EncodeError::Sink(error))
 }
 
-/// A word in front, the loop, a word behind it, and the pool. `None` where the top is too far, a label or the constant was
-/// bound before, or what a place refers to wasn't bound at all or is too far.
+/// Adds register 1 to a word, masks vector register 0, and counts another word down to 0. Answers whether the top was bound.
+fn push_loop<A: Allocator>(
+    buffer: &mut CodeBuffer<A>,
+    total: Label,
+    left: Label,
+) -> Result<bool, EncodeError> {
+    let top = or_refused(buffer.new_label())?;
+    let top_is_bound = buffer.bind(top).is_ok();
+    let total = at(DeferredTarget::Label(total));
+    let left = at(DeferredTarget::Label(left));
+    let mask = XmmMem::Mem(at(DeferredTarget::Constant(MASK)));
+    buffer.push_checked(&lock_addl_mr::<Regs>::new(total, Gpr::new(Reg(1))))?;
+    buffer.push_checked(&andps_a::<Regs>::new(Xmm::new(Reg(0)), mask))?;
+    buffer.push_checked(&lock_addl_mi_sxb::<Regs>::new(left, Simm8::new(-1)))?;
+    or_refused(buffer.push_jump(Jump::If(Condition::Ne), DeferredTarget::Label(top)))?;
+    Ok(top_is_bound)
+}
+
+/// A word in front, the loop, a word behind it, and the pool. `None` where a label or the constant was bound before, or what
+/// a place refers to wasn't bound at all or is too far.
 fn counted_loop<A: Allocator + Copy>(alloc: A) -> Result<Option<Vec<u8, A>>, EncodeError> {
     let mut buffer = CodeBuffer::new(alloc);
     let total = or_refused(buffer.new_label())?;
@@ -53,14 +45,14 @@ fn counted_loop<A: Allocator + Copy>(alloc: A) -> Result<Option<Vec<u8, A>>, Enc
 
     let total_is_bound = buffer.bind(total).is_ok();
     or_refused(buffer.put4(0))?;
-    let is_pushed = push_loop(&mut buffer, total, left)?;
+    let top_is_bound = push_loop(&mut buffer, total, left)?;
     let left_is_bound = buffer.bind(left).is_ok();
     or_refused(buffer.put4(3))?;
     let mask_is_bound = buffer.bind_constant(MASK).is_ok();
     or_refused(buffer.put8(0x7FFF_FFFF_7FFF_FFFF))?;
     or_refused(buffer.put8(0x7FFF_FFFF_7FFF_FFFF))?;
 
-    if !(is_pushed && total_is_bound && left_is_bound && mask_is_bound) {
+    if !(top_is_bound && total_is_bound && left_is_bound && mask_is_bound) {
         return Ok(None);
     }
     match buffer.finish() {

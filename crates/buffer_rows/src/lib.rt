@@ -6,7 +6,11 @@ mod checked;
 #[cfg(test)]
 mod examples;
 #[cfg(test)]
+mod filling;
+#[cfg(test)]
 mod growths;
+#[cfg(test)]
+mod jumps;
 #[cfg(test)]
 mod making;
 #[cfg(test)]

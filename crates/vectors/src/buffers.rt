@@ -9,7 +9,7 @@ use cranelift_assembler_x64::{
 use named_instructions::address::target_of;
 use named_instructions::fields::{Fault, Fields, parsed};
 use std::alloc::Global;
-use x64_code_buffer::{BindError, CodeBuffer, FinishError, patched_field};
+use x64_code_buffer::{BindError, CodeBuffer, Condition, FinishError, Jump, patched_field};
 
 /// A field of four bytes, once its target is known.
 pub(crate) fn answer_patched(fields: &mut Fields<'_>, came: &mut String) -> Result<(), Fault> {
@@ -70,6 +70,39 @@ fn write_bound(came: &mut String, bound: Result<(), BindError>) -> Result<(), Fa
     Ok(())
 }
 
+/// The jump or the call of a mnemonic.
+fn jump_of(mnemonic: &str) -> Result<Jump, Fault> {
+    Ok(match mnemonic {
+        "call" => Jump::Call,
+        "jmp" => Jump::Always,
+        "jo" => Jump::If(Condition::O),
+        "jno" => Jump::If(Condition::No),
+        "jb" => Jump::If(Condition::B),
+        "jae" => Jump::If(Condition::Ae),
+        "je" => Jump::If(Condition::E),
+        "jne" => Jump::If(Condition::Ne),
+        "jbe" => Jump::If(Condition::Be),
+        "ja" => Jump::If(Condition::A),
+        "js" => Jump::If(Condition::S),
+        "jns" => Jump::If(Condition::Ns),
+        "jp" => Jump::If(Condition::P),
+        "jnp" => Jump::If(Condition::Np),
+        "jl" => Jump::If(Condition::L),
+        "jge" => Jump::If(Condition::Ge),
+        "jle" => Jump::If(Condition::Le),
+        "jg" => Jump::If(Condition::G),
+        _ => return Err(Fault::Malformed),
+    })
+}
+
+fn push_jump(buffer: &mut CodeBuffer<Global>, argument: &str) -> Result<(), Fault> {
+    let (mnemonic, target) = argument.split_once(' ').ok_or(Fault::Malformed)?;
+    let jump = jump_of(mnemonic)?;
+    buffer
+        .push_jump(jump, target_of(target)?)
+        .map_err(|_| Fault::NoMemory)
+}
+
 /// Puts a number of so many bytes.
 fn put(buffer: &mut CodeBuffer<Global>, call: &str, value: &str) -> Result<(), Fault> {
     let done: Result<(), SinkError> = match call {
@@ -104,6 +137,10 @@ fn make_call(
         "push" => {
             let (name, values) = argument.split_once(' ').ok_or(Fault::Malformed)?;
             representation.take(alloc, name, values, &mut Pushed(buffer))??;
+            write_bound(came, Ok(()))
+        }
+        "jump" => {
+            push_jump(buffer, argument)?;
             write_bound(came, Ok(()))
         }
         _ => {
@@ -177,5 +214,19 @@ pub(crate) fn answer_buffer(
     came.push('\t')?;
     write_notices(came, buffer.notices())?;
     came.push('\t')?;
+    write_finished(came, buffer)
+}
+
+/// The bytes of a buffer with jumps.
+pub(crate) fn answer_jumps(
+    alloc: Global,
+    representation: Representation,
+    fields: &mut Fields<'_>,
+    came: &mut String,
+) -> Result<(), Fault> {
+    let script = fields.text()?;
+    let mut buffer = CodeBuffer::new(alloc);
+    let mut answers = String::new(alloc);
+    run_script(alloc, representation, &mut buffer, script, &mut answers)?;
     write_finished(came, buffer)
 }

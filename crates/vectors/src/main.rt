@@ -1,8 +1,8 @@
 //! Runs the files of test vectors that lie in the folder where it runs, and tells how many of their lines come out as
 //! wanted.
 //!
-//! The cases were made by the public crate, built and run, and by three disassemblers; the files whose names begin with
-//! `worked` are worked by hand.
+//! The cases were made by the public crate, built and run, and by three disassemblers; those of jumps by GNU as, with the
+//! script that lies beside them; the files whose names begin with `worked` are worked by hand.
 //!
 //! A file has a case a line, its columns separated by a tab: what goes in, and then what is to come out. Its first line
 //! names the columns. A column is never empty: `-` stands for nothing. Numbers are decimal, bytes hexadecimal pairs.
@@ -57,9 +57,10 @@ pub enum Kind {
     Addresses,
     Patched,
     Buffers,
+    Jumps,
 }
 
-const KINDS: [Kind; 21] = [
+const KINDS: [Kind; 22] = [
     Kind::Tails,
     Kind::Relative,
     Kind::Operands,
@@ -81,6 +82,7 @@ const KINDS: [Kind; 21] = [
     Kind::Addresses,
     Kind::Patched,
     Kind::Buffers,
+    Kind::Jumps,
 ];
 
 /// The columns of `instructions` that nothing answers: those of the first of two stages, in which an 8-bit form with a
@@ -112,6 +114,7 @@ impl Kind {
             Kind::Addresses => "addresses",
             Kind::Patched => "patched",
             Kind::Buffers => "buffers",
+            Kind::Jumps => "jumps",
         }
     }
 
@@ -127,6 +130,7 @@ impl Kind {
                 | Kind::Instructions
                 | Kind::Worked
                 | Kind::Patched
+                | Kind::Jumps
         )
     }
 
@@ -159,6 +163,7 @@ impl Kind {
                 | Kind::Faults
                 | Kind::Refusals
                 | Kind::Buffers
+                | Kind::Jumps
         )
     }
 
@@ -192,6 +197,7 @@ impl Kind {
             Kind::Addresses => texts::answer_address(alloc, fields, came),
             Kind::Patched => buffers::answer_patched(fields, came),
             Kind::Buffers => buffers::answer_buffer(alloc, representation, fields, came),
+            Kind::Jumps => buffers::answer_jumps(alloc, representation, fields, came),
         }
     }
 }

@@ -8,3 +8,7 @@ pub mod Fronts
 pub mod Relocated
 pub mod Settling
 pub mod Finished
+pub mod Jumping
+pub mod Jumped
+pub mod Putting
+pub mod Padded

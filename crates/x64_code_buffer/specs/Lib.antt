@@ -4,7 +4,10 @@ pub mod Binding
 pub mod Use
 pub mod Filled
 pub mod Laid
+pub mod Jump
+pub mod Padding
 pub mod Buffer
 pub mod Message
 -- Steps of the proofs.
+pub mod Put
 pub mod Patching

@@ -32,10 +32,10 @@ use std::alloc::Allocator;
 /// A recording sink that knows labels and constants.
 #[derive(Drop)]
 pub struct CodeBuffer<A: Allocator> {
-    recorder: Recorder<A>,
-    bindings: Bindings<A>,
+    pub(crate) recorder: Recorder<A>,
+    pub(crate) bindings: Bindings<A>,
     /// Whether no room was asked for yet, by the caller or by an instruction.
-    is_fresh: bool,
+    pub(crate) is_fresh: bool,
 }
 
 impl<A: Allocator + Copy> CodeBuffer<A> {
@@ -420,6 +420,7 @@ impl<A: Allocator> CodeSink for CodeBuffer<A> {
         ensures labels { label_count self.new ≡ label_count self.old }
         ensures label_room { label_room self.new ≡ label_room self.old }
         ensures places { SamePlaces (places_of self.old) (places_of self.new) }
+        ensures refused { OnErr result (StaysFilled self.old self.new) }
     {
         self.recorder.use_target(place)
     }

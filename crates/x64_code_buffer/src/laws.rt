@@ -1,17 +1,22 @@
 //! Laws of the items here. The functions do nothing: their clauses are the laws.
 
-ghost use Rattle.std.specs.Prelude.{◌≡◌, ◌↔◌, ℕ, pos, ◌-ℤ◌, true, Option, Some, All, Contains, List, [], take, length};
+ghost use Rattle.std.specs.Prelude.{◌≡◌, ◌↔◌, ◌+◌, ◌<◌, ◌≤◌, ℕ, pos, ◌-ℤ◌, true, Option, Some, IfSome, All, Contains, List, [], take, length};
+ghost use Rattle.cax64_encoder.specs.Nop.{nop_bytes};
 ghost use Rattle.cax64_machine_code.specs.Address.{modulo_64_bits};
 ghost use Rattle.cax64_machine_code.specs.Apart.{each_two};
 ghost use Rattle.cax64_machine_code.specs.Sequence.{read_all};
 ghost use Rattle.cax64_machine_code.specs.declared.line.Line.{Line};
 ghost use Rattle.cax64_machine_code.specs.declared.reading.Reading.{Reading};
+ghost use Rattle.cax64_operand.specs.declared.nop.Nop.{Nop};
 ghost use Rattle.cax64_sink.specs.Sink.{State};
 ghost use Rattle.cax64_sink.specs.declared.DeferredTarget.{DeferredTarget};
 ghost use Rattle.x64_code_buffer.specs.Filled.{Filled, Finished};
 ghost use Rattle.x64_code_buffer.specs.Laid.{Laid, LaidOut, Piece, led_to, read_all_of, reading_in, readings_in, whole_pieces};
+ghost use Rattle.x64_code_buffer.specs.Jump.{near_distance};
+ghost use Rattle.x64_code_buffer.specs.Padding.{nops_bytes, padding};
 ghost use Rattle.x64_code_buffer.specs.declared.errors.BindError.{BindError};
 ghost use Rattle.x64_code_buffer.specs.declared.errors.FinishError.{FinishError};
+ghost use Rattle.x64_code_buffer.specs.declared.jump.Jump.{Jump};
 
 use crate::errors::{BindError, FinishError};
 
@@ -48,6 +53,17 @@ pub fn what_is_laid_out_reads()
 /// The distance from the end of a jump to a place leads there.
 pub fn a_jump_leads()
     ensures { (place end : ℕ) → led_to (Some (pos place -ℤ pos end)) end ≡ Some (modulo_64_bits (pos place)) }
+{}
+
+/// The distance of a near jump, from its end, leads to the place that it was found for.
+pub fn a_near_jump_leads()
+    ensures { (jump : Jump) (place here : ℕ) → IfSome (near_distance jump (Some place) here) (λ d. led_to (Some d) (here + 2) ≡ Some (modulo_64_bits (pos place))) }
+{}
+
+/// No fewer no-operations have as many bytes as those that a buffer is filled up with.
+pub fn padding_is_shortest()
+    ensures { (nines : ℕ) (rest : Option Nop) (other : List Nop) → IfSome rest (λ nop. length (nop_bytes nop) < 9)
+        → length (nops_bytes other) ≡ length (nops_bytes (padding nines rest)) → length (padding nines rest) ≤ length other }
 {}
 
 /// Errors compare equal where they are equal, and nowhere else.

@@ -2,10 +2,14 @@
 //! all is bound.
 #![tactic(auto)]
 
+mod align;
 mod bindings;
 mod buffer;
+mod data;
 mod errors;
 mod field;
+mod jump;
+mod jumps;
 pub mod laws;
 mod message;
 mod patch;
@@ -17,3 +21,4 @@ mod slot;
 pub use buffer::CodeBuffer;
 pub use errors::{BindError, FinishError};
 pub use field::patched_field;
+pub use jump::{Condition, Jump};

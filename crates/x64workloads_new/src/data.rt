@@ -1,6 +1,7 @@
 //! The job `functions` of `x64workloads` over instructions as data: each is made by a short constructor, keeps its virtual
 //! registers, and a copy of it is renamed by a table of homes, tested and put.
 
+use crate::assembled::push_body_and_jumps;
 use crate::kinds::{FIRST_FIXED, make};
 use cranelift_assembler_x64::{CodeSink, Constant, Fault, InstData, Instruction, Label, SinkError};
 use std::alloc::Global;
@@ -13,31 +14,33 @@ use x64_code_buffer::{CodeBuffer, FinishError};
 
 /// A function that is to be made.
 #[derive(Clone, Copy)]
-struct Plan {
+pub(crate) struct Plan {
     /// How many instructions it has.
     length: usize,
     /// Whether each instruction is asked for its first fault, or whether it can be encoded.
-    tells_faults: bool,
+    pub(crate) tells_faults: bool,
+    /// Whether it has jumps to labels.
+    has_jumps: bool,
     /// Which of four instructions is made anew. The others are those of the function before it, and get other registers.
     phase: usize,
 }
 
 /// Where labels stand: in front of every fifth to eighth instruction.
 #[derive(Clone, Copy)]
-struct Labels {
+pub(crate) struct Labels {
     /// The number of the next label.
-    next: u32,
+    pub(crate) next: u32,
     /// How many instructions still stand before it.
     left: u32,
 }
 
 impl Labels {
-    fn new() -> Labels {
+    pub(crate) fn new() -> Labels {
         Labels { next: 0, left: 0 }
     }
 
     /// The label that stands in front of the next instruction, if one does.
-    fn step(&mut self) -> Option<Label> {
+    pub(crate) fn step(&mut self) -> Option<Label> {
         if self.left > 0 {
             self.left = self.left.saturating_sub(1);
             return None;
@@ -100,7 +103,7 @@ fn digest_fault(digest: &mut Digest, fault: Fault) {
     }
 }
 
-fn push_or_tell(
+pub(crate) fn push_or_tell(
     buffer: &mut CodeBuffer<Global>,
     inst: &InstData,
     digest: &mut Digest,
@@ -114,7 +117,7 @@ fn push_or_tell(
     }
 }
 
-fn push_if_encodable(
+pub(crate) fn push_if_encodable(
     buffer: &mut CodeBuffer<Global>,
     inst: &InstData,
     digest: &mut Digest,
@@ -237,15 +240,25 @@ fn make_function(
     for _ in 0..labels {
         buffer.new_label()?;
     }
-    push_body(&mut buffer, &insts[..count], labels, plan, &homes, digest)?;
+    if plan.has_jumps {
+        push_body_and_jumps(&mut buffer, &insts[..count], labels, plan, &homes, digest)?;
+    } else {
+        push_body(&mut buffer, &insts[..count], labels, plan, &homes, digest)?;
+    }
     maker.constants = constants_at(count);
     push_pool(&mut buffer, maker, digest)?;
     finish(buffer, digest);
     Ok(())
 }
 
-/// So many functions of 20 to 2,000 instructions, with a label for every five to eight of them, and a digest of all code.
-pub(crate) fn functions_of_data(alloc: Global, count: u32, seed: u64) -> Result<Digest, SinkError> {
+/// So many functions of 20 to 2,000 instructions, with a label for every five to eight of them and perhaps a jump to a label
+/// for every six, and a digest of all code.
+pub(crate) fn functions_of_data(
+    alloc: Global,
+    has_jumps: bool,
+    count: u32,
+    seed: u64,
+) -> Result<Digest, SinkError> {
     let mut maker = Maker::of_virtual(seed, 1);
     let mut digest = Digest::new();
     let mut insts = Vec::new(alloc);
@@ -253,6 +266,7 @@ pub(crate) fn functions_of_data(alloc: Global, count: u32, seed: u64) -> Result<
         let plan = Plan {
             length: function_length(&mut maker),
             tells_faults: maker.random.byte() % 2 == 0,
+            has_jumps,
             phase: (number % 4) as usize,
         };
         make_function(alloc, &plan, &mut insts, &mut maker, &mut digest)?;

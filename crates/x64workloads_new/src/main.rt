@@ -3,6 +3,7 @@
 //! The words are a job, how often it is done and the seed. Without words each job is done a little.
 #![tactic(auto)]
 
+mod assembled;
 mod data;
 mod kinds;
 mod stubs;
@@ -21,22 +22,25 @@ use workload_source::registers::Regs;
 enum Job {
     StubsAgain,
     Data,
+    Assembled,
 }
 
-const JOBS: [Job; 2] = [Job::StubsAgain, Job::Data];
+const JOBS: [Job; 3] = [Job::StubsAgain, Job::Data, Job::Assembled];
 
 impl Job {
     fn name(self) -> &'static str {
         match self {
             Job::StubsAgain => "stubs_again",
             Job::Data => "data",
+            Job::Assembled => "assembled",
         }
     }
 
     fn do_it(self, alloc: Global, count: u32, seed: u64) -> Result<Digest, SinkError> {
         match self {
             Job::StubsAgain => stubs_again::<Regs>(alloc, count, seed),
-            Job::Data => functions_of_data(alloc, count, seed),
+            Job::Data => functions_of_data(alloc, false, count, seed),
+            Job::Assembled => functions_of_data(alloc, true, count, seed),
         }
     }
 }

@@ -1,0 +1,68 @@
+//! What the job `assembled` has beside `data`: a jump to a label behind every sixth instruction, half of them forward.
+
+use crate::data::{Labels, Plan, push_if_encodable, push_or_tell};
+use cranelift_assembler_x64::{DeferredTarget, InstData, Label, SinkError};
+use std::alloc::Global;
+use workload_source::digest::Digest;
+use workload_source::stub::bind;
+use x64_code_buffer::{CodeBuffer, Condition, Jump};
+
+/// The jumps, in turn.
+const JUMPS: [Jump; 8] = [
+    Jump::If(Condition::Ne),
+    Jump::If(Condition::E),
+    Jump::Always,
+    Jump::If(Condition::B),
+    Jump::If(Condition::L),
+    Jump::Call,
+    Jump::If(Condition::Ae),
+    Jump::If(Condition::Le),
+];
+
+/// Jumps to one of the last two labels, or to one of the next two.
+fn push_jump(
+    buffer: &mut CodeBuffer<Global>,
+    places: &Labels,
+    labels: u32,
+    number: usize,
+) -> Result<(), SinkError> {
+    let turn = number / 6;
+    let far = u32::from(turn % 4 > 1);
+    let label = if turn % 2 == 0 {
+        places.next.saturating_sub(1 + far)
+    } else {
+        places.next.saturating_add(far).min(labels.saturating_sub(1))
+    };
+    buffer.push_jump(JUMPS[turn % 8], DeferredTarget::Label(Label(label)))
+}
+
+/// Pushes the instructions as `data` does, and the jumps between them.
+pub(crate) fn push_body_and_jumps(
+    buffer: &mut CodeBuffer<Global>,
+    insts: &[InstData],
+    labels: u32,
+    plan: &Plan,
+    homes: &[u8; 256],
+    digest: &mut Digest,
+) -> Result<(), SinkError> {
+    let mut places = Labels::new();
+    for (number, inst) in insts.iter().enumerate() {
+        if let Some(label) = places.step() {
+            bind(buffer, label, digest);
+        }
+        let mut settled = *inst;
+        settled.rename(homes);
+        if plan.tells_faults {
+            push_or_tell(buffer, &settled, digest)?;
+        } else {
+            push_if_encodable(buffer, &settled, digest)?;
+        }
+        if number % 6 == 5 {
+            push_jump(buffer, &places, labels, number)?;
+        }
+    }
+    for label in places.next..labels {
+        bind(buffer, Label(label), digest);
+    }
+    Ok(())
+}
