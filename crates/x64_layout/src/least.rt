@@ -4,6 +4,7 @@ ghost use Rattle.std.specs.Prelude.{◌≡◌, ◌+◌, length};
 ghost use Rattle.x64_layout.specs.Growing.{IsBelow};
 ghost use Rattle.x64_layout.specs.Layout.{ArePlaces, AreSpans, IsLeast};
 
+use crate::ripple::ripple;
 use crate::rounds::round;
 use crate::span::Span;
 
@@ -17,18 +18,43 @@ fn begin(spans: &[Span], lens: &mut [u8])
     }
 }
 
-/// Lays entries out: gives each the length that it has in the least layout, which is as short as in any, and notes the places
-/// of all, and behind them that of the end.
+/// Finds the least layout, and answers how many entries were looked at, each as often as it was.
 ///
-/// What `lens` and `places` held before doesn't matter. There is a length for each entry, and a place more, which is that of
-/// the end; [`are_spans`](crate::are_spans) tells whether entries can be laid out.
-pub fn least_layout(spans: &[Span], lens: &mut [u8], places: &mut [u32])
+/// Two rounds are enough for most rows; from the third one on growths are passed on at once. The last round changes nothing.
+pub(crate) fn lay_out(spans: &[Span], lens: &mut [u8], places: &mut [u32], rooms: &mut [u8]) -> u64
     requires spans { AreSpans spans.now }
-    requires as_many { length lens.old ≡ length spans.now }
-    requires room { length places.old ≡ length spans.now + 1 }
+    requires lens { length lens.old ≡ length spans.now }
+    requires places { length places.old ≡ length spans.now + 1 }
+    requires rooms { length rooms.old ≡ length spans.now }
     ensures least { IsLeast spans.now lens.new }
     ensures places { ArePlaces lens.new places.new }
 {
     begin(spans, lens);
-    while !round(spans, lens, places) {}
+    let of_round = 2 * spans.len() as u64;
+    if round(spans, lens, places) {
+        return of_round;
+    }
+    let mut looks = of_round;
+    while !round(spans, lens, places) {
+        looks = looks.saturating_add(of_round);
+        looks = looks.saturating_add(ripple(spans, lens, places, rooms));
+    }
+    looks.saturating_add(of_round)
+}
+
+/// Lays entries out: gives each the length that it has in the least layout, which is as short as in any, and notes the places
+/// of all, and behind them that of the end.
+///
+/// What `lens`, `places` and `rooms` held before doesn't matter, nor what `rooms` holds afterwards. There is a length and a room
+/// for each entry, and a place more, which is that of the end; [`are_spans`](crate::are_spans) tells whether entries can be
+/// laid out. It takes time in proportion to their number, if each has a byte at least.
+pub fn least_layout(spans: &[Span], lens: &mut [u8], places: &mut [u32], rooms: &mut [u8])
+    requires spans { AreSpans spans.now }
+    requires lens { length lens.old ≡ length spans.now }
+    requires places { length places.old ≡ length spans.now + 1 }
+    requires rooms { length rooms.old ≡ length spans.now }
+    ensures least { IsLeast spans.now lens.new }
+    ensures places { ArePlaces lens.new places.new }
+{
+    lay_out(spans, lens, places, rooms);
 }

@@ -3,6 +3,7 @@
 
 pub mod laws;
 mod least;
+mod ripple;
 mod rounds;
 mod span;
 
