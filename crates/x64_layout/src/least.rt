@@ -18,9 +18,10 @@ fn begin(spans: &[Span], lens: &mut [u8])
     }
 }
 
+/// How many rounds are made before growths are passed on. Most rows are done after three, of which the last changes nothing.
+const PLAIN_ROUNDS: u8 = 3;
+
 /// Finds the least layout, and answers how many entries were looked at, each as often as it was.
-///
-/// Two rounds are enough for most rows; from the third one on growths are passed on at once. The last round changes nothing.
 pub(crate) fn lay_out(spans: &[Span], lens: &mut [u8], places: &mut [u32], rooms: &mut [u8]) -> u64
     requires spans { AreSpans spans.now }
     requires lens { length lens.old ≡ length spans.now }
@@ -31,15 +32,16 @@ pub(crate) fn lay_out(spans: &[Span], lens: &mut [u8], places: &mut [u32], rooms
 {
     begin(spans, lens);
     let of_round = 2 * spans.len() as u64;
-    if round(spans, lens, places) {
-        return of_round;
-    }
     let mut looks = of_round;
+    let mut plain = PLAIN_ROUNDS;
     while !round(spans, lens, places) {
+        plain = plain.saturating_sub(1);
+        if plain == 0 {
+            looks = looks.saturating_add(ripple(spans, lens, places, rooms));
+        }
         looks = looks.saturating_add(of_round);
-        looks = looks.saturating_add(ripple(spans, lens, places, rooms));
     }
-    looks.saturating_add(of_round)
+    looks
 }
 
 /// Lays entries out: gives each the length that it has in the least layout, which is as short as in any, and notes the places
