@@ -1,8 +1,10 @@
 //! Laws of layouts.
 
-ghost use Rattle.std.specs.Prelude.{◌≡◌, ◌≤◌, ◌+◌, ℕ, List, Some, sum, slice_get, slice_index};
+ghost use Rattle.std.specs.Prelude.{◌≡◌, ◌≤◌, ◌↔◌, ◌+◌, ℕ, true, List, Some, sum, slice_get, slice_index};
 ghost use Rattle.x64_layout.specs.Layout.{IsLayout, IsLeast, place_in};
 ghost use Rattle.x64_layout.specs.declared.span.Span.{Span};
+
+use crate::span::Span;
 
 /// Of all layouts of some entries there is one at most that is the least, no other has fewer bytes, none has an entry or the
 /// end at an earlier place, and an entry that is long in it is long in each. It does nothing: its clauses are the laws.
@@ -11,4 +13,9 @@ pub fn the_least_has_the_fewest_bytes()
     ensures fewest { (spans : List Span) (lens other : List ℕ) → IsLeast spans lens → IsLayout spans other → sum lens ≤ sum other }
     ensures earliest { (spans : List Span) (lens other : List ℕ) (n : ℕ) → IsLeast spans lens → IsLayout spans other → place_in lens n ≤ place_in other n }
     ensures long { (spans : List Span) (lens other : List ℕ) (n : ℕ) (s : Span) → IsLeast spans lens → IsLayout spans other → slice_get spans n ≡ Some s → slice_index lens n ≡ s.least + s.more → slice_index other n ≡ s.least + s.more }
+{}
+
+/// Entries compare equal where they are equal, and nowhere else. It does nothing: its clause is the law.
+pub fn law_of_equality()
+    ensures { (a b : Span) → (⟦<Span as PartialEq>⟧.eq a b ≡ true) ↔ (a ≡ b) }
 {}

@@ -12,4 +12,4 @@ mod span;
 mod tests;
 
 pub use least::least_layout;
-pub use span::{Span, are_spans};
+pub use span::{MOST_SPANS, Span, are_spans};
