@@ -106,6 +106,20 @@ place_small lens n small le =
 pub sum_small : (lens : List ℕ) → All (λ len. len ≤ 13) lens → sum lens ≤ 13 * length lens
 sum_small lens small = omega (arith, sum_by-le (λ x. x) 13 lens small)
 
+stands_most : (len least more : ℕ) {P : Type 0} → ((len ≡ least) × P) ⊎ (len ≡ least + more) → len ≤ least + more
+stands_most len least more (inl h) = omega (arith, h.0)
+stands_most len least more (inr h) = omega arith
+
+pub layout_small : (spans : List Span) (lens : List ℕ) → AreSpans spans → IsLayout spans lens → All (λ len. len ≤ 13) lens
+layout_small spans lens are layout =
+    All-from_get_or (λ len. len ≤ 13) lens 0 (λ i h.
+    let s : Span = get_or spans i no_span in
+    let is : slice_get spans i ≡ Some s = slice_get-get_or spans i no_span (omega (arith, layout.as_many)) in
+    omega (arith, stands_most (get_or lens i 0) s.least s.more (layout.each i s is), (span_at spans i s is are).most))
+
+pub layout_bytes : (spans : List Span) (lens : List ℕ) → AreSpans spans → IsLayout spans lens → sum lens < 2 ^ 31
+layout_bytes spans lens are layout = omega (arith, sum_small lens (layout_small spans lens are layout), layout.as_many, are.few)
+
 pub places_small : (spans : List Span) (lens places : List ℕ) → AreSpans spans → IsBelow spans lens → ArePlaces lens places → length places ≡ length spans + 1 → All (λ place. place < 2 ^ 31) places
 places_small spans lens places are below noted as_many =
     All-from_get_or (λ place. place < 2 ^ 31) places 0 (λ i h.

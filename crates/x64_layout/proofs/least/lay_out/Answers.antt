@@ -1,4 +1,4 @@
-use Rattle.std.proofs.Common.{◌<◌, ◌≤◌, ◌*◌, arith, length, sum, ap, List, ℕ, ◌-◌}
+use Rattle.std.proofs.Common.{◌<◌, ◌*◌, arith, length, sum, List, ℕ, ◌-◌}
 use Rattle.std.proofs.lemmas.Bool.{OnFalse_at}
 use Rattle.x64_layout.specs.Growing.{IsBelow}
 use Rattle.x64_layout.specs.Layout.{AreSpans}
