@@ -24,6 +24,6 @@ pub fn the_longer_form_reaches()
 {}
 
 /// Entries compare equal where they are equal, and nowhere else. It does nothing: its clause is the law.
-pub fn law_of_equality()
+pub fn laws_of_equality()
     ensures { (a b : Span) → (⟦<Span as PartialEq>⟧.eq a b ≡ true) ↔ (a ≡ b) }
 {}
