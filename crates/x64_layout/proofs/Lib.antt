@@ -1,0 +1,4 @@
+pub mod Places
+pub mod Rooms
+pub mod Growth
+pub mod Rippling

@@ -1,0 +1,3 @@
+-- What the clauses say.
+pub mod Layout
+pub mod Growing
