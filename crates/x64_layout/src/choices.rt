@@ -7,10 +7,10 @@ use crate::tests::laid_out;
 use std::alloc::{AllocError, Global};
 
 /// How many rows are tried.
-const ROWS: usize = 400;
+const ROWS: usize = 200;
 
 /// How many entries of two lengths a row has at most.
-const MOST_JUMPS: usize = 9;
+const MOST_JUMPS: usize = 8;
 
 /// How many entries a row has.
 const ENTRIES: u8 = 26;

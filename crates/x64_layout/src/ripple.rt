@@ -12,8 +12,8 @@ use crate::rounds::note_places;
 use crate::span::Span;
 use std::cmp::min;
 
-/// How many entries before and behind one a short jump may go over it from, if each has a byte at least. Jumps further away
-/// that have entries of no byte within them are found by the next round.
+/// A jump of the shorter form that goes over an entry is nearer to it than so many entries, if each has a byte at least. What is
+/// missed where some have none, the next round finds.
 const NEAR: usize = 128;
 
 /// How many bytes more make a jump too long for a distance of eight bits, whose end and spot are at these places. It is 0

@@ -148,13 +148,14 @@ pub(crate) struct Laid {
     pub looks: u64,
 }
 
-/// Lays a row out, in memory that holds something else before.
+/// Lays a row out, in memory that holds something else before; and once more, to count the looks.
 pub(crate) fn laid_out(rt: &impl Abort, alloc: Global, spans: &[Span]) -> Result<Laid, AllocError> {
     assert!(rt; are_spans(spans));
     let count = spans.len();
     let mut lens = vec![in alloc; 0xFFu8; count]?;
     let mut places = vec![in alloc; 0xFFFF_FFFFu32; count + 1]?;
     let mut rooms = vec![in alloc; 0u8; count]?;
+    least_layout(spans, &mut lens, &mut places, &mut rooms);
     let looks = lay_out(spans, &mut lens, &mut places, &mut rooms);
     Ok(Laid {
         lens,
