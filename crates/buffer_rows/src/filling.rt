@@ -1,5 +1,6 @@
 //! Bytes and no-operations that fill a buffer, and each growth of its calls refused in turn.
 
+use crate::jumps::push_near;
 use crate::making::FIRST;
 use cax64_sink::{Notice, SinkError};
 use cax64_test_support::growth::{Grows, Outcome, is_refused};
@@ -123,7 +124,7 @@ enum One {
 fn make_one<A: Allocator>(buffer: &mut CodeBuffer<A>, one: One) -> Result<(), SinkError> {
     match one {
         One::Long => buffer.push_long_jump(Jump::Call, FIRST),
-        One::Near => buffer.push_near(Jump::Always, 0),
+        One::Near => push_near(buffer, Jump::Always, 0),
         One::Far => buffer.push_far(Jump::Always, 0),
         One::Bytes => buffer.put_bytes(&[7; 100]),
         One::Align => buffer.align(9),

@@ -168,6 +168,18 @@ fn a_constant_takes_a_jump(rt: HostRuntime) {
     assert!(rt; code.as_slice() == [0x90, 0xE8, 0, 0, 0, 0].as_slice());
 }
 
+/// Puts the short form of a jump. A jump without one is as good as a full sink.
+pub(crate) fn push_near<A: Allocator>(
+    buffer: &mut CodeBuffer<A>,
+    jump: Jump,
+    distance: i8,
+) -> Result<(), SinkError> {
+    if !jump.has_short() {
+        return Err(SinkError::Full);
+    }
+    buffer.push_near(jump, distance)
+}
+
 /// The sixteen conditions, in the order of the opcode's last four bits.
 const CONDITIONS: [Condition; 16] = [
     Condition::O,
@@ -193,8 +205,9 @@ fn conditions_have_opcodes_in_order(rt: HostRuntime) {
     let mut last: u8 = 0;
     for condition in CONDITIONS {
         let mut buffer = CodeBuffer::new(rt.alloc());
-        assert!(rt; buffer.push_near(Jump::If(condition), -2).is_ok());
-        assert!(rt; buffer.push_far(Jump::If(condition), 0x0102_0304).is_ok());
+        let jump = Jump::If(condition);
+        assert!(rt; push_near(&mut buffer, jump, -2).is_ok());
+        assert!(rt; buffer.push_far(jump, 0x0102_0304).is_ok());
         let near = 0x70 | last;
         let far = 0x80 | last;
         assert!(rt; buffer.bytes() == [near, 0xFE, 0x0F, far, 4, 3, 2, 1].as_slice());
@@ -207,12 +220,11 @@ fn jumps_by_a_number_tell_nothing(rt: HostRuntime) {
     let mut buffer = CodeBuffer::new(rt.alloc());
     assert!(rt; buffer.push_far(Jump::Call, -5).is_ok());
     assert!(rt; buffer.push_far(Jump::Always, i32::MAX).is_ok());
-    assert!(rt; buffer.push_near(Jump::Always, 127).is_ok());
+    assert!(rt; push_near(&mut buffer, Jump::Always, 127).is_ok());
+    assert!(rt; push_near(&mut buffer, Jump::Call, 127) == Err(SinkError::Full));
     let bytes = [
         0xE8, 0xFB, 0xFF, 0xFF, 0xFF, 0xE9, 0xFF, 0xFF, 0xFF, 0x7F, 0xEB, 0x7F,
     ];
     assert!(rt; buffer.bytes() == bytes.as_slice());
     assert!(rt; buffer.notices().is_empty());
-    assert!(rt; !Jump::Call.has_short());
-    assert!(rt; Jump::Always.has_short());
 }
