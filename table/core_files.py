@@ -11,7 +11,6 @@ NUMBERS = "crates/x64_core/src/lines.rt"
 SHAPES = "crates/x64_core/src/shapes.rt"
 KIND_LISTS = "crates/x64_core/src/kind_lists.rt"
 KIND_SPANS = "crates/x64_core/src/kind_spans.rt"
-NAMES = "crates/x64_core/src/names.rt"
 EXTENSION_TABLE = "crates/x64_core/src/extension.rt"
 OPS = "crates/x64_core/src/ops"
 
@@ -106,7 +105,7 @@ def numbers(rows):
 
 def shapes(lines):
     """The operands that each line takes."""
-    found = [f"const SHAPES: [OpShape; {len(lines)}] = ["]
+    found = [f"static SHAPES: [OpShape; {len(lines)}] = ["]
     for line in lines:
         kind = immediate_type(line).upper() if line.immediate else "None"
         found.append(f"    OpShape {{ fields: OpFields::{shape_of(line)}, imm: OpImm::{kind} }}, // {line.name}")
@@ -150,20 +149,14 @@ def kinds(lines):
             records += found
     spans = [f"    Span {{ first: {firsts[kind_list(line)]}, count: {len(kind_list(line))} }}, // {line.name}" for line in lines]
     return (["#[rattlefmt::skip]", f"pub(crate) static KINDS: [Kind; {len(records)}] = [", *(f"    {record}," for record in records), "];"],
-            ["#[rattlefmt::skip]", f"pub(crate) const SPANS: [Span; {len(lines)}] = [", *spans, "];"])
-
-
-def names(lines):
-    """The mnemonic of each line."""
-    found = [f'    "{line.printed_mnemonic}", // {line.name}' for line in lines]
-    return [f"static MNEMONICS: [&str; {len(lines)}] = [", *found, "];"]
+            ["#[rattlefmt::skip]", f"pub(crate) static SPANS: [Span; {len(lines)}] = [", *spans, "];"])
 
 
 def extensions(lines):
     """The extension that each line asks for."""
     found = [f"    Some(Extension::{line.extension.capitalize()}), // {line.name}" if line.extension else f"    None, // {line.name}"
              for line in lines]
-    return [f"const EXTENSIONS: [Option<Extension>; {len(lines)}] = [", *found, "];"]
+    return [f"static EXTENSIONS: [Option<Extension>; {len(lines)}] = [", *found, "];"]
 
 
 def constant_name(line):
@@ -226,11 +219,11 @@ def constants(about, groups):
 
 
 def groups_of_rows(rows):
-    """Rows that stand together and are of one group."""
+    """Rows that stand together and are of one group, by the name of the first."""
     first = 0
     for group, found in groupby(rows, lambda row: row.group):
         found = list(found)
-        yield f"{group.crate}_{group.file}", group.doc, found, first
+        yield f"from_{found[0].name}", group.doc, found, first
         first += len(found)
 
 
@@ -256,7 +249,6 @@ def write(table, core, sources):
     lists, spans = kinds(lines)
     sources.part(KIND_LISTS, "kinds", lists)
     sources.part(KIND_SPANS, "spans", spans)
-    sources.part(NAMES, "mnemonics", names(lines))
     sources.part(EXTENSION_TABLE, "extensions", extensions(lines))
     sources.part(f"{OPS}.rt", "files", ops_module(core.files))
     about = "The rows of the assembler, which come first in the core."

@@ -46,7 +46,7 @@ use Rattle.x64_core.specs.declared.shapes.OpFields.{OpFields}
 use Rattle.x64_core.specs.declared.shapes.OpFields.TheVariants.{Bare, Rm, Mem, RegRm, RegMem, RegVvvvRm}
 use Rattle.x64_core.specs.declared.shapes.OpImm.{OpImm}
 use Rattle.x64_core.specs.declared.shapes.OpImm.TheVariants as imm
-use Rattle.x64_core.proofs.Makers.{facts, Facts}
+use Rattle.x64_core.proofs.MadeOf.{facts, Facts}
 
 -- What the encoder is given has the line's shape.
 

@@ -1,5 +1,5 @@
 pub mod Table
-pub mod Makers
+pub mod MadeOf
 pub mod Forms
-pub mod Met
+pub mod Reals
 pub mod Runs

@@ -9,7 +9,7 @@ use Rattle.cax64_encoder.specs.Notices.{memory_notices}
 use Rattle.cax64_encoder.proofs.LineRuns.{line_adds}
 use Rattle.cax64_machine_code.specs.Reading.{PartsOf}
 use Rattle.cax64_machine_code.specs.ReadLine.{LineReading}
-use Rattle.cax64_machine_code.specs.Rows.{line_of}
+use Rattle.cax64_machine_code.specs.Rows.{all_rows}
 use Rattle.cax64_machine_code.specs.Sequence.{IsFront}
 use Rattle.cax64_machine_code.specs.declared.line.Line.{Line}
 use Rattle.cax64_machine_code.proofs.ReadLine.{contained, line_reads}
@@ -32,7 +32,7 @@ use Rattle.x64_core.proofs.Table.{lines_apart, op_below}
 -- A run of the actions that write an instruction of the core.
 
 so_many : length core_lines ≡ COUNT
-unfolding core_lines arithmetic_lines moves_lines multiplication_lines shifts_lines conditions_lines control_lines bits_lines scalar_lines
+unfolding core_lines arithmetic_lines moves_lines multiplication_lines shifts_lines conditions_lines control_lines bits_lines scalar_lines all_rows
 so_many = refl
 
 pub is_there : (c : Core) → Contains core_lines (core_line c.op.number)

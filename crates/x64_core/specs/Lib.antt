@@ -7,7 +7,7 @@ pub mod Adds
 pub mod Refusal
 pub mod Rename
 pub mod Kinds
-pub mod Names
+pub mod Extension
 -- Steps of the proofs.
 pub mod Shape
 pub mod Fits

@@ -1,6 +1,6 @@
 //! Encoding of the core.
 
-ghost use Rattle.std.specs.Prelude.{◌≡◌, ◌≤◌, ◌↔◌, None, IsTrue, IsOk, IfErr, OnOk, OnErr, length};
+ghost use Rattle.std.specs.Prelude.{◌≡◌, ◌≤◌, ◌↔◌, true, None, IsTrue, IsOk, IfErr, OnOk, OnErr, length};
 ghost use Rattle.cax64_encoder.specs.Code.{IsCode, code_actions};
 ghost use Rattle.cax64_encoder.specs.EncodeError.{fault_found, IfRefused, NotRefused, OnFault};
 ghost use Rattle.cax64_encoder.specs.EncodesLine.{EncodesLine};

@@ -1,7 +1,7 @@
 //! What lines ask of a processor. (Intel SDM, volume 1, 5.1, and volume 2, `CPUID`.)
 
 ghost use Rattle.std.specs.Prelude.{◌≡◌};
-ghost use Rattle.x64_core.specs.Names.{extension_of};
+ghost use Rattle.x64_core.specs.Extension.{extension_of};
 
 use crate::op::Op;
 
@@ -20,7 +20,7 @@ pub enum Extension {
 
 /// Of the rows, and of the lines of `table/core.txt` behind them, each named beside its extension.
 // table/write.py: extensions
-const EXTENSIONS: [Option<Extension>; 584] = [
+static EXTENSIONS: [Option<Extension>; 584] = [
     None, // lock_addb_mi
     None, // lock_addw_mi
     None, // lock_addl_mi

@@ -10,7 +10,7 @@ pub struct Span {
 /// Of the rows, and of the lines of `table/core.txt` behind them, each named beside its list.
 // table/write.py: spans
 #[rattlefmt::skip]
-pub(crate) const SPANS: [Span; 584] = [
+pub(crate) static SPANS: [Span; 584] = [
     Span { first: 0, count: 2 }, // lock_addb_mi
     Span { first: 2, count: 2 }, // lock_addw_mi
     Span { first: 4, count: 2 }, // lock_addl_mi

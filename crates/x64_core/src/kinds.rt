@@ -1,11 +1,12 @@
 //! What is done with the operands of a line, as an allocator of registers asks.
 
-ghost use Rattle.std.specs.Prelude.{◌≡◌, true};
-ghost use Rattle.x64_core.specs.Kinds.{kinds_fit, kinds_of};
+ghost use Rattle.std.specs.Prelude.{◌≡◌, ◌≤◌, ◌<◌, ◌+◌, drop, length, take, true};
+ghost use Rattle.x64_core.specs.Kinds.{kinds_fit, kinds_of, span_of};
 ghost use Rattle.x64_core.specs.Line.{core_line};
+ghost use Rattle.x64_core.specs.declared.lines.TheConstants.{COUNT};
 
 use crate::kind_lists::KINDS;
-use crate::kind_spans::SPANS;
+use crate::kind_spans::{SPANS, Span};
 use crate::op::Op;
 
 /// Where an operand is.
@@ -52,14 +53,29 @@ pub struct Kind {
     pub is_printed: bool,
 }
 
+/// Where the list of a line stands.
+fn span(number: u16) -> Span
+    requires { number < COUNT }
+    ensures { result ≡ span_of number }
+{
+    SPANS[usize::from(number)]
+}
+
+/// A part of a list.
+fn part(kinds: &[Kind], span: Span) -> &[Kind]
+    requires { span.first + span.count ≤ length kinds.now }
+    ensures { result.now ≡ take span.count (drop span.first kinds.now) }
+{
+    let first = usize::from(span.first);
+    &kinds[first..first + usize::from(span.count)]
+}
+
 impl Op {
     /// Its operands, in the order of the manual: one at each place where its bytes hold one, and those that it fixes.
     pub fn kinds(self) -> &'static [Kind]
         ensures list { result.now ≡ kinds_of self.number }
         ensures fit { kinds_fit (core_line self.number) result.now ≡ true }
     {
-        let span = SPANS[usize::from(self.number)];
-        let first = usize::from(span.first);
-        &KINDS[first..first + usize::from(span.count)]
+        part(&KINDS, span(self.number))
     }
 }

@@ -16,7 +16,6 @@ pub mod kinds;
 pub mod lines;
 pub mod make;
 pub mod makers;
-mod names;
 pub mod op;
 pub mod ops;
 pub mod place;

@@ -1,9 +1,9 @@
 //! The lines of the core as packed numbers, as `cax64_table` has them.
 
-ghost use Rattle.std.specs.Prelude.{◌≡◌, ◌<◌};
+ghost use Rattle.std.specs.Prelude.{◌≡◌, ◌<◌, slice_index};
 ghost use Rattle.cax64_table.specs.EntryLine.{entry_line};
 ghost use Rattle.x64_core.specs.Line.{core_line};
-ghost use Rattle.x64_core.specs.declared.lines.TheConstants.{COUNT};
+ghost use Rattle.x64_core.specs.declared.lines.TheConstants.{COUNT, NUMBERS};
 
 use cax64_table::entry::Entry;
 
@@ -600,11 +600,19 @@ const NUMBERS: [u64; 584] = [
 ];
 // table/write.py: end
 
+#[inline(always)]
+fn packed(number: u16) -> u64
+    requires { number < COUNT }
+    ensures { result ≡ slice_index NUMBERS number }
+{
+    NUMBERS[usize::from(number)]
+}
+
 /// The line of this number.
 #[inline(always)]
 pub(crate) fn entry(number: u16) -> Entry
     requires { number < COUNT }
     ensures { entry_line result ≡ core_line number }
 {
-    Entry::of(NUMBERS[usize::from(number)]).unwrap()
+    Entry::of(packed(number)).unwrap()
 }

@@ -43,7 +43,7 @@ pub struct OpShape {
 /// Of the rows, and of the lines of `table/core.txt` behind them, each named beside its operands.
 // table/write.py: shapes
 #[rattlefmt::skip]
-const SHAPES: [OpShape; 584] = [
+static SHAPES: [OpShape; 584] = [
     OpShape { fields: OpFields::Mem, imm: OpImm::U8 }, // lock_addb_mi
     OpShape { fields: OpFields::Mem, imm: OpImm::U16 }, // lock_addw_mi
     OpShape { fields: OpFields::Mem, imm: OpImm::U32 }, // lock_addl_mi

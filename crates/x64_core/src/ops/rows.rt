@@ -30,7 +30,7 @@ pub const LOCK_ADDL_MR: RegMem = without_imm!(RegMem, 8);
 pub const LOCK_ADDQ_MR: RegMem = without_imm!(RegMem, 9);
 
 /// `lock add`. (Intel SDM, volume 2, `ADD`.)
-pub fn lock_a_add() -> [Op; 10]
+pub fn from_lock_addb_mi() -> [Op; 10]
     ensures { map (λ op. op.number) result ≡ range_with_len 0 10 }
 {
     [
@@ -69,7 +69,7 @@ pub const LOCK_ORL_MR: RegMem = without_imm!(RegMem, 18);
 pub const LOCK_ORQ_MR: RegMem = without_imm!(RegMem, 19);
 
 /// `lock or`. (Intel SDM, volume 2, `OR`.)
-pub fn lock_a_or() -> [Op; 10]
+pub fn from_lock_orb_mi() -> [Op; 10]
     ensures { map (λ op. op.number) result ≡ range_with_len 10 10 }
 {
     [
@@ -108,7 +108,7 @@ pub const LOCK_ADCL_MR: RegMem = without_imm!(RegMem, 28);
 pub const LOCK_ADCQ_MR: RegMem = without_imm!(RegMem, 29);
 
 /// `lock adc`. (Intel SDM, volume 2, `ADC`.)
-pub fn lock_a_adc() -> [Op; 10]
+pub fn from_lock_adcb_mi() -> [Op; 10]
     ensures { map (λ op. op.number) result ≡ range_with_len 20 10 }
 {
     [
@@ -147,7 +147,7 @@ pub const LOCK_SBBL_MR: RegMem = without_imm!(RegMem, 38);
 pub const LOCK_SBBQ_MR: RegMem = without_imm!(RegMem, 39);
 
 /// `lock sbb`. (Intel SDM, volume 2, `SBB`.)
-pub fn lock_b_sbb() -> [Op; 10]
+pub fn from_lock_sbbb_mi() -> [Op; 10]
     ensures { map (λ op. op.number) result ≡ range_with_len 30 10 }
 {
     [
@@ -186,7 +186,7 @@ pub const LOCK_ANDL_MR: RegMem = without_imm!(RegMem, 48);
 pub const LOCK_ANDQ_MR: RegMem = without_imm!(RegMem, 49);
 
 /// `lock and`. (Intel SDM, volume 2, `AND`.)
-pub fn lock_b_and() -> [Op; 10]
+pub fn from_lock_andb_mi() -> [Op; 10]
     ensures { map (λ op. op.number) result ≡ range_with_len 40 10 }
 {
     [
@@ -225,7 +225,7 @@ pub const LOCK_SUBL_MR: RegMem = without_imm!(RegMem, 58);
 pub const LOCK_SUBQ_MR: RegMem = without_imm!(RegMem, 59);
 
 /// `lock sub`. (Intel SDM, volume 2, `SUB`.)
-pub fn lock_b_sub() -> [Op; 10]
+pub fn from_lock_subb_mi() -> [Op; 10]
     ensures { map (λ op. op.number) result ≡ range_with_len 50 10 }
 {
     [
@@ -264,7 +264,7 @@ pub const LOCK_XORL_MR: RegMem = without_imm!(RegMem, 68);
 pub const LOCK_XORQ_MR: RegMem = without_imm!(RegMem, 69);
 
 /// `lock xor`. (Intel SDM, volume 2, `XOR`.)
-pub fn lock_b_xor() -> [Op; 10]
+pub fn from_lock_xorb_mi() -> [Op; 10]
     ensures { map (λ op. op.number) result ≡ range_with_len 60 10 }
 {
     [
@@ -291,7 +291,7 @@ pub const LOCK_XADDL_MR: RegMem = without_imm!(RegMem, 72);
 pub const LOCK_XADDQ_MR: RegMem = without_imm!(RegMem, 73);
 
 /// `lock xadd`. (Intel SDM, volume 2, `XADD`.)
-pub fn lock_x_xadd() -> [Op; 4]
+pub fn from_lock_xaddb_mr() -> [Op; 4]
     ensures { map (λ op. op.number) result ≡ range_with_len 70 4 }
 {
     [
@@ -314,7 +314,7 @@ pub const LOCK_CMPXCHGQ_MR: RegMem = without_imm!(RegMem, 77);
 pub const LOCK_CMPXCHG16B_M: Mem = without_imm!(Mem, 78);
 
 /// `lock cmpxchg`. (Intel SDM, volume 2, `CMPXCHG` and `CMPXCHG8B/CMPXCHG16B`.)
-pub fn lock_x_cmpxchg() -> [Op; 5]
+pub fn from_lock_cmpxchgb_mr() -> [Op; 5]
     ensures { map (λ op. op.number) result ≡ range_with_len 74 5 }
 {
     [
@@ -336,7 +336,7 @@ pub const XCHGL_RM: RegMem = without_imm!(RegMem, 81);
 pub const XCHGQ_RM: RegMem = without_imm!(RegMem, 82);
 
 /// `xchg`. (Intel SDM, volume 2, `XCHG`.)
-pub fn arith_xchg() -> [Op; 4]
+pub fn from_xchgb_rm() -> [Op; 4]
     ensures { map (λ op. op.number) result ≡ range_with_len 79 4 }
 {
     [
@@ -357,7 +357,7 @@ pub const ROLL_M1: Rm = without_imm!(Rm, 85);
 pub const ROLQ_M1: Rm = without_imm!(Rm, 86);
 
 /// `rol` by one. (Intel SDM, volume 2, `RCL/RCR/ROL/ROR`.)
-pub fn arith_rol() -> [Op; 4]
+pub fn from_rolb_m1() -> [Op; 4]
     ensures { map (λ op. op.number) result ≡ range_with_len 83 4 }
 {
     [
@@ -378,7 +378,7 @@ pub const RORL_M1: Rm = without_imm!(Rm, 89);
 pub const RORQ_M1: Rm = without_imm!(Rm, 90);
 
 /// `ror` by one. (Intel SDM, volume 2, `RCL/RCR/ROL/ROR`.)
-pub fn arith_ror() -> [Op; 4]
+pub fn from_rorb_m1() -> [Op; 4]
     ensures { map (λ op. op.number) result ≡ range_with_len 87 4 }
 {
     [
@@ -399,7 +399,7 @@ pub const SHLL_M1: Rm = without_imm!(Rm, 93);
 pub const SHLQ_M1: Rm = without_imm!(Rm, 94);
 
 /// `shl` by one. (Intel SDM, volume 2, `SAL/SAR/SHL/SHR`.)
-pub fn arith_shl() -> [Op; 4]
+pub fn from_shlb_m1() -> [Op; 4]
     ensures { map (λ op. op.number) result ≡ range_with_len 91 4 }
 {
     [
@@ -420,7 +420,7 @@ pub const SHRL_M1: Rm = without_imm!(Rm, 97);
 pub const SHRQ_M1: Rm = without_imm!(Rm, 98);
 
 /// `shr` by one. (Intel SDM, volume 2, `SAL/SAR/SHL/SHR`.)
-pub fn arith_shr() -> [Op; 4]
+pub fn from_shrb_m1() -> [Op; 4]
     ensures { map (λ op. op.number) result ≡ range_with_len 95 4 }
 {
     [
@@ -441,7 +441,7 @@ pub const SARL_M1: Rm = without_imm!(Rm, 101);
 pub const SARQ_M1: Rm = without_imm!(Rm, 102);
 
 /// `sar` by one. (Intel SDM, volume 2, `SAL/SAR/SHL/SHR`.)
-pub fn arith_sar() -> [Op; 4]
+pub fn from_sarb_m1() -> [Op; 4]
     ensures { map (λ op. op.number) result ≡ range_with_len 99 4 }
 {
     [
@@ -458,7 +458,7 @@ pub const CALLQ_M: Rm = without_imm!(Rm, 103);
 pub const JMPQ_M: Rm = without_imm!(Rm, 104);
 
 /// Jumps and calls to the place that a register or memory holds. (Intel SDM, volume 2, `JMP` and `CALL`.)
-pub fn jump_rm() -> [Op; 2]
+pub fn from_callq_m() -> [Op; 2]
     ensures { map (λ op. op.number) result ≡ range_with_len 103 2 }
 {
     [
@@ -471,7 +471,7 @@ pub fn jump_rm() -> [Op; 2]
 pub const ANDPS_A: RegRm = without_imm!(RegRm, 105);
 
 /// `andps`. (Intel SDM, volume 2, `ANDPS`.)
-pub fn simd_and() -> [Op; 1]
+pub fn from_andps_a() -> [Op; 1]
     ensures { map (λ op. op.number) result ≡ range_with_len 105 1 }
 {
     [ANDPS_A.op()]
@@ -487,7 +487,7 @@ pub const CMPSS_A: RegRmImm<u8> = with_imm!(RegRmImm, 108);
 pub const CMPSD_A: RegRmImm<u8> = with_imm!(RegRmImm, 109);
 
 /// Comparisons. (Intel SDM, volume 2, `CMPPS`, `CMPPD`, `CMPSS` and `CMPSD`.)
-pub fn simd_cmp() -> [Op; 4]
+pub fn from_cmpps_a() -> [Op; 4]
     ensures { map (λ op. op.number) result ≡ range_with_len 106 4 }
 {
     [
@@ -502,7 +502,7 @@ pub fn simd_cmp() -> [Op; 4]
 pub const ANDB_I: Imm<u8> = with_imm!(Imm, 110);
 
 /// `and`. (Intel SDM, volume 2, `AND`.)
-pub fn arith_and() -> [Op; 1]
+pub fn from_andb_i() -> [Op; 1]
     ensures { map (λ op. op.number) result ≡ range_with_len 110 1 }
 {
     [ANDB_I.op()]
@@ -512,7 +512,7 @@ pub fn arith_and() -> [Op; 1]
 pub const CALLQ_D: Imm<i32> = with_imm!(Imm, 111);
 
 /// Jumps and calls by a distance of four bytes. (Intel SDM, volume 2, `JMP`, `Jcc` and `CALL`.)
-pub fn jump_d32() -> [Op; 1]
+pub fn from_callq_d() -> [Op; 1]
     ensures { map (λ op. op.number) result ≡ range_with_len 111 1 }
 {
     [CALLQ_D.op()]
@@ -522,7 +522,7 @@ pub fn jump_d32() -> [Op; 1]
 pub const JMP_D8: Imm<i8> = with_imm!(Imm, 112);
 
 /// Jumps by a distance of one byte. (Intel SDM, volume 2, `JMP` and `Jcc`.)
-pub fn jump_d8() -> [Op; 1]
+pub fn from_jmp_d8() -> [Op; 1]
     ensures { map (λ op. op.number) result ≡ range_with_len 112 1 }
 {
     [JMP_D8.op()]
@@ -532,7 +532,7 @@ pub fn jump_d8() -> [Op; 1]
 pub const JMP_D32: Imm<i32> = with_imm!(Imm, 113);
 
 /// Jumps and calls by a distance of four bytes. (Intel SDM, volume 2, `JMP`, `Jcc` and `CALL`.)
-pub fn jump_d32() -> [Op; 1]
+pub fn from_jmp_d32() -> [Op; 1]
     ensures { map (λ op. op.number) result ≡ range_with_len 113 1 }
 {
     [JMP_D32.op()]
@@ -572,7 +572,7 @@ pub const JLE_D8: Imm<i8> = with_imm!(Imm, 128);
 pub const JG_D8: Imm<i8> = with_imm!(Imm, 129);
 
 /// Jumps by a distance of one byte. (Intel SDM, volume 2, `JMP` and `Jcc`.)
-pub fn jump_d8() -> [Op; 16]
+pub fn from_jo_d8() -> [Op; 16]
     ensures { map (λ op. op.number) result ≡ range_with_len 114 16 }
 {
     [
@@ -629,7 +629,7 @@ pub const JLE_D32: Imm<i32> = with_imm!(Imm, 144);
 pub const JG_D32: Imm<i32> = with_imm!(Imm, 145);
 
 /// Jumps and calls by a distance of four bytes. (Intel SDM, volume 2, `JMP`, `Jcc` and `CALL`.)
-pub fn jump_d32() -> [Op; 16]
+pub fn from_jo_d32() -> [Op; 16]
     ensures { map (λ op. op.number) result ≡ range_with_len 130 16 }
 {
     [
@@ -662,7 +662,7 @@ pub const VCMPSS_B: RegVvvvRmImm<u8> = with_imm!(RegVvvvRmImm, 148);
 pub const VCMPSD_B: RegVvvvRmImm<u8> = with_imm!(RegVvvvRmImm, 149);
 
 /// VEX comparisons. (Intel SDM, volume 2, `CMPPS`, `CMPPD`, `CMPSS` and `CMPSD`.)
-pub fn simd_vcmp() -> [Op; 4]
+pub fn from_vcmpps_b() -> [Op; 4]
     ensures { map (λ op. op.number) result ≡ range_with_len 146 4 }
 {
     [
@@ -679,7 +679,7 @@ pub const VCVTPD2PS_A: RegRm = without_imm!(RegRm, 150);
 pub const VCVTTPD2DQ_A: RegRm = without_imm!(RegRm, 151);
 
 /// Conversions. (Intel SDM, volume 2, `CVTPD2PS` and `CVTTPD2DQ`.)
-pub fn simd_vcvt() -> [Op; 2]
+pub fn from_vcvtpd2ps_a() -> [Op; 2]
     ensures { map (λ op. op.number) result ≡ range_with_len 150 2 }
 {
     [
@@ -694,7 +694,7 @@ pub const MULXL_RVM: RegVvvvRm = without_imm!(RegVvvvRm, 152);
 pub const MULXQ_RVM: RegVvvvRm = without_imm!(RegVvvvRm, 153);
 
 /// `mulx`. (Intel SDM, volume 2, `MULX`.)
-pub fn arith_mulx() -> [Op; 2]
+pub fn from_mulxl_rvm() -> [Op; 2]
     ensures { map (λ op. op.number) result ≡ range_with_len 152 2 }
 {
     [
@@ -713,7 +713,7 @@ pub const NOPL_RM: Rm = without_imm!(Rm, 156);
 pub const NOPW_RM: Rm = without_imm!(Rm, 157);
 
 /// Instructions that do nothing. (Intel SDM, volume 2, `NOP`, table 4-12.)
-pub fn nop_nop() -> [Op; 4]
+pub fn from_nop_1b() -> [Op; 4]
     ensures { map (λ op. op.number) result ≡ range_with_len 154 4 }
 {
     [

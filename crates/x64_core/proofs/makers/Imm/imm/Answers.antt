@@ -1,7 +1,7 @@
-use Rattle.std.proofs.Common.{refl, ◌∙◌}
+use Rattle.std.proofs.Common.{refl}
 use Rattle.x64_core.specs.declared.place.CorePlace.TheVariants.{Absent}
 use Rattle.x64_core.specs.declared.shapes.OpFields.TheVariants.{Bare}
-use Rattle.x64_core.proofs.Makers.{fits_by, view_by}
+use Rattle.x64_core.proofs.MadeOf.{fits_by, view_by}
 use Rattle.x64_core.proofs.makers.Imm.imm.Goals as goal
 
 pub invariant_of-result : goal.invariant_of-result

@@ -1,7 +1,7 @@
-use Rattle.std.proofs.Common.{refl, ◌∙◌}
+use Rattle.std.proofs.Common.{refl}
 use Rattle.x64_core.specs.declared.place.CorePlace.TheVariants.{Register}
 use Rattle.x64_core.specs.declared.shapes.OpFields.TheVariants.{RegRm}
-use Rattle.x64_core.proofs.Makers.{fits_by, view_by}
+use Rattle.x64_core.proofs.MadeOf.{fits_by, view_by}
 use Rattle.x64_core.proofs.makers.RegRmImm.regs.Goals as goal
 
 pub invariant_of-result : goal.invariant_of-result

@@ -2,7 +2,7 @@ use Rattle.std.proofs.Common.{refl}
 use Rattle.x64_core.specs.declared.place.CorePlace.TheVariants.{Register}
 use Rattle.x64_core.specs.declared.shapes.OpFields.TheVariants.{Rm}
 use Rattle.x64_core.specs.declared.shapes.OpImm.TheVariants.{None}
-use Rattle.x64_core.proofs.Makers.{fits_by, view_by}
+use Rattle.x64_core.proofs.MadeOf.{fits_by, view_by}
 use Rattle.x64_core.proofs.makers.Rm.reg.Goals as goal
 
 pub invariant_of-result : goal.invariant_of-result

@@ -17,7 +17,7 @@ use Rattle.x64_core.specs.declared.place.CorePlace.{CorePlace}
 use Rattle.x64_core.specs.declared.place.CorePlace.TheVariants.{Absent, Register, Base, BaseAndIndex, Relative}
 use Rattle.cax64_table.specs.Numbers as line
 use Rattle.x64_core.proofs.Forms.{place_back}
-use Rattle.x64_core.proofs.Makers.{facts}
+use Rattle.x64_core.proofs.MadeOf.{facts}
 
 -- The registers of an instruction are as they have to be where its numbers are below 16, and an index isn't number 4.
 
