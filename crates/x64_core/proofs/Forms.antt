@@ -17,6 +17,7 @@ use Rattle.cax64_encoder.specs.declared.number.Number.TheVariants.{Settled}
 use Rattle.cax64_encoder.specs.declared.numbered.NumberedForm.{NumberedForm}
 use Rattle.cax64_machine_code.specs.Len.{line_len}
 use Rattle.cax64_machine_code.specs.Line.{imm_bytes}
+use Rattle.cax64_machine_code.specs.Reading.{PartsOf}
 use Rattle.cax64_machine_code.specs.declared.line.ImmField.{ImmField}
 use Rattle.cax64_machine_code.specs.declared.line.Line.{Line}
 use Rattle.cax64_machine_code.specs.declared.line.PlaceField.{PlaceField}
@@ -204,4 +205,13 @@ pub encodes_core : (c : Core) (offsets : ℕ → Option ℤ) (acts : List Action
 encodes_core c offsets acts found given disp e f d h = rw (parts_are c offsets, place_back c.place) at (rw (e, f, d) at h)
 
 pub length_core : (c : Core) (offsets : ℕ → Option ℤ) (acts : List Action) (found : Line) (given : NumberedForm) (disp : ℤ) → found ≡ core_line c.op.number → given ≡ core_form c → disp ≡ displacement_in offsets (place_operand c.place) → length (all_bytes acts) ≡ line_len found (line_form_parts plain.enc found disp (form_named found given)) → length (all_bytes acts) ≡ core_len offsets (core_view c)
-length_core c offsets acts found given disp e f d h = rw (parts_are c offsets) at (rw (e, f, d) at h)
+length_core c offsets acts found given disp e f d h =
+    (rw (e, f, d) at h) ∙ ap (λ (p : PartsOf Line). line_len (core_line c.op.number) p) (parts_are c offsets)
+
+-- The same of what is equal to its line and its form.
+
+pub fits_given : (c : Core) (found : Line) (given : NumberedForm) → found ≡ core_line c.op.number → given ≡ core_form c → fits found (form_named found given) ≡ true
+fits_given c found given e f = rw (e, f) (form_fits c)
+
+pub word_given : (c : Core) (found : Line) (given : NumberedForm) → found ≡ core_line c.op.number → given ≡ core_form c → given.imm ≡ optional_imm_word (imm_named found.imm given.imm)
+word_given c found given e f = rw (e, f) (form_word c)

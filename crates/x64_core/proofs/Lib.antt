@@ -3,3 +3,4 @@ pub mod MadeOf
 pub mod Forms
 pub mod Reals
 pub mod Runs
+pub mod Renames

@@ -64,17 +64,17 @@ notices_counted (Some (ImmRegRegShift base index scale simm32 None)) at reading 
 notices_counted (Some (ImmRegRegShift base index scale simm32 (Some code))) at reading = refl
 notices_counted (Some (RipRelative target)) at reading = refl
 
-bytes_are : {acts : List Action} {n : ℕ} → length (all_bytes acts) ≡ n → byte_total acts ≡ n
-bytes_are {acts} len = size_is_length acts ∙ len
+bytes_are : (acts : List Action) {n : ℕ} → length (all_bytes acts) ≡ n → byte_total acts ≡ n
+bytes_are acts len = size_is_length acts ∙ len
 
 notices_are : {parts : PartsOf Line} {memory : Option (Amode ℕ)} {acts : List Action} → EncodesLine parts memory acts → notice_total acts ≡ memory_notices memory
 notices_are {parts} {memory} {acts} h = notes_is_length acts 0 ∙ ap length (h.notices 0) ∙ notices_counted memory 0 h.reads.reading
 
 pub core_room : {parts : PartsOf Line} {memory : Option (Amode ℕ)} {acts : List Action} {n : ℕ} {s t : State} {r : Result (Unit {0}) SinkError} → EncodesLine parts memory acts → length (all_bytes acts) ≡ n → Ran acts s t r → HasRoom s.byte_room n → HasRoom s.notice_room (memory_notices memory) → IsOk r
-core_room h len run bytes told = ran_succeeds run (rw (bytes_are len) bytes) (rw (notices_are h) told)
+core_room {acts = acts} h len run bytes told = ran_succeeds run (rw (bytes_are acts len) bytes) (rw (notices_are h) told)
 
 pub core_bytes_fall : {acts : List Action} {n : ℕ} {s t : State} {r : Result (Unit {0}) SinkError} → length (all_bytes acts) ≡ n → Ran acts s t r → FallsBy s.byte_room t.byte_room n
-core_bytes_fall len run k room = ran_byte_room run k (rw (bytes_are len) room)
+core_bytes_fall {acts = acts} len run k room = ran_byte_room run k (rw (bytes_are acts len) room)
 
 pub core_notices_fall : {parts : PartsOf Line} {memory : Option (Amode ℕ)} {acts : List Action} {s t : State} {r : Result (Unit {0}) SinkError} → EncodesLine parts memory acts → Ran acts s t r → FallsBy s.notice_room t.notice_room (memory_notices memory)
 core_notices_fall h run k room = ran_notice_room run k (rw (notices_are h) room)

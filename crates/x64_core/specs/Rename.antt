@@ -1,4 +1,4 @@
-use Rattle.std.specs.Prelude.{ℕ, option_map}
+use Rattle.std.specs.Prelude.{ℕ, Bool, List, if◌then◌else◌, option_map, slice_index}
 use Rattle.cax64_address.specs.declared.amode.Amode.{Amode}
 use Rattle.cax64_address.specs.declared.amode.Amode.TheVariants.{ImmReg, ImmRegRegShift, RipRelative}
 use Rattle.cax64_encoder.specs.Number.{number_value}
@@ -8,6 +8,9 @@ use Rattle.cax64_encoder.specs.declared.role.PlaceOperand.{PlaceOperand}
 use Rattle.x64_core.specs.View.{CoreView}
 
 -- Other registers in the place of all that an instruction of the core holds. All else stays.
+
+abbrev pub home_if : Bool → List ℕ → ℕ → ℕ
+home_if present homes reg = if present then slice_index homes reg else reg
 
 abbrev pub renamed_amode : (ℕ → ℕ) → Amode ℕ → Amode ℕ
 renamed_amode home (ImmReg base simm32 trap) = ImmReg (home base) simm32 trap

@@ -2,7 +2,7 @@
 
 ghost use Rattle.std.specs.Prelude.{◌≡◌, ◌≤◌, ◌^◌, nat_lt, true, false, IfErr, IfOk, None, OnOk, Some, option_map, pos};
 ghost use Rattle.cax64_encoder.specs.ImmActions.{imm_named};
-ghost use Rattle.cax64_machine_code.specs.Line.{imm_bytes};
+ghost use Rattle.cax64_machine_code.specs.Line.{imm_bytes, same_bool};
 ghost use Rattle.cax64_operand.specs.Immediate.{imm_value};
 ghost use Rattle.x64_core.specs.Fits.{place_fits};
 ghost use Rattle.x64_core.specs.Refusal.{imm_refusal, refusal, unsigned_below};
@@ -15,6 +15,13 @@ use crate::op::Op;
 use crate::place::CorePlace;
 use crate::refused::Shape;
 use crate::shapes::{OpFields, OpImm};
+
+/// Whether something is given exactly where it stands.
+fn agree(stands: bool, given: bool) -> bool
+    ensures { result ≡ same_bool stands given }
+{
+    stands == given
+}
 
 /// Whether the place is one that a line of these fields takes.
 fn takes_place(fields: OpFields, place: &CorePlace) -> bool
@@ -97,10 +104,10 @@ impl Core {
         ensures view { IfOk result (λ c. core_view c ≡ record { op = op.number; reg = reg; vvvv = vvvv; place = place_operand place; imm = imm }) }
     {
         let shape = op.shape();
-        if shape.fields.has_reg() != reg.is_some() {
+        if !agree(shape.fields.has_reg(), reg.is_some()) {
             return Err(Shape::Register);
         }
-        if shape.fields.has_vvvv() != vvvv.is_some() {
+        if !agree(shape.fields.has_vvvv(), vvvv.is_some()) {
             return Err(Shape::Vvvv);
         }
         if !takes_place(shape.fields, &place) {

@@ -45,8 +45,10 @@ pub enum CorePlace {
 
 impl CorePlace {
     ghost use Rattle.x64_core.specs.Core.{place_visited};
+    ghost use Rattle.x64_core.specs.Fits.{place_fits};
     ghost use Rattle.x64_core.specs.Rename.{renamed_place};
     ghost use Rattle.x64_core.specs.View.{place_operand};
+    ghost use Rattle.x64_core.specs.declared.shapes.OpFields.{OpFields};
 
     /// Memory of this address.
     #[inline(always)]
@@ -248,7 +250,8 @@ impl CorePlace {
     /// With others in the place of its registers, each by its number in this table.
     #[inline(always)]
     pub(crate) fn renamed(&self, homes: &[u8; 256]) -> CorePlace
-        ensures { place_operand result ≡ renamed_place (slice_index homes.now) (place_operand self.now) }
+        ensures operand { place_operand result ≡ renamed_place (slice_index homes.now) (place_operand self.now) }
+        ensures fits { (fields : OpFields) → place_fits fields result ≡ place_fits fields self.now }
     {
         match *self {
             CorePlace::Absent => CorePlace::Absent,
