@@ -5,7 +5,6 @@ use cax64_address::amode::{Amode, Scale};
 use cax64_address::offset::{AmodeOffset, AmodeOffsetPlusKnownOffset};
 use cax64_encoder::{EncodeError, Fault};
 use cax64_sink::{FixedSink, Recorder, SinkError};
-use std::alloc::Global;
 use x64_core::ops::arithmetic::{ADDQ_MI_SXB, ADDQ_RM, ADDW_I};
 use x64_core::ops::control::RETQ_ZO;
 use x64_core::ops::moves::{LEAQ_RM, MOVQ_MI_SXL, MOVQ_RM};
@@ -89,7 +88,7 @@ fn late_offsets(rt: HostRuntime) {
         },
     );
     assert!(rt; fault_of(&core) == Some(Fault::Unknown(9)));
-    let mut recorder = Recorder::new(Global);
+    let mut recorder = Recorder::new(rt.alloc());
     recorder.set_offset(9, 1);
     assert!(rt; core.first_fault(&recorder) == Some(Fault::Range));
     recorder.set_offset(9, -1);

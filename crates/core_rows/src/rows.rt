@@ -3,7 +3,6 @@
 use crate::words::{at, has_bytes, indexed};
 use cax64_address::amode::{Amode, Scale};
 use cax64_sink::{DeferredTarget, Label, Notice, Recorder};
-use std::alloc::Global;
 use x64_core::ops::arithmetic::{ADDQ_MI_SXB, CMPQ_RM, SUBQ_MI_SXL, TESTL_MR};
 use x64_core::ops::bits::POPCNTL_RM;
 use x64_core::ops::conditions::{CMOVGQ_RM, SETL_M};
@@ -77,7 +76,7 @@ fn scalars(rt: HostRuntime) {
 fn a_label_is_told(rt: HostRuntime) {
     let target = DeferredTarget::Label(Label(3));
     let core = POPCNTL_RM.mem(0, Amode::RipRelative { target });
-    let mut recorder = Recorder::new(Global);
+    let mut recorder = Recorder::new(rt.alloc());
     assert!(rt; core.notice_count() == 1);
     assert!(rt; core.encode_checked(&mut recorder) == Ok(()));
     assert!(rt; recorder.bytes() == [0xF3, 0x0F, 0xB8, 0x05, 0, 0, 0, 0].as_slice());
