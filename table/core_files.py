@@ -3,7 +3,7 @@
 from itertools import groupby
 
 from core_lines import CORE, CoreGroup, immediate_type, shape_of
-from formatting import in_order, use
+from formatting import CALL_WIDTH, in_order, use
 from rows import hexadecimal, packed
 
 SPECS = "crates/x64_core/specs/Lines.antt"
@@ -19,14 +19,16 @@ CLASSES = {"general": "General", "general or memory": "General", "fixed": "Gener
            "vector or memory": "Vector", "memory": "None", "immediate": "None"}
 VECTOR_BITS = 128
 
-SETS = {(): "no_legacy", ("F0",): "F0", ("66", "F0"): "F0_66", ("66",): "only_66", ("F2",): "only_F2", ("F3",): "only_F3",
-        ("66", "F3"): "with_66_F3", ("66", "F2"): "with_66_F2"}
+SETS = {(): "no_legacy", ("F0",): "F0", ("66", "F0"): "F0_66", ("66",): "only_66", ("F2",): "only_F2", ("F3",): "only_F3"}
+
+# The words of Rows.antt that lines are said in.
+WORDS = ("all_rows", "plain", "without_rex", "any", "W0", "W1", "F0", "F0_66", "only_66", "only_F2", "only_F3", "byte", "escaped")
 
 HEAD = """\
 use Rattle.std.specs.Prelude.{true, false, List, [], ◌∷◌, ◌++◌}
 use Rattle.cax64_machine_code.specs.Prefix.{no_legacy}
 use Rattle.cax64_machine_code.specs.ReadLine.{lines_of}
-use Rattle.cax64_machine_code.specs.Rows.{all_rows, plain, without_rex, any, W0, W1, only_66, only_F2, only_F3, byte, escaped}
+use Rattle.cax64_machine_code.specs.Rows.{@}
 use Rattle.cax64_machine_code.specs.declared.line.LegacySet.{LegacySet}
 use Rattle.cax64_machine_code.specs.declared.line.Line.{Line}
 use Rattle.cax64_machine_code.specs.declared.line.ImmField.TheVariants.{NoImm, Imm, Simm}
@@ -36,16 +38,30 @@ use Rattle.cax64_machine_code.specs.declared.line.TailField.TheVariants.{NoTail,
 
 -- The lines of the core: those of all rows, in the order of `all_rows`, and behind them a line for each instruction of
 -- the core, in the words of the rows' own table. (Intel SDM, volume 2, chapters 3 to 5, the pages of the named
--- instructions.)
+-- instructions.)"""
 
--- the prefixes 66 and F3
-abbrev pub with_66_F3 : LegacySet
-with_66_F3 = record { lock = false; operand_size = true; repne = false; rep = true }""".split("\n")
+# The bits of a set of legacy prefixes, in the order of the record.
+BITS = (("lock", "F0"), ("operand_size", "66"), ("repne", "F2"), ("rep", "F3"))
+
+
+def set_name(prefixes):
+    """The word of a set of legacy prefixes: that of Rows.antt, or one that is defined beside the lines."""
+    return SETS.get(prefixes) or f"with_{'_'.join(prefixes)}"
+
+
+def set_definition(prefixes):
+    bits = "; ".join(f"{name} = {str(prefix in prefixes).lower()}" for name, prefix in BITS)
+    return [
+        "",
+        f"-- the prefixes {' and '.join(prefixes)}",
+        f"abbrev pub {set_name(prefixes)} : LegacySet",
+        f"{set_name(prefixes)} = record {{ {bits} }}",
+    ]
 
 
 def prefix_words(code):
     kind = "plain" if code.may_have_rex else "without_rex"
-    return f"{kind} {SETS[tuple(sorted(code.prefixes))]}"
+    return f"{kind} {set_name(tuple(sorted(code.prefixes)))}"
 
 
 def tail_words(line):
@@ -76,17 +92,26 @@ def name_of(file):
     return f"{file}_lines"
 
 
-def spec(core):
-    """A list for each file of constants, and all of them behind one another."""
-    lines = list(HEAD)
+def lists(core):
+    """A list for each file of constants."""
     for file in core.files:
-        lines += ["", f"unfoldable pub {name_of(file)} : List Line", f"{name_of(file)} ="]
+        yield from ["", f"unfoldable pub {name_of(file)} : List Line", f"{name_of(file)} ="]
         for line in core.of_file(file):
-            lines.append(f"    {line_words(line)} ∷ -- {line.name}")
-        lines.append("    []")
+            yield f"    {line_words(line)} ∷  -- {line.name}"
+        yield "    []"
+
+
+def spec(core):
+    """The lists of lines, and all of them behind one another."""
+    found = list(lists(core))
+    used = {word for line in found for word in line.replace("(", " ").split()}
+    words = ", ".join(word for word in WORDS if word == "all_rows" or word in used)
+    lines = HEAD.replace("@", words).split("\n")
+    for prefixes in sorted({tuple(sorted(line.code.prefixes)) for line in core.lines}):
+        if prefixes not in SETS:
+            lines += set_definition(prefixes)
     parts = " ++ (".join(["lines_of all_rows", *map(name_of, core.files)]) + ")" * len(core.files)
-    lines += ["", "-- all of them", "unfoldable pub core_lines : List Line", f"core_lines = {parts}"]
-    return lines
+    return [*lines, *found, "", "-- all of them", "unfoldable pub core_lines : List Line", f"core_lines = {parts}"]
 
 
 def numbers(rows):
@@ -185,7 +210,8 @@ def constant(line, number):
 def group_function(name, doc, lines, first):
     """The lines of a group, which are those of their numbers."""
     calls = [f"{constant_name(line)}.op()" for line in lines]
-    body = [f"    [{', '.join(calls)}]"] if len(calls) == 1 else ["    [", *(f"        {call}," for call in calls), "    ]"]
+    is_short = len(calls) == 1 or len(", ".join(calls)) <= CALL_WIDTH
+    body = [f"    [{', '.join(calls)}]"] if is_short else ["    [", *(f"        {call}," for call in calls), "    ]"]
     return [
         f"/// {doc}",
         f"pub fn {name}() -> [Op; {len(lines)}]",

@@ -1,5 +1,5 @@
-use Rattle.std.proofs.Common.{◌≡◌, ℕ, ◌^◌, refl, sym, ap, ◌∙◌, arith, Bool, true, false, Option, Some, None, ℤ, pos, negsuc, w8, w32, FitsSigned, List, length}
-use Rattle.std.specs.Int.{cast_signed, cast_unsigned}
+use Rattle.std.proofs.Common.{◌≡◌, ℕ, ◌^◌, refl, sym, ap, ◌∙◌, arith, Bool, true, false, Option, ℤ, pos, negsuc, w8, w32, FitsSigned, List, length}
+use Rattle.std.specs.Int.{cast_signed}
 use Rattle.std.specs.Prelude.{option_map, ◌&&◌, not, nat_lt}
 use Rattle.std.proofs.Math.Facts.{sfits_to_z}
 use Rattle.std.proofs.lemmas.Bool.{and_parts, ltb-true}
@@ -12,13 +12,12 @@ use Rattle.cax64_encoder.specs.ImmActions.{imm_named, optional_imm_word}
 use Rattle.cax64_encoder.specs.Meant.{low}
 use Rattle.cax64_encoder.specs.Number.{number_value}
 use Rattle.cax64_encoder.specs.Numbered.{plain, numbered_place, place_named, form_named}
-use Rattle.cax64_encoder.specs.Place.{displacement_in, memory_in, place_read}
+use Rattle.cax64_encoder.specs.Place.{displacement_in, memory_in}
 use Rattle.cax64_encoder.specs.declared.number.Number.TheVariants.{Settled}
 use Rattle.cax64_encoder.specs.declared.numbered.NumberedForm.{NumberedForm}
 use Rattle.cax64_machine_code.specs.Len.{line_len}
 use Rattle.cax64_machine_code.specs.Line.{imm_bytes}
 use Rattle.cax64_machine_code.specs.Reading.{PartsOf}
-use Rattle.cax64_machine_code.specs.declared.line.ImmField.{ImmField}
 use Rattle.cax64_machine_code.specs.declared.line.Line.{Line}
 use Rattle.cax64_machine_code.specs.declared.line.PlaceField.{PlaceField}
 use Rattle.cax64_machine_code.specs.declared.line.PlaceField.TheVariants.{Memory, RegisterOrMemory, Register8OrMemory}
@@ -35,10 +34,10 @@ use Rattle.cax64_sink.specs.Call.{Action}
 use Rattle.cax64_sink.specs.Run.{all_bytes}
 use Rattle.cax64_table.specs.Numbers as line
 use Rattle.x64_core.specs.Core.{core_meant, core_len}
-use Rattle.x64_core.specs.Fits.{core_fits, place_fits}
+use Rattle.x64_core.specs.Fits.{place_fits}
 use Rattle.x64_core.specs.Form.{core_form}
 use Rattle.x64_core.specs.Line.{core_line}
-use Rattle.x64_core.specs.Shape.{shape_of, has_reg, has_vvvv, has_mem, has_rm, imm_field, tail_takes, field_takes}
+use Rattle.x64_core.specs.Shape.{shape_of, has_reg, has_mem, has_rm, imm_field, tail_takes, field_takes}
 use Rattle.x64_core.specs.View.{core_view, place_operand, when}
 use Rattle.x64_core.specs.declared.instruction.Core.{Core}
 use Rattle.x64_core.specs.declared.place.CorePlace.{CorePlace}
@@ -47,7 +46,7 @@ use Rattle.x64_core.specs.declared.shapes.OpFields.{OpFields}
 use Rattle.x64_core.specs.declared.shapes.OpFields.TheVariants.{Bare, Rm, Mem, RegRm, RegMem, RegVvvvRm}
 use Rattle.x64_core.specs.declared.shapes.OpImm.{OpImm}
 use Rattle.x64_core.specs.declared.shapes.OpImm.TheVariants as imm
-use Rattle.x64_core.proofs.MadeOf.{facts, Facts}
+use Rattle.x64_core.proofs.MadeOf.{facts}
 
 -- What the encoder is given has the line's shape.
 

@@ -1,5 +1,5 @@
-use Rattle.std.proofs.Common.{◌≡◌, ℕ, ◌<◌, refl, sym, ap, ◌∙◌, Bool, true, false, Option, Some, None, ℤ}
-use Rattle.std.specs.Prelude.{option_map, ◌&&◌, not, ◌==◌}
+use Rattle.std.proofs.Common.{◌≡◌, ℕ, refl, sym, ap, ◌∙◌, Bool, true, false}
+use Rattle.std.specs.Prelude.{option_map, not, ◌==◌}
 use Rattle.std.proofs.Common.{arith}
 use Rattle.std.proofs.lemmas.Bool.{and_parts}
 use Rattle.std.proofs.lemmas.Bool.Decides.{nat_tests}
@@ -9,8 +9,6 @@ use Rattle.cax64_encoder.specs.declared.role.PlaceOperand.TheVariants.{Memory}
 use Rattle.cax64_machine_code.specs.declared.line.ImmField.{ImmField}
 use Rattle.cax64_machine_code.specs.declared.line.ImmField.TheVariants.{NoImm, Imm, Simm}
 use Rattle.cax64_machine_code.specs.declared.line.Line.{Line}
-use Rattle.cax64_machine_code.specs.declared.line.PlaceField.{PlaceField}
-use Rattle.cax64_machine_code.specs.declared.line.PlaceField.TheVariants as place_field
 use Rattle.cax64_machine_code.specs.declared.line.PrefixField.{PrefixField}
 use Rattle.cax64_machine_code.specs.declared.line.PrefixField.TheVariants.{LegacyField, VexField}
 use Rattle.cax64_machine_code.specs.declared.line.RegField.TheVariants as reg_field
@@ -21,7 +19,7 @@ use Rattle.cax64_operand.specs.Immediate.{imm_value}
 use Rattle.cax64_table.specs.Numbers as line
 use Rattle.x64_core.specs.Fits.{core_fits, place_fits}
 use Rattle.x64_core.specs.Line.{core_line}
-use Rattle.x64_core.specs.Shape.{shape_of, has_shape, has_reg, has_vvvv, has_mem, has_rm, imm_field, tail_takes, prefix_takes, field_takes, same_imm}
+use Rattle.x64_core.specs.Shape.{shape_of, has_shape, has_reg, has_vvvv, has_mem, imm_field, tail_takes, prefix_takes, field_takes, same_imm}
 use Rattle.x64_core.specs.View.{CoreView, place_operand, when}
 use Rattle.x64_core.specs.declared.op.Op.{Op}
 use Rattle.x64_core.specs.declared.place.CorePlace.{CorePlace}

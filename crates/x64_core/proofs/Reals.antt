@@ -1,5 +1,5 @@
-use Rattle.std.proofs.Common.{◌≡◌, ℕ, refl, sym, ap, ◌∙◌, arith, Bool, true, false, Option, Some, None, ℤ}
-use Rattle.std.specs.Prelude.{option_map, ◌&&◌, ◌||◌, ◌==◌, not, nat_lt}
+use Rattle.std.proofs.Common.{◌≡◌, ℕ, refl, sym, ap, arith, Bool, true, false, Option, ℤ}
+use Rattle.std.specs.Prelude.{◌&&◌, ◌||◌, ◌==◌, not, nat_lt}
 use Rattle.std.proofs.lemmas.Bool.{and_parts}
 use Rattle.std.proofs.lemmas.Bool.Decides.{nat_tests}
 use Rattle.cax64_encoder.specs.Fault.{all_met}
@@ -10,7 +10,7 @@ use Rattle.x64_core.specs.Core.{is_encodable, register_before, place_visited, vi
 use Rattle.x64_core.specs.Fits.{place_fits}
 use Rattle.x64_core.specs.Form.{core_form}
 use Rattle.x64_core.specs.Line.{core_line}
-use Rattle.x64_core.specs.Shape.{shape_of, has_reg, has_vvvv, imm_field}
+use Rattle.x64_core.specs.Shape.{shape_of, has_reg, has_vvvv}
 use Rattle.x64_core.specs.View.{core_view, place_operand, when}
 use Rattle.x64_core.specs.declared.instruction.Core.{Core}
 use Rattle.x64_core.specs.declared.place.CorePlace.{CorePlace}

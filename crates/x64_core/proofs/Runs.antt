@@ -1,9 +1,9 @@
-use Rattle.std.proofs.Common.{◌≡◌, ◌≤◌, ℕ, refl, sym, ap, ◌∙◌, arith, true, List, length, Result, Ok, Err, Option, Some, None}
+use Rattle.std.proofs.Common.{◌≡◌, ◌≤◌, ℕ, refl, sym, ap, ◌∙◌, arith, List, length, Result, Ok, Err, Option, Some, None}
 use Rattle.std.specs.Prelude.{OnOk, OnErr, IsOk, Contains}
 use Rattle.std.proofs.lemmas.List.Elements.{Contains-get_or}
 use Rattle.cax64_address.specs.declared.amode.Amode.{Amode}
 use Rattle.cax64_address.specs.declared.amode.Amode.TheVariants.{ImmReg, ImmRegRegShift, RipRelative}
-use Rattle.cax64_encoder.specs.AddsLine.{AddsLine, LeavesLine}
+use Rattle.cax64_encoder.specs.AddsLine.{AddsLine}
 use Rattle.cax64_encoder.specs.EncodesLine.{EncodesLine, line_notices_of}
 use Rattle.cax64_encoder.specs.Notices.{memory_notices}
 use Rattle.cax64_encoder.proofs.LineRuns.{line_adds}
@@ -21,7 +21,7 @@ use Rattle.cax64_sink.specs.Sink.{State}
 use Rattle.cax64_sink.specs.declared.SinkError.{SinkError}
 use Rattle.cax64_sink.proofs.Rooms.{ran_succeeds, ran_byte_room, ran_notice_room, size_is_length, notes_is_length}
 use Rattle.x64_core.specs.Adds.{AddsCore, LeavesCore}
-use Rattle.x64_core.specs.Core.{core_meant, core_len, core_notices}
+use Rattle.x64_core.specs.Core.{core_meant, core_len}
 use Rattle.x64_core.specs.Line.{core_line, no_line}
 use Rattle.x64_core.specs.Lines.{core_lines, arithmetic_lines, moves_lines, multiplication_lines, shifts_lines, conditions_lines, control_lines, bits_lines, scalar_lines}
 use Rattle.x64_core.specs.View.{CoreView, core_view}

@@ -4,7 +4,7 @@ use Rattle.cax64_machine_code.specs.Fields.{IsBytes}
 use Rattle.cax64_machine_code.specs.ReadLine.{LineReading, read_line, read_of}
 use Rattle.cax64_shortest.specs.LineParts.{line_parts}
 use Rattle.cax64_sink.specs.Sink.{State}
-use Rattle.x64_core.specs.Core.{core_meant, LineMeant}
+use Rattle.x64_core.specs.Core.{core_meant}
 use Rattle.x64_core.specs.Lines.{core_lines}
 use Rattle.x64_core.specs.View.{CoreView}
 

@@ -1,4 +1,4 @@
-use Rattle.std.specs.Prelude.{ℕ, Bool, Option, Some, None, option_map, ℤ, List, [], ◌∷◌, ◌++◌}
+use Rattle.std.specs.Prelude.{ℕ, Bool, Option, Some, None, option_map, ℤ, List, [], ◌∷◌}
 use Rattle.cax64_address.specs.declared.amode.Amode.{Amode}
 use Rattle.cax64_address.specs.declared.amode.Amode.TheVariants.{ImmReg, ImmRegRegShift, RipRelative}
 use Rattle.cax64_encoder.specs.Fault as fault
@@ -15,7 +15,6 @@ use Rattle.cax64_machine_code.specs.Line.{imm_bytes}
 use Rattle.cax64_machine_code.specs.Reading.{PartsOf}
 use Rattle.cax64_machine_code.specs.declared.line.Line.{Line}
 use Rattle.cax64_machine_code.specs.declared.reading.RegView.TheVariants.{Low}
-use Rattle.cax64_sink.specs.Sink.{State}
 use Rattle.x64_core.specs.Line.{core_line}
 use Rattle.x64_core.specs.View.{CoreView}
 

@@ -1,4 +1,4 @@
-use Rattle.std.specs.Prelude.{ℕ, Bool, true, false, not, ◌^◌, ◌&&◌, ◌==◌, nat_lt, nat_le, if◌then◌else◌, Option, Some, None, is_some, ℤ, pos, negsuc}
+use Rattle.std.specs.Prelude.{ℕ, Bool, true, false, ◌^◌, nat_lt, if◌then◌else◌, Option, Some, None, is_some, ℤ, pos, negsuc}
 use Rattle.cax64_machine_code.specs.Line.{same_bool}
 use Rattle.x64_core.specs.Fits.{place_fits}
 use Rattle.x64_core.specs.Shape.{has_reg, has_vvvv}

@@ -1,5 +1,4 @@
-use Rattle.std.specs.Prelude.{ℕ, Bool, true, false, not, ◌&&◌, ◌==◌, Option, slice_index_or}
-use Rattle.cax64_machine_code.specs.Line.{same_bool}
+use Rattle.std.specs.Prelude.{ℕ, Bool, true, false, not, ◌&&◌, ◌==◌, slice_index_or}
 use Rattle.cax64_machine_code.specs.declared.line.ImmField.{ImmField}
 use Rattle.cax64_machine_code.specs.declared.line.ImmField.TheVariants.{NoImm, Imm, Simm}
 use Rattle.cax64_machine_code.specs.declared.line.Line.{Line}

@@ -106,9 +106,5 @@ pub const LEAQ_RM: RegMem = without_imm!(RegMem, 329);
 pub fn lea() -> [Op; 3]
     ensures { map (λ op. op.number) result ≡ range_with_len 327 3 }
 {
-    [
-        LEAW_RM.op(),
-        LEAL_RM.op(),
-        LEAQ_RM.op(),
-    ]
+    [LEAW_RM.op(), LEAL_RM.op(), LEAQ_RM.op()]
 }

@@ -147,10 +147,5 @@ pub const CLTD_ZO: Bare = without_imm!(Bare, 366);
 pub fn convert() -> [Op; 4]
     ensures { map (λ op. op.number) result ≡ range_with_len 363 4 }
 {
-    [
-        CBTW_ZO.op(),
-        CWTL_ZO.op(),
-        CWTD_ZO.op(),
-        CLTD_ZO.op(),
-    ]
+    [CBTW_ZO.op(), CWTL_ZO.op(), CWTD_ZO.op(), CLTD_ZO.op()]
 }

@@ -339,12 +339,7 @@ pub const XCHGQ_RM: RegMem = without_imm!(RegMem, 82);
 pub fn from_xchgb_rm() -> [Op; 4]
     ensures { map (λ op. op.number) result ≡ range_with_len 79 4 }
 {
-    [
-        XCHGB_RM.op(),
-        XCHGW_RM.op(),
-        XCHGL_RM.op(),
-        XCHGQ_RM.op(),
-    ]
+    [XCHGB_RM.op(), XCHGW_RM.op(), XCHGL_RM.op(), XCHGQ_RM.op()]
 }
 
 /// `rolb rm8`.
@@ -360,12 +355,7 @@ pub const ROLQ_M1: Rm = without_imm!(Rm, 86);
 pub fn from_rolb_m1() -> [Op; 4]
     ensures { map (λ op. op.number) result ≡ range_with_len 83 4 }
 {
-    [
-        ROLB_M1.op(),
-        ROLW_M1.op(),
-        ROLL_M1.op(),
-        ROLQ_M1.op(),
-    ]
+    [ROLB_M1.op(), ROLW_M1.op(), ROLL_M1.op(), ROLQ_M1.op()]
 }
 
 /// `rorb rm8`.
@@ -381,12 +371,7 @@ pub const RORQ_M1: Rm = without_imm!(Rm, 90);
 pub fn from_rorb_m1() -> [Op; 4]
     ensures { map (λ op. op.number) result ≡ range_with_len 87 4 }
 {
-    [
-        RORB_M1.op(),
-        RORW_M1.op(),
-        RORL_M1.op(),
-        RORQ_M1.op(),
-    ]
+    [RORB_M1.op(), RORW_M1.op(), RORL_M1.op(), RORQ_M1.op()]
 }
 
 /// `shlb rm8`.
@@ -402,12 +387,7 @@ pub const SHLQ_M1: Rm = without_imm!(Rm, 94);
 pub fn from_shlb_m1() -> [Op; 4]
     ensures { map (λ op. op.number) result ≡ range_with_len 91 4 }
 {
-    [
-        SHLB_M1.op(),
-        SHLW_M1.op(),
-        SHLL_M1.op(),
-        SHLQ_M1.op(),
-    ]
+    [SHLB_M1.op(), SHLW_M1.op(), SHLL_M1.op(), SHLQ_M1.op()]
 }
 
 /// `shrb rm8`.
@@ -423,12 +403,7 @@ pub const SHRQ_M1: Rm = without_imm!(Rm, 98);
 pub fn from_shrb_m1() -> [Op; 4]
     ensures { map (λ op. op.number) result ≡ range_with_len 95 4 }
 {
-    [
-        SHRB_M1.op(),
-        SHRW_M1.op(),
-        SHRL_M1.op(),
-        SHRQ_M1.op(),
-    ]
+    [SHRB_M1.op(), SHRW_M1.op(), SHRL_M1.op(), SHRQ_M1.op()]
 }
 
 /// `sarb rm8`.
@@ -444,12 +419,7 @@ pub const SARQ_M1: Rm = without_imm!(Rm, 102);
 pub fn from_sarb_m1() -> [Op; 4]
     ensures { map (λ op. op.number) result ≡ range_with_len 99 4 }
 {
-    [
-        SARB_M1.op(),
-        SARW_M1.op(),
-        SARL_M1.op(),
-        SARQ_M1.op(),
-    ]
+    [SARB_M1.op(), SARW_M1.op(), SARL_M1.op(), SARQ_M1.op()]
 }
 
 /// `callq rm64`.
@@ -461,10 +431,7 @@ pub const JMPQ_M: Rm = without_imm!(Rm, 104);
 pub fn from_callq_m() -> [Op; 2]
     ensures { map (λ op. op.number) result ≡ range_with_len 103 2 }
 {
-    [
-        CALLQ_M.op(),
-        JMPQ_M.op(),
-    ]
+    [CALLQ_M.op(), JMPQ_M.op()]
 }
 
 /// `andps xmm1, xmm_m128`.
@@ -490,12 +457,7 @@ pub const CMPSD_A: RegRmImm<u8> = with_imm!(RegRmImm, 109);
 pub fn from_cmpps_a() -> [Op; 4]
     ensures { map (λ op. op.number) result ≡ range_with_len 106 4 }
 {
-    [
-        CMPPS_A.op(),
-        CMPPD_A.op(),
-        CMPSS_A.op(),
-        CMPSD_A.op(),
-    ]
+    [CMPPS_A.op(), CMPPD_A.op(), CMPSS_A.op(), CMPSD_A.op()]
 }
 
 /// `andb al, imm8`.
@@ -665,12 +627,7 @@ pub const VCMPSD_B: RegVvvvRmImm<u8> = with_imm!(RegVvvvRmImm, 149);
 pub fn from_vcmpps_b() -> [Op; 4]
     ensures { map (λ op. op.number) result ≡ range_with_len 146 4 }
 {
-    [
-        VCMPPS_B.op(),
-        VCMPPD_B.op(),
-        VCMPSS_B.op(),
-        VCMPSD_B.op(),
-    ]
+    [VCMPPS_B.op(), VCMPPD_B.op(), VCMPSS_B.op(), VCMPSD_B.op()]
 }
 
 /// `vcvtpd2ps xmm1, xmm_m128`.
@@ -682,10 +639,7 @@ pub const VCVTTPD2DQ_A: RegRm = without_imm!(RegRm, 151);
 pub fn from_vcvtpd2ps_a() -> [Op; 2]
     ensures { map (λ op. op.number) result ≡ range_with_len 150 2 }
 {
-    [
-        VCVTPD2PS_A.op(),
-        VCVTTPD2DQ_A.op(),
-    ]
+    [VCVTPD2PS_A.op(), VCVTTPD2DQ_A.op()]
 }
 
 /// `mulxl r32a, r32b, rm32`.
@@ -697,10 +651,7 @@ pub const MULXQ_RVM: RegVvvvRm = without_imm!(RegVvvvRm, 153);
 pub fn from_mulxl_rvm() -> [Op; 2]
     ensures { map (λ op. op.number) result ≡ range_with_len 152 2 }
 {
-    [
-        MULXL_RVM.op(),
-        MULXQ_RVM.op(),
-    ]
+    [MULXL_RVM.op(), MULXQ_RVM.op()]
 }
 
 /// `nop`.
@@ -716,10 +667,5 @@ pub const NOPW_RM: Rm = without_imm!(Rm, 157);
 pub fn from_nop_1b() -> [Op; 4]
     ensures { map (λ op. op.number) result ≡ range_with_len 154 4 }
 {
-    [
-        NOP_1B.op(),
-        NOP_2B.op(),
-        NOPL_RM.op(),
-        NOPW_RM.op(),
-    ]
+    [NOP_1B.op(), NOP_2B.op(), NOPL_RM.op(), NOPW_RM.op()]
 }

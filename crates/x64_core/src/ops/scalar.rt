@@ -67,10 +67,7 @@ pub const UCOMISD_A: RegRm = without_imm!(RegRm, 535);
 pub fn compare() -> [Op; 2]
     ensures { map (λ op. op.number) result ≡ range_with_len 534 2 }
 {
-    [
-        UCOMISS_A.op(),
-        UCOMISD_A.op(),
-    ]
+    [UCOMISS_A.op(), UCOMISD_A.op()]
 }
 
 /// `andpd xmm1, xmm_m128`.
