@@ -8,7 +8,7 @@ from typing import NamedTuple
 from instruction import Instruction, Operand
 from judging import judge_immediate, judge_names, judge_reading, judge_tail, keys_of, width_of
 from reading import ACCESS_WORDS, Refused, code_of, judge_characters, kind_of, name_of, role_of
-from rows import PLACE_MEMORY, PLACE_REGISTER_8, TAIL_REGISTER, TAIL_REGISTER_8, place_field, tail_field, uses_8bit
+from rows import PLACE_MEMORY, PLACE_REGISTER_8, TAIL_REGISTER, TAIL_REGISTER_8, place_field, tail_field
 
 CORE = "table/core.txt"
 COLUMNS = ("name", "code", "operands", "words")
@@ -103,13 +103,11 @@ def judge_8bit(line):
         raise Refused(f"{line.registers[0].name} stands in reg, beside which {line.place.name} may be memory alone")
     if reg == TAIL_REGISTER and place == PLACE_REGISTER_8:
         raise Refused(f"{line.place.name} stands beside a register in reg, where it may be memory alone")
-    if line.code.vex and uses_8bit(line):
-        raise Refused("a VEX prefix has no 8-bit registers")
 
 
 def judge_size(line):
     code = line.code
-    before = 3 if code.vex else len(code.legacy_bytes) + 1
+    before = len(code.legacy_bytes) + 1
     if before > 3:
         raise Refused(f"{' '.join(sorted(code.prefixes))} are more than two prefixes")
     tail = MOST_TAIL if code.has_modrm else 0
@@ -134,12 +132,14 @@ def judge_core_immediate(line):
 
 
 def judge_line(line):
+    if line.code.vex:
+        raise Refused("it has a VEX prefix, and the lines of the core have legacy prefixes alone")
     if line.operands:
         judge_names(line)
     judge_tail(line)
     judge_core_immediate(line)
-    if not line.code.has_modrm and (line.code.w == 1 or line.code.vex):
-        raise Refused("it has a prefix that the encoder writes beside a ModR/M byte alone: W1 or VEX")
+    if not line.code.has_modrm and line.code.w == 1:
+        raise Refused("it has W1, whose REX byte the encoder writes beside a ModR/M byte alone")
     if line.code.has_modrm and not line.code.may_have_rex:
         raise Refused("it has a ModR/M byte, beside which a REX byte has to be allowed")
     judge_8bit(line)
