@@ -9,7 +9,9 @@ use x64_core::ops::multiplication::IMULQ_RM;
 use x64_core::ops::rows::JGE_D32;
 
 const RAX: u8 = 0;
+
 const RSI: u8 = 6;
+
 const RDI: u8 = 7;
 
 /// `fn(a, b) { if a < b { a * b + 1 } else { b } }`, with `a` in `rdi` and `b` in `rsi`.

@@ -32,9 +32,24 @@ fn immediates(rt: HostRuntime) {
 /// `cmpps xmm1, [rax], 2`.
 #[test]
 fn memory(rt: HostRuntime) {
-    assert!(rt; has_bytes(&IMULQ_RMI_SXB.mem(8, at(0, 0), -1), &[0x4C, 0x6B, 0x00, 0xFF]));
-    assert!(rt; has_bytes(&LOCK_ADDQ_MI_SXB.mem(at(0, 0), 1), &[0xF0, 0x48, 0x83, 0x00, 0x01]));
-    assert!(rt; has_bytes(&LOCK_CMPXCHG16B_M.mem(at(0, 0)), &[0xF0, 0x48, 0x0F, 0xC7, 0x08]));
+    assert!(rt;
+        has_bytes(
+            &IMULQ_RMI_SXB.mem(8, at(0, 0), -1),
+            &[0x4C, 0x6B, 0x00, 0xFF]
+        )
+    );
+    assert!(rt;
+        has_bytes(
+            &LOCK_ADDQ_MI_SXB.mem(at(0, 0), 1),
+            &[0xF0, 0x48, 0x83, 0x00, 0x01]
+        )
+    );
+    assert!(rt;
+        has_bytes(
+            &LOCK_CMPXCHG16B_M.mem(at(0, 0)),
+            &[0xF0, 0x48, 0x0F, 0xC7, 0x08]
+        )
+    );
     let sum = indexed(0, 1, Scale::One, 0);
     assert!(rt; has_bytes(&ADDW_MI.mem(sum, 1), &[0x66, 0x81, 0x04, 0x08, 0x01, 0x00]));
     assert!(rt; has_bytes(&CMPPS_A.mem(1, at(0, 0), 2), &[0x0F, 0xC2, 0x08, 0x02]));
@@ -44,10 +59,25 @@ fn memory(rt: HostRuntime) {
 #[test]
 fn places(rt: HostRuntime) {
     assert!(rt; has_bytes(&IDIVQ_M.mem(at(1, 0)), &[0x48, 0xF7, 0x39]));
-    assert!(rt; has_bytes(&MULXQ_RVM.mem(0, 1, at(2, 0)), &[0xC4, 0xE2, 0xF3, 0xF6, 0x02]));
+    assert!(rt;
+        has_bytes(
+            &MULXQ_RVM.mem(0, 1, at(2, 0)),
+            &[0xC4, 0xE2, 0xF3, 0xF6, 0x02]
+        )
+    );
     assert!(rt; has_bytes(&MULXQ_RVM.regs(0, 1, 2), &[0xC4, 0xE2, 0xF3, 0xF6, 0xC2]));
-    assert!(rt; has_bytes(&VCMPPS_B.mem(1, 2, at(0, 0), 7), &[0xC5, 0xE8, 0xC2, 0x08, 0x07]));
-    assert!(rt; has_bytes(&VCMPPS_B.regs(1, 2, 8, 7), &[0xC4, 0xC1, 0x68, 0xC2, 0xC8, 0x07]));
+    assert!(rt;
+        has_bytes(
+            &VCMPPS_B.mem(1, 2, at(0, 0), 7),
+            &[0xC5, 0xE8, 0xC2, 0x08, 0x07]
+        )
+    );
+    assert!(rt;
+        has_bytes(
+            &VCMPPS_B.regs(1, 2, 8, 7),
+            &[0xC4, 0xC1, 0x68, 0xC2, 0xC8, 0x07]
+        )
+    );
     assert!(rt; has_bytes(&IMULQ_RMI_SXB.regs(0, 1, 2), &[0x48, 0x6B, 0xC1, 0x02]));
     assert!(rt; has_bytes(&CMPPS_A.regs(1, 2, 0), &[0x0F, 0xC2, 0xCA, 0x00]));
 }
@@ -90,7 +120,9 @@ fn what_a_line_says(rt: HostRuntime) {
     assert!(rt; op.shape() == shape);
     let core = VCMPPS_B.regs(1, 2, 3, 4);
     assert!(rt; core.op() == VCMPPS_B.op());
-    assert!(rt; (core.reg(), core.vvvv(), core.place()) == (Some(1), Some(2), CorePlace::Register(3)));
+    assert!(rt;
+        (core.reg(), core.vvvv(), core.place()) == (Some(1), Some(2), CorePlace::Register(3))
+    );
     let core = IDIVQ_M.reg(1);
     assert!(rt; (core.reg(), core.vvvv(), core.place()) == (None, None, CorePlace::Register(1)));
 }

@@ -18,7 +18,9 @@ fn operands_of_another_shape(rt: HostRuntime) {
     assert!(rt; Core::new(LEAQ_RM.op(), Some(0), None, register, None) == Err(Shape::Place));
     assert!(rt; Core::new(MOVQ_RM.op(), None, None, register, None) == Err(Shape::Register));
     assert!(rt; Core::new(MOVQ_RM.op(), Some(0), Some(0), register, None) == Err(Shape::Vvvv));
-    assert!(rt; Core::new(MOVQ_RM.op(), Some(0), None, CorePlace::Absent, None) == Err(Shape::Place));
+    assert!(rt;
+        Core::new(MOVQ_RM.op(), Some(0), None, CorePlace::Absent, None) == Err(Shape::Place)
+    );
     assert!(rt; Core::new(MOVQ_RM.op(), Some(0), None, register, Some(1)) == Err(Shape::Immediate));
     assert!(rt; Core::new(ADDQ_MI_SXB.op(), None, None, register, None) == Err(Shape::Immediate));
     assert!(rt; Core::new(RETQ_ZO.op(), None, None, register, None) == Err(Shape::Place));
@@ -32,7 +34,9 @@ fn immediates_out_of_range(rt: HostRuntime) {
     assert!(rt; Core::new(ADDQ_MI_SXB.op(), None, None, rax, Some(128)) == Err(Shape::Range));
     assert!(rt; Core::new(ADDQ_MI_SXB.op(), None, None, rax, Some(-129)) == Err(Shape::Range));
     assert!(rt; Core::new(MOVQ_MI_SXL.op(), None, None, rax, Some(1 << 31)) == Err(Shape::Range));
-    assert!(rt; Core::new(LOCK_ADDL_MI.op(), None, None, memory, Some(1 << 32)) == Err(Shape::Range));
+    assert!(rt;
+        Core::new(LOCK_ADDL_MI.op(), None, None, memory, Some(1 << 32)) == Err(Shape::Range)
+    );
     assert!(rt; Core::new(LOCK_ADDL_MI.op(), None, None, memory, Some(-1)) == Err(Shape::Range));
     let none = CorePlace::Absent;
     assert!(rt; Core::new(ADDW_I.op(), None, None, none, Some(65536)) == Err(Shape::Range));
@@ -42,8 +46,12 @@ fn immediates_out_of_range(rt: HostRuntime) {
 #[test]
 fn operands_of_the_shape(rt: HostRuntime) {
     let rax = CorePlace::Register(0);
-    assert!(rt; Core::new(ADDQ_MI_SXB.op(), None, None, rax, Some(-128)) == Ok(ADDQ_MI_SXB.reg(0, -128)));
-    assert!(rt; Core::new(ADDW_I.op(), None, None, CorePlace::Absent, Some(65535)) == Ok(ADDW_I.imm(65535)));
+    assert!(rt;
+        Core::new(ADDQ_MI_SXB.op(), None, None, rax, Some(-128)) == Ok(ADDQ_MI_SXB.reg(0, -128))
+    );
+    assert!(rt;
+        Core::new(ADDW_I.op(), None, None, CorePlace::Absent, Some(65535)) == Ok(ADDW_I.imm(65535))
+    );
     assert!(rt; Core::new(MOVQ_RM.op(), Some(3), None, rax, None) == Ok(MOVQ_RM.regs(3, 0)));
     let made = Core::new(VCMPPS_B.op(), Some(1), Some(2), rax, Some(7));
     assert!(rt; made == Ok(VCMPPS_B.regs(1, 2, 0, 7)));
@@ -69,7 +77,9 @@ fn registers_that_cannot_be(rt: HostRuntime) {
     assert!(rt; fault_of(&MULXQ_RVM.regs(1, 2, 255)) == Some(Fault::Register(2)));
     assert!(rt; fault_of(&LEAQ_RM.mem(0, at(16, 0))) == Some(Fault::Register(1)));
     assert!(rt; fault_of(&LEAQ_RM.mem(0, indexed(1, 4, Scale::One, 0))) == Some(Fault::Index(2)));
-    assert!(rt; fault_of(&LEAQ_RM.mem(0, indexed(1, 20, Scale::One, 0))) == Some(Fault::Register(2)));
+    assert!(rt;
+        fault_of(&LEAQ_RM.mem(0, indexed(1, 20, Scale::One, 0))) == Some(Fault::Register(2))
+    );
 }
 
 /// A late offset has to be known, and its sum with the displacement an `i32`.

@@ -29,16 +29,31 @@ fn moves(rt: HostRuntime) {
 fn addresses_and_extensions(rt: HostRuntime) {
     let address = indexed(7, 6, Scale::Eight, -128);
     assert!(rt; has_bytes(&LEAQ_RM.mem(0, address), &[0x48, 0x8D, 0x44, 0xF7, 0x80]));
-    assert!(rt; has_bytes(&MOVZBL_RM.mem(0, at(12, 0)), &[0x41, 0x0F, 0xB6, 0x04, 0x24]));
+    assert!(rt;
+        has_bytes(
+            &MOVZBL_RM.mem(0, at(12, 0)),
+            &[0x41, 0x0F, 0xB6, 0x04, 0x24]
+        )
+    );
     assert!(rt; has_bytes(&MOVSLQ_RM.regs(9, 10), &[0x4D, 0x63, 0xCA]));
-    assert!(rt; has_bytes(&MOVL_MI.mem(at(0, 4), 7), &[0xC7, 0x40, 0x04, 0x07, 0, 0, 0]));
+    assert!(rt;
+        has_bytes(
+            &MOVL_MI.mem(at(0, 4), 7),
+            &[0xC7, 0x40, 0x04, 0x07, 0, 0, 0]
+        )
+    );
 }
 
 /// `addq rax, 1`; `subq rsp, 4096`; `cmpq rdi, rsi`; `testl eax, eax`.
 #[test]
 fn arithmetic(rt: HostRuntime) {
     assert!(rt; has_bytes(&ADDQ_MI_SXB.reg(0, 1), &[0x48, 0x83, 0xC0, 0x01]));
-    assert!(rt; has_bytes(&SUBQ_MI_SXL.reg(4, 4096), &[0x48, 0x81, 0xEC, 0x00, 0x10, 0x00, 0x00]));
+    assert!(rt;
+        has_bytes(
+            &SUBQ_MI_SXL.reg(4, 4096),
+            &[0x48, 0x81, 0xEC, 0x00, 0x10, 0x00, 0x00]
+        )
+    );
     assert!(rt; has_bytes(&CMPQ_RM.regs(7, 6), &[0x48, 0x3B, 0xFE]));
     assert!(rt; has_bytes(&TESTL_MR.regs(0, 0), &[0x85, 0xC0]));
 }
@@ -47,7 +62,12 @@ fn arithmetic(rt: HostRuntime) {
 #[test]
 fn multiplications_and_shifts(rt: HostRuntime) {
     assert!(rt; has_bytes(&IMULQ_RM.regs(0, 6), &[0x48, 0x0F, 0xAF, 0xC6]));
-    assert!(rt; has_bytes(&IMULL_RMI.regs(0, 1, 1000), &[0x69, 0xC1, 0xE8, 0x03, 0x00, 0x00]));
+    assert!(rt;
+        has_bytes(
+            &IMULL_RMI.regs(0, 1, 1000),
+            &[0x69, 0xC1, 0xE8, 0x03, 0x00, 0x00]
+        )
+    );
     assert!(rt; has_bytes(&IDIVQ_M.reg(1), &[0x48, 0xF7, 0xF9]));
     assert!(rt; has_bytes(&SHLQ_MC.reg(2), &[0x48, 0xD3, 0xE2]));
     assert!(rt; has_bytes(&SARL_MI.reg(9, 31), &[0x41, 0xC1, 0xF9, 0x1F]));
@@ -66,9 +86,19 @@ fn conditions_and_control(rt: HostRuntime) {
 #[test]
 fn scalars(rt: HostRuntime) {
     let address = indexed(13, 14, Scale::Two, 127);
-    assert!(rt; has_bytes(&ADDSD_A.mem(8, address), &[0xF2, 0x47, 0x0F, 0x58, 0x44, 0x75, 0x7F]));
+    assert!(rt;
+        has_bytes(
+            &ADDSD_A.mem(8, address),
+            &[0xF2, 0x47, 0x0F, 0x58, 0x44, 0x75, 0x7F]
+        )
+    );
     assert!(rt; has_bytes(&CVTSI2SDQ_A.regs(0, 7), &[0xF2, 0x48, 0x0F, 0x2A, 0xC7]));
-    assert!(rt; has_bytes(&MOVSD_C_M.mem(1, at(4, 8)), &[0xF2, 0x0F, 0x11, 0x4C, 0x24, 0x08]));
+    assert!(rt;
+        has_bytes(
+            &MOVSD_C_M.mem(1, at(4, 8)),
+            &[0xF2, 0x0F, 0x11, 0x4C, 0x24, 0x08]
+        )
+    );
 }
 
 /// `popcntl eax, [rip]` at a label: the displacement is still 0, and the label is told where it begins.

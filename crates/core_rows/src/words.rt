@@ -13,7 +13,9 @@ pub fn has_bytes(core: &Core, expected: &[u8]) -> bool {
         return false;
     }
     let len = core.room_needed(&sink).bytes;
-    core.encode(&mut sink) == Ok(()) && sink.bytes() == expected && usize::from(len) == expected.len()
+    core.encode(&mut sink) == Ok(())
+        && sink.bytes() == expected
+        && usize::from(len) == expected.len()
 }
 
 /// Memory at a base and a displacement in bytes.
