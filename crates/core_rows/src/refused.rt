@@ -14,46 +14,110 @@ use x64_core::{Core, CorePlace, Op, Shape};
 /// The registers in reg and in vvvv, the place, and the immediate have to be those of the line.
 #[test]
 fn operands_of_another_shape(rt: HostRuntime) {
-    let register = CorePlace::Register(7);
-    assert!(rt; Core::new(LEAQ_RM.op(), Some(0), None, register, None) == Err(Shape::Place));
-    assert!(rt; Core::new(MOVQ_RM.op(), None, None, register, None) == Err(Shape::Register));
-    assert!(rt; Core::new(MOVQ_RM.op(), Some(0), Some(0), register, None) == Err(Shape::Vvvv));
+    assert!(rt;
+        Core::new(LEAQ_RM.op(), Some(0), None, CorePlace::Register(7), None) == Err(Shape::Place)
+    );
+    assert!(rt;
+        Core::new(MOVQ_RM.op(), None, None, CorePlace::Register(7), None) == Err(Shape::Register)
+    );
+    assert!(rt;
+        Core::new(MOVQ_RM.op(), Some(0), Some(0), CorePlace::Register(7), None) == Err(Shape::Vvvv)
+    );
     assert!(rt;
         Core::new(MOVQ_RM.op(), Some(0), None, CorePlace::Absent, None) == Err(Shape::Place)
     );
-    assert!(rt; Core::new(MOVQ_RM.op(), Some(0), None, register, Some(1)) == Err(Shape::Immediate));
-    assert!(rt; Core::new(ADDQ_MI_SXB.op(), None, None, register, None) == Err(Shape::Immediate));
-    assert!(rt; Core::new(RETQ_ZO.op(), None, None, register, None) == Err(Shape::Place));
+    assert!(rt;
+        Core::new(MOVQ_RM.op(), Some(0), None, CorePlace::Register(7), Some(1))
+            == Err(Shape::Immediate)
+    );
+    assert!(rt;
+        Core::new(ADDQ_MI_SXB.op(), None, None, CorePlace::Register(7), None)
+            == Err(Shape::Immediate)
+    );
+    assert!(rt;
+        Core::new(RETQ_ZO.op(), None, None, CorePlace::Register(7), None) == Err(Shape::Place)
+    );
 }
 
 /// An immediate has to be in the line's range.
 #[test]
 fn immediates_out_of_range(rt: HostRuntime) {
-    let rax = CorePlace::Register(0);
-    let memory = CorePlace::of_amode(&at(0, 0));
-    assert!(rt; Core::new(ADDQ_MI_SXB.op(), None, None, rax, Some(128)) == Err(Shape::Range));
-    assert!(rt; Core::new(ADDQ_MI_SXB.op(), None, None, rax, Some(-129)) == Err(Shape::Range));
-    assert!(rt; Core::new(MOVQ_MI_SXL.op(), None, None, rax, Some(1 << 31)) == Err(Shape::Range));
     assert!(rt;
-        Core::new(LOCK_ADDL_MI.op(), None, None, memory, Some(1 << 32)) == Err(Shape::Range)
+        Core::new(
+            ADDQ_MI_SXB.op(),
+            None,
+            None,
+            CorePlace::Register(0),
+            Some(128)
+        ) == Err(Shape::Range)
     );
-    assert!(rt; Core::new(LOCK_ADDL_MI.op(), None, None, memory, Some(-1)) == Err(Shape::Range));
-    let none = CorePlace::Absent;
-    assert!(rt; Core::new(ADDW_I.op(), None, None, none, Some(65536)) == Err(Shape::Range));
+    assert!(rt;
+        Core::new(
+            ADDQ_MI_SXB.op(),
+            None,
+            None,
+            CorePlace::Register(0),
+            Some(-129)
+        ) == Err(Shape::Range)
+    );
+    assert!(rt;
+        Core::new(
+            MOVQ_MI_SXL.op(),
+            None,
+            None,
+            CorePlace::Register(0),
+            Some(1 << 31)
+        ) == Err(Shape::Range)
+    );
+    assert!(rt;
+        Core::new(
+            LOCK_ADDL_MI.op(),
+            None,
+            None,
+            CorePlace::of_amode(&at(0, 0)),
+            Some(1 << 32)
+        ) == Err(Shape::Range)
+    );
+    assert!(rt;
+        Core::new(
+            LOCK_ADDL_MI.op(),
+            None,
+            None,
+            CorePlace::of_amode(&at(0, 0)),
+            Some(-1)
+        ) == Err(Shape::Range)
+    );
+    assert!(rt;
+        Core::new(ADDW_I.op(), None, None, CorePlace::Absent, Some(65536)) == Err(Shape::Range)
+    );
 }
 
 /// Operands of the line's shape make what its constant makes.
 #[test]
 fn operands_of_the_shape(rt: HostRuntime) {
-    let rax = CorePlace::Register(0);
     assert!(rt;
-        Core::new(ADDQ_MI_SXB.op(), None, None, rax, Some(-128)) == Ok(ADDQ_MI_SXB.reg(0, -128))
+        Core::new(
+            ADDQ_MI_SXB.op(),
+            None,
+            None,
+            CorePlace::Register(0),
+            Some(-128)
+        ) == Ok(ADDQ_MI_SXB.reg(0, -128))
     );
     assert!(rt;
         Core::new(ADDW_I.op(), None, None, CorePlace::Absent, Some(65535)) == Ok(ADDW_I.imm(65535))
     );
-    assert!(rt; Core::new(MOVQ_RM.op(), Some(3), None, rax, None) == Ok(MOVQ_RM.regs(3, 0)));
-    let made = Core::new(VCMPPS_B.op(), Some(1), Some(2), rax, Some(7));
+    assert!(rt;
+        Core::new(MOVQ_RM.op(), Some(3), None, CorePlace::Register(0), None)
+            == Ok(MOVQ_RM.regs(3, 0))
+    );
+    let made = Core::new(
+        VCMPPS_B.op(),
+        Some(1),
+        Some(2),
+        CorePlace::Register(0),
+        Some(7),
+    );
     assert!(rt; made == Ok(VCMPPS_B.regs(1, 2, 0, 7)));
     assert!(rt; Op::from_number(584) == None);
     assert!(rt; Op::from_number(583).is_some());
