@@ -13,6 +13,7 @@ pub mod instruction;
 mod kind_lists;
 mod kind_spans;
 pub mod kinds;
+pub mod laws;
 pub mod lines;
 pub mod make;
 pub mod makers;

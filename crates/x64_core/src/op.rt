@@ -1,6 +1,6 @@
 //! A line of the core, by its number.
 
-ghost use Rattle.std.specs.Prelude.{◌≡◌, ◌<◌, true, nat_lt};
+ghost use Rattle.std.specs.Prelude.{◌≡◌, ◌≤◌, ◌<◌, true, IfNone, IfSome, nat_lt};
 ghost use Rattle.cax64_table.specs.EntryLine.{entry_line};
 ghost use Rattle.x64_core.specs.Line.{core_line};
 ghost use Rattle.x64_core.specs.Shape.{shape_of};
@@ -19,7 +19,10 @@ pub struct Op {
 
 impl Op {
     /// The line of this number, the rows first, where there is one.
-    pub fn from_number(number: u16) -> Option<Op> {
+    pub fn from_number(number: u16) -> Option<Op>
+        ensures found { IfSome result (λ op. op.number ≡ number) }
+        ensures none { IfNone result (COUNT ≤ number) }
+    {
         if number < COUNT {
             Some(Op { number })
         } else {
