@@ -6,7 +6,7 @@ import re
 import shutil
 from contextlib import contextmanager
 
-FIRST_LINE = "Written by table/write.py from table/instructions.txt."
+TABLE = "table/instructions.txt"
 BEGIN = "table/write.py: "
 END = BEGIN + "end"
 
@@ -36,6 +36,11 @@ def comment(path):
     return "//" if str(path).endswith(".rt") else "--"
 
 
+def first_line(path, table):
+    """The first line of a file that is written whole."""
+    return f"{comment(path)} Written by table/write.py from {table}."
+
+
 class Sources:
     """All that the table gives, by the path of its file."""
 
@@ -43,8 +48,8 @@ class Sources:
         self.files = {}
         self.parts = {}
 
-    def whole(self, path, lines):
-        self.files[path] = "\n".join([f"{comment(path)} {FIRST_LINE}", *lines]) + "\n"
+    def whole(self, path, lines, table=TABLE):
+        self.files[path] = "\n".join([first_line(path, table), *lines]) + "\n"
 
     def part(self, path, name, lines):
         """A part of a file. The formatter of .antt files wants an empty line before a comment behind a definition, as
@@ -74,15 +79,16 @@ def with_parts(path, text, parts):
     return "\n".join(lines) + "\n"
 
 
-def left_over(root, sources):
-    """Files below crates/ that say that they are written, and aren't any more."""
+def left_over(root, sources, tables):
+    """Files below crates/ that say that they are written from one of the tables, and aren't any more."""
     for folder in FOLDERS:
         for path in sorted((root / "crates").glob(f"*/{folder}/**/*")):
             if path.suffix not in (".rt", ".antt"):
                 continue
             name = str(path.relative_to(root))
+            first_lines = [first_line(name, table).encode() for table in tables]
             with using(name, "read"), open(path, "rb") as file:
-                is_written = file.readline().rstrip(b"\n") == f"{comment(name)} {FIRST_LINE}".encode()
+                is_written = file.readline().rstrip(b"\n") in first_lines
             if is_written and name not in sources.files:
                 yield name
 

@@ -32,6 +32,20 @@ names jumps::jump: jump/d8
 {JUMP}
 """
 
+MOVE = "movq_rm | W1 8B /r | r64:w rm64 |"
+RETURN = "retq_i | C2 | imm16 |"
+
+# The fourth line is the one of the move, the eighth that of the return.
+CORE = f"""file moves: Moves.
+
+[moves/mov] Moves. (Intel SDM, volume 2, `MOV`.)
+{MOVE}
+
+file control: Ends.
+[control/end] Returns. (Intel SDM, volume 2, `RET`.)
+{RETURN}
+"""
+
 # What stands before an opcode of one byte, and is none, here behind W0. (Intel SDM, volume 2, 2.1.1, 2.2.1, 2.3.)
 PREFIXES = (0x26, 0x2E, 0x36, 0x3E, *range(0x40, 0x50), 0x62, *range(0x64, 0x68), 0xC4, 0xC5, 0xF0, 0xF2, 0xF3)
 
@@ -111,6 +125,59 @@ BAD_PAIRS = (
 )
 
 
+# What stands in the place of the move, and the sentence that it gets.
+BAD_CORE_LINES = (
+    ("movq_rm | W1 8B /r | r64:w rm64 | | Move.", "it has 5 columns, and a line has 4: name, code, operands, words"),
+    (MOVE.replace("movq_rm", "MOVQ"), "the name of an instruction is small letters, digits and underscores"),
+    (MOVE.replace("rm64", "rm64:q"), "q in rm64:q is a word that an operand of this kind doesn't know"),
+    (MOVE.replace("r64:w", "r64:w:rw"), "rw in r64:w:rw says once more what another word says"),
+    (MOVE.replace("rm64", "imm8:w"), "imm8:w: an immediate is read, and w or rw isn't said of it"),
+    (MOVE + " fast", "fast is a word that the core doesn't know"),
+    (MOVE + " sse sse2", "sse2 says once more what another word says"),
+    (MOVE.replace("8B", "48"), "48 is a prefix, and no opcode"),
+    (MOVE.replace("rm64", "r32"), "it has 0 operands that may be memory, and a ModR/M byte holds one"),
+    (MOVE.replace("rm64", "rm8"), "rm8 stands beside a register in reg, where it may be memory alone"),
+    (MOVE.replace("r64:w rm64", "r8:w rm64"), "r8 stands in reg, beside which rm64 may be memory alone"),
+    (MOVE.replace("W1 8B /r", "noREX 8B /r"), "it has a ModR/M byte, beside which a REX byte has to be allowed"),
+    ("cqto_zo | W1 99 | rdx:w:implicit rax:implicit |",
+     "it has W1, whose REX byte the encoder writes beside a ModR/M byte alone"),
+    ("vaddsd_b | VEX.128.F2.0F.W0 58 /r | xmm1:w xmm2 xmm_m64 | avx",
+     "it has a VEX prefix, and the lines of the core have legacy prefixes alone"),
+    (MOVE.replace("W1 8B", "F0 66 F3 W0 8B"), "66 F0 F3 are more than two prefixes"),
+    ("imulw_rmi | 66 F3 W0 0F 69 /r | r16:w rm16 imm32:count |",
+     "imm32 is longer than the 16 bits that it works on"),
+    ("imull_rmi | 66 F3 W0 0F 69 /r | r32:w rm32 imm32 |",
+     "it may have 15 bytes, and an instruction has 13 at most"),
+    (MOVE.replace("r64:w rm64", "r64:w m64 imm32:sx64"), "no type of constants takes its operands together"),
+    (MOVE.replace("movq_rm", "jmp_d8"), "the name is that of the row jmp_d8"),
+    ("jump_d8 | EB | imm8:distance |", "its prefixes, W, opcode and digit are those of the row jmp_d8"),
+    (MOVE.replace("8B", "83"), "its opcode has no digit here, and one in the row lock_addl_mi_sxb"),
+    (MOVE.replace("Moves", "\u2207oves").replace("r64", "\u2207"), "its character 22 is U+2207, and a line has printable ASCII alone"),
+    ("[moves/mov] Moves.", "the group stands twice"),
+    ("[moves] Moves.", "a group is its file and name in brackets, and what it is about"),
+    ("[scalar/mov] Moves.", "scalar isn't the file that is named before it, a line as `file moves: Moves.`"),
+    ("file moves: Moves.", "the file stands twice"),
+    ("file moves", "a file is its name and a colon, and then a sentence that says what it is about"),
+)
+
+# Files of a core that lack something, and the sentence that they get.
+BARE_CORES = (
+    ("", "table/core.txt: the core: it has no line of an instruction"),
+    (MOVE + "\n",
+     "table/core.txt:1: movq_rm: it stands before the first group, a line as [moves/lea] and what the group is about"),
+    (CORE.replace(RETURN, MOVE), "table/core.txt:8: movq_rm: the name is that of movq_rm, line 4"),
+    (CORE.replace(RETURN, MOVE.replace("movq_rm", "movq_mr")),
+     "table/core.txt:8: movq_mr: its prefixes, W, opcode and digit are those of movq_rm, line 4"),
+)
+
+
+def named(line):
+    """What a line of the core is called where it is refused."""
+    if line.startswith("["):
+        return line[1:].split("]")[0] if "/" in line.split("]")[0] else line.split("|")[0]
+    return line.split(" |")[0]
+
+
 def bad_tables():
     """Each with where it is refused, and with what is said of it."""
     for line, sentence in BAD_LINES:
@@ -144,6 +211,7 @@ class Checkout:
         for script in HERE.glob("*.py"):
             shutil.copy(script, self.root / "table")
         self.put("table/instructions.txt", table)
+        self.put("table/core.txt", CORE)
         for path, text in pages("before.txt").items():
             self.put(path, text)
 
@@ -229,6 +297,18 @@ class Tests:
                 self.same(sentence, checkout.run(), wanted)
             self.same("what a refused table leaves", checkout.files(), before)
 
+    def bad_cores(self):
+        with tempfile.TemporaryDirectory() as folder:
+            checkout = Checkout(folder, TABLE)
+            before = checkout.files()
+            for line, sentence in BAD_CORE_LINES:
+                checkout.put("table/core.txt", CORE.replace(MOVE, line))
+                self.same(sentence, checkout.run(), (2, [f"table/core.txt:4: {named(line)}: {sentence}"]))
+            for core, sentence in BARE_CORES:
+                checkout.put("table/core.txt", core)
+                self.same(sentence, checkout.run(), (2, [sentence]))
+            self.same("what a refused core leaves", checkout.files(), before)
+
     def bare_tables(self):
         with tempfile.TemporaryDirectory() as folder:
             checkout = Checkout(folder, TABLE)
@@ -261,7 +341,7 @@ class Tests:
             self.same("the files that are there", sorted(found), sorted(wanted))
             for path, text in wanted.items():
                 self.same(path, found.get(path), text)
-            self.same("what was written is as the table gives it", checkout.run("--check"), (0, []))
+            self.same("what was written is as the tables give it", checkout.run("--check"), (0, []))
             self.changed_by_hand(checkout, found)
 
     def digits_by_map(self):
@@ -277,7 +357,7 @@ class Tests:
     def changed_by_hand(self, checkout, found):
         """A change is found in a file, in a part, and where a file or a mark has gone."""
         struct, left = "crates/lock_a/src/add.rt", "crates/jump/src/d32.rt"
-        differs, gone = "this isn't what the table gives", "the table doesn't give this file any more"
+        differs, gone = "this isn't what the tables give", "the tables don't give this file any more"
         without = "it has no part index, which a line `// table/write.py: index` begins"
         changes = (
             (struct, found[struct].replace("visitor.read_amode", "visitor.read"), 1, f"{struct}:61: {differs}"),
@@ -301,6 +381,7 @@ class Tests:
 def main():
     tests = Tests()
     tests.bad_tables()
+    tests.bad_cores()
     tests.bare_tables()
     tests.unusable_files()
     tests.two_instructions()

@@ -1,8 +1,8 @@
 #!/usr/bin/env python3
-"""Writes the sources that follow from table/instructions.txt, or with --check tells which ones differ.
+"""Writes the sources that follow from table/instructions.txt and table/core.txt, or with --check tells which ones differ.
 
 All that is to be written is made and judged before the first file is touched, and each file is then replaced at once. The
-status is 0 where all is as it has to be, 1 where --check found a difference, and 2 where a line of the table can't be, a
+status is 0 where all is as it has to be, 1 where --check found a difference, and 2 where a line of a table can't be, a
 part has no place, or a file can't be read or written: then nothing is written.
 """
 
@@ -10,6 +10,7 @@ import sys
 from pathlib import Path
 
 import classes
+import core_files
 import enumeration
 import facade
 import fixed
@@ -19,22 +20,23 @@ import rows
 import signatures
 import structs
 import texts
+from core_lines import CORE, core_of
 from judging import table_of
+from parts import TABLE
 
 ROOT = Path(__file__).resolve().parent.parent
-TABLE = "table/instructions.txt"
 
 
 def complain(sentence):
     print(sentence, file=sys.stderr)
 
 
-def refuse(line, name, sentence):
-    complain(f"{TABLE}:{line}: {name}: {sentence}" if line else f"{TABLE}: {name}: {sentence}")
+def refuse(table, line, name, sentence):
+    complain(f"{table}:{line}: {name}: {sentence}" if line else f"{table}: {name}: {sentence}")
 
 
-def sources_of(table):
-    """All files and parts that the table gives."""
+def sources_of(table, core):
+    """All files and parts that the tables give."""
     sources = parts.Sources()
     structs.write(table, sources)
     rows.write(table, sources)
@@ -45,6 +47,7 @@ def sources_of(table):
     classes.write(table, sources, parts.text_of(ROOT, classes.SOURCE))
     fixed.write(table, sources)
     facade.write(table, sources)
+    core_files.write(table, core, sources)
     return sources
 
 
@@ -53,13 +56,18 @@ def wanted():
     try:
         table, sentences = table_of(ROOT, parts.text_of(ROOT, TABLE))
         for sentence in sentences:
-            refuse(*sentence)
+            refuse(TABLE, *sentence)
         if sentences:
             return None
-        sources = sources_of(table)
-        return parts.texts(ROOT, sources), list(parts.left_over(ROOT, sources))
+        core, sentences = core_of(parts.text_of(ROOT, CORE), table.rows)
+        for sentence in sentences:
+            refuse(CORE, *sentence)
+        if sentences:
+            return None
+        sources = sources_of(table, core)
+        return parts.texts(ROOT, sources), list(parts.left_over(ROOT, sources, (TABLE, CORE)))
     except index.Unplaced as unplaced:
-        refuse(unplaced.row.line, unplaced.row.name, unplaced)
+        refuse(TABLE, unplaced.row.line, unplaced.row.name, unplaced)
     except parts.Misplaced as misplaced:
         complain(misplaced)
     return None
@@ -71,11 +79,11 @@ def check(found, left):
     for path, text in sorted(found.items()):
         stands = parts.current(ROOT, path)
         if stands != text:
-            complain(f"{path}:{parts.first_difference(stands, text)}: this isn't what the table gives")
+            complain(f"{path}:{parts.first_difference(stands, text)}: this isn't what the tables give")
             differences += 1
     for path in left:
-        complain(f"{path}: the table doesn't give this file any more")
-    print(f"write: {len(found)} files, {differences + len(left)} of them not as {TABLE} gives them")
+        complain(f"{path}: the tables don't give this file any more")
+    print(f"write: {len(found)} files, {differences + len(left)} of them not as the tables give them")
     return 1 if differences or left else 0
 
 

@@ -1,0 +1,15 @@
+//! Worked rows of the core, each by hand, and each of its calls once.
+#![tactic(auto)]
+
+#[cfg(test)]
+mod compiled;
+#[cfg(test)]
+mod made;
+#[cfg(test)]
+mod refused;
+#[cfg(test)]
+mod renamed;
+#[cfg(test)]
+mod rows;
+#[cfg(test)]
+mod words;

@@ -1,0 +1,6 @@
+pub mod Table
+pub mod MadeOf
+pub mod Forms
+pub mod Reals
+pub mod Runs
+pub mod Renames

@@ -1,0 +1,59 @@
+use Rattle.std.proofs.Common.{◌≡◌, ℕ, refl, sym, ◌∙◌, Bool, true, false, Option, Some, None, List, slice_index}
+use Rattle.std.specs.Prelude.{option_map, ◌&&◌, ◌||◌, ◌==◌, is_some, nat_lt, unwrap_or}
+use Rattle.std.proofs.lemmas.Bool.{and_parts}
+use Rattle.cax64_machine_code.specs.Line.{same_bool}
+use Rattle.x64_core.specs.Fits.{core_fits, place_fits}
+use Rattle.x64_core.specs.Line.{core_line}
+use Rattle.x64_core.specs.Rename.{home_if, renamed, renamed_place}
+use Rattle.x64_core.specs.Shape.{has_reg, has_vvvv, shape_of}
+use Rattle.x64_core.specs.View.{core_view, place_operand, when}
+use Rattle.x64_core.specs.declared.instruction.Core.{Core}
+use Rattle.x64_core.specs.declared.place.CorePlace.{CorePlace}
+use Rattle.x64_core.specs.declared.shapes.OpFields.{OpFields}
+use Rattle.x64_core.specs.declared.shapes.OpShape.{OpShape}
+use Rattle.x64_core.proofs.MadeOf.{facts, view_at}
+
+-- Other numbers in the place of those that an instruction holds.
+
+kept_if : (b : Bool) (homes : List ℕ) (n : ℕ) → (b || (n == 0)) ≡ true → (b || (home_if b homes n == 0)) ≡ true
+kept_if true homes n h = refl
+kept_if false homes n h = h
+
+four : (a b c d : Bool) → a ≡ true → b ≡ true → c ≡ true → d ≡ true → (a && (b && (c && d))) ≡ true
+four a b c d e f g h = rw (e, f, g, h) refl
+
+pub renamed_fits : (s : OpShape) (reg vvvv : ℕ) (p q : CorePlace) (word : ℕ) (homes : List ℕ) → core_fits s reg vvvv p word ≡ true → ((fields : OpFields) → place_fits fields q ≡ place_fits fields p) → core_fits s (home_if (has_reg s.fields) homes reg) (home_if (has_vvvv s.fields) homes vvvv) q word ≡ true
+renamed_fits s reg vvvv p q word homes h e =
+    let a = and_parts (place_fits s.fields p) _ h in
+    let b = and_parts (nat_lt word _) _ a.1 in
+    let d = and_parts (has_reg s.fields || (reg == 0)) _ b.1 in
+    four _ _ _ _ (e s.fields ∙ a.0) b.0 (kept_if (has_reg s.fields) homes reg d.0) (kept_if (has_vvvv s.fields) homes vvvv d.1)
+
+when_home : (b : Bool) (homes : List ℕ) (n : ℕ) → when b (home_if b homes n) ≡ option_map (slice_index homes) (when b n)
+when_home true homes n = refl
+when_home false homes n = refl
+
+pub renamed_view : (c : Core) (homes : List ℕ) (q : CorePlace) → place_operand q ≡ renamed_place (slice_index homes) (place_operand c.place) → view_at (core_line c.op.number) c.op.number (home_if (has_reg (shape_of c.op.number).fields) homes c.reg) (home_if (has_vvvv (shape_of c.op.number).fields) homes c.vvvv) q c.imm ≡ renamed (slice_index homes) (core_view c)
+renamed_view c homes q e =
+    let f = facts c.op in
+    rw (f.reg, f.vvvv, e, when_home (has_reg (shape_of c.op.number).fields) homes c.reg, when_home (has_vvvv (shape_of c.op.number).fields) homes c.vvvv) refl
+
+pub renamed_all : (c : Core) (homes : List ℕ) (q : CorePlace) (s : OpShape) (b d : Bool) (r v : ℕ) → s ≡ shape_of c.op.number → b ≡ has_reg s.fields → d ≡ has_vvvv s.fields → r ≡ home_if b homes c.reg → v ≡ home_if d homes c.vvvv → place_operand q ≡ renamed_place (slice_index homes) (place_operand c.place) → view_at (core_line c.op.number) c.op.number r v q c.imm ≡ renamed (slice_index homes) (core_view c)
+renamed_all c homes q s b d r v es eb ed er ev e = rw (er, ev, eb, ed, es) (renamed_view c homes q e)
+
+same_is : (a b : Bool) → same_bool a b ≡ true → a ≡ b
+same_is true true h = refl
+same_is true false h = cc
+same_is false true h = cc
+same_is false false h = refl
+
+-- whether something stands there is whether it was given
+pub stands_as : (there : OpFields → Bool) (s : OpShape) (n : ℕ) (b d : Bool) (o : Option ℕ) → s ≡ shape_of n → b ≡ there s.fields → d ≡ is_some o → true ≡ same_bool b d → there (shape_of n).fields ≡ is_some o
+stands_as there s n b d o es eb ed same = (rw es at (sym eb)) ∙ same_is b d (sym same) ∙ ed
+
+-- What is given where it stands.
+pub given : (b : Bool) (o : Option ℕ) → b ≡ is_some o → when b (unwrap_or o 0) ≡ o
+given true None h = cc
+given true (Some n) h = refl
+given false None h = refl
+given false (Some n) h = cc

@@ -1,0 +1,12 @@
+use Rattle.std.proofs.Common.{refl}
+use Rattle.x64_core.specs.declared.place.CorePlace.TheVariants.{Register}
+use Rattle.x64_core.specs.declared.shapes.OpFields.TheVariants.{RegVvvvRm}
+use Rattle.x64_core.specs.declared.shapes.OpImm.TheVariants.{None}
+use Rattle.x64_core.proofs.MadeOf.{fits_by, view_by}
+use Rattle.x64_core.proofs.makers.RegVvvvRm.regs.Goals as goal
+
+pub invariant_of-result : goal.invariant_of-result
+invariant_of-result c = record { shape = fits_by _ RegVvvvRm None c.args.reg c.args.vvvv (Register c.args.rm) 0 c.args.self.fields c.args.self.imm (refl) }
+
+pub returns : goal.returns
+returns c = view_by c.args.self.op RegVvvvRm None c.args.reg c.args.vvvv (Register c.args.rm) 0 c.args.self.fields c.args.self.imm

@@ -1,0 +1,62 @@
+use Rattle.std.specs.Prelude.{ℕ, ◌+◌, ◌*◌, ◌==◌, ◌&&◌, Bool, true, false, List, [], ◌∷◌, take, drop, count_by, slice_index_or}
+use Rattle.cax64_machine_code.specs.Len.{one_if}
+use Rattle.cax64_machine_code.specs.Line.{imm_bytes}
+use Rattle.cax64_machine_code.specs.declared.line.Line.{Line}
+use Rattle.cax64_table.specs.Entry.{has_tail}
+use Rattle.cax64_table.specs.Numbers.{has_register, has_vvvv}
+use Rattle.x64_core.specs.declared.kind_lists.TheConstants.{KINDS}
+use Rattle.x64_core.specs.declared.kind_spans.Span.{Span}
+use Rattle.x64_core.specs.declared.kind_spans.TheConstants.{SPANS}
+use Rattle.x64_core.specs.declared.kinds.Home.{Home}
+use Rattle.x64_core.specs.declared.kinds.Home.TheVariants.{Reg, Vvvv, Place, Fixed, Imm}
+use Rattle.x64_core.specs.declared.kinds.Kind.{Kind}
+
+-- The operands of a line.
+
+abbrev pub span_of : ℕ → Span
+span_of number = slice_index_or SPANS number (record { first = 0; count = 0 })
+
+abbrev pub kinds_of : ℕ → List Kind
+kinds_of number = take (span_of number).count (drop (span_of number).first KINDS)
+
+-- how many of them stand in reg, in vvvv, in the rest of the tail, as an immediate
+
+abbrev pub is_reg : Home → Bool
+is_reg Reg = true
+is_reg Vvvv = false
+is_reg Place = false
+is_reg (Fixed number) = false
+is_reg Imm = false
+
+abbrev pub is_vvvv : Home → Bool
+is_vvvv Reg = false
+is_vvvv Vvvv = true
+is_vvvv Place = false
+is_vvvv (Fixed number) = false
+is_vvvv Imm = false
+
+abbrev pub is_place : Home → Bool
+is_place Reg = false
+is_place Vvvv = false
+is_place Place = true
+is_place (Fixed number) = false
+is_place Imm = false
+
+abbrev pub imm_bits : Home → ℕ → ℕ
+imm_bits Reg bits = 0
+imm_bits Vvvv bits = 0
+imm_bits Place bits = 0
+imm_bits (Fixed number) bits = 0
+imm_bits Imm bits = bits
+
+abbrev pub bits_in : List Kind → ℕ
+bits_in [] = 0
+bits_in (kind ∷ kinds) = imm_bits kind.home kind.bits + bits_in kinds
+
+-- operands are one for each place where the line's bytes hold one, and an immediate of its size
+abbrev pub kinds_fit : Line → List Kind → Bool
+kinds_fit line kinds =
+    (count_by (λ kind. is_reg kind.home) kinds == one_if (has_register line.tail))
+    && ((count_by (λ kind. is_vvvv kind.home) kinds == one_if (has_vvvv line.prefix))
+    && ((count_by (λ kind. is_place kind.home) kinds == one_if (has_tail line.tail))
+    && (bits_in kinds == 8 * imm_bytes line.imm)))

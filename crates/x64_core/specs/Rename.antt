@@ -1,0 +1,32 @@
+use Rattle.std.specs.Prelude.{ℕ, Bool, List, if◌then◌else◌, option_map, slice_index}
+use Rattle.cax64_address.specs.declared.amode.Amode.{Amode}
+use Rattle.cax64_address.specs.declared.amode.Amode.TheVariants.{ImmReg, ImmRegRegShift, RipRelative}
+use Rattle.cax64_encoder.specs.Number.{number_value}
+use Rattle.cax64_encoder.specs.declared.number.Number.TheVariants.{Settled}
+use Rattle.cax64_encoder.specs.declared.role.PlaceOperand as operand
+use Rattle.cax64_encoder.specs.declared.role.PlaceOperand.{PlaceOperand}
+use Rattle.x64_core.specs.View.{CoreView}
+
+-- Other registers in the place of all that an instruction of the core holds. All else stays.
+
+abbrev pub home_if : Bool → List ℕ → ℕ → ℕ
+home_if present homes reg = if present then slice_index homes reg else reg
+
+abbrev pub renamed_amode : (ℕ → ℕ) → Amode ℕ → Amode ℕ
+renamed_amode home (ImmReg base simm32 trap) = ImmReg (home base) simm32 trap
+renamed_amode home (ImmRegRegShift base index scale simm32 trap) = ImmRegRegShift (home base) (home index) scale simm32 trap
+renamed_amode home (RipRelative target) = RipRelative target
+
+abbrev pub renamed_place : (ℕ → ℕ) → PlaceOperand ℕ → PlaceOperand ℕ
+renamed_place home operand.TheVariants.NoPlace = operand.TheVariants.NoPlace
+renamed_place home (operand.TheVariants.Register number) = operand.TheVariants.Register (Settled (home (number_value number)))
+renamed_place home (operand.TheVariants.Memory amode) = operand.TheVariants.Memory (renamed_amode home amode)
+
+abbrev pub renamed : (ℕ → ℕ) → CoreView → CoreView
+renamed home v = record {
+  op = v.op;
+  reg = option_map home v.reg;
+  vvvv = option_map home v.vvvv;
+  place = renamed_place home v.place;
+  imm = v.imm;
+}

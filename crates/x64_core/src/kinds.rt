@@ -1,0 +1,81 @@
+//! What is done with the operands of a line, as an allocator of registers asks.
+
+ghost use Rattle.std.specs.Prelude.{◌≡◌, ◌≤◌, ◌<◌, ◌+◌, drop, length, take, true};
+ghost use Rattle.x64_core.specs.Kinds.{kinds_fit, kinds_of, span_of};
+ghost use Rattle.x64_core.specs.Line.{core_line};
+ghost use Rattle.x64_core.specs.declared.lines.TheConstants.{COUNT};
+
+use crate::kind_lists::KINDS;
+use crate::kind_spans::{SPANS, Span};
+use crate::op::Op;
+
+/// Where an operand is.
+#[derive(Clone, Copy, Debug, PartialEq)]
+pub enum Home {
+    /// A register in the reg field of ModR/M.
+    Reg,
+    /// A register in vvvv of a VEX prefix.
+    Vvvv,
+    /// A register or memory in the rest of the tail.
+    Place,
+    /// The register of this number, which the line fixes, and which stands nowhere in the bytes.
+    Fixed(u8),
+    /// An immediate.
+    Imm,
+}
+
+/// What registers an operand may be.
+#[derive(Clone, Copy, Debug, PartialEq)]
+pub enum Class {
+    General,
+    Vector,
+    /// It's memory alone, or an immediate.
+    None,
+}
+
+/// What is done with an operand, a register or memory. Of `lea`, whose memory is an address alone, nothing is done with it.
+#[derive(Clone, Copy, Debug, PartialEq)]
+pub enum Access {
+    Read,
+    Write,
+    ReadWrite,
+}
+
+/// An operand of a line. Base and index of memory are read, whatever is done with the memory.
+#[derive(Clone, Copy, Debug, PartialEq)]
+pub struct Kind {
+    pub home: Home,
+    pub class: Class,
+    pub access: Access,
+    /// Of the register, of the memory or of the immediate: 8 to 128. A write of 8 or 16 bits leaves the others.
+    pub bits: u8,
+    /// Whether it's among the operands that a text has.
+    pub is_printed: bool,
+}
+
+/// Where the list of a line stands.
+fn span(number: u16) -> Span
+    requires { number < COUNT }
+    ensures { result ≡ span_of number }
+{
+    SPANS[usize::from(number)]
+}
+
+/// A part of a list.
+fn part(kinds: &[Kind], span: Span) -> &[Kind]
+    requires { span.first + span.count ≤ length kinds.now }
+    ensures { result.now ≡ take span.count (drop span.first kinds.now) }
+{
+    let first = usize::from(span.first);
+    &kinds[first..first + usize::from(span.count)]
+}
+
+impl Op {
+    /// Its operands, in the order of the manual: one at each place where its bytes hold one, and those that it fixes.
+    pub fn kinds(self) -> &'static [Kind]
+        ensures list { result.now ≡ kinds_of self.number }
+        ensures fit { kinds_fit (core_line self.number) result.now ≡ true }
+    {
+        part(&KINDS, span(self.number))
+    }
+}

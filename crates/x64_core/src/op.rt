@@ -1,0 +1,55 @@
+//! A line of the core, by its number.
+
+ghost use Rattle.std.specs.Prelude.{◌≡◌, ◌≤◌, ◌<◌, true, IfNone, IfSome, nat_lt};
+ghost use Rattle.cax64_table.specs.EntryLine.{entry_line};
+ghost use Rattle.x64_core.specs.Line.{core_line};
+ghost use Rattle.x64_core.specs.Shape.{shape_of};
+ghost use Rattle.x64_core.specs.declared.lines.TheConstants.{COUNT};
+
+use crate::lines::{COUNT, entry};
+use crate::shapes::{OpShape, shape};
+use cax64_table::entry::Entry;
+
+/// A line of the core, by its number.
+#[derive(Clone, Copy, Debug, PartialEq)]
+pub struct Op {
+    pub(crate) number: u16,
+    ghost below: { nat_lt number COUNT ≡ true },
+}
+
+impl Op {
+    /// The line of this number, the rows first, where there is one.
+    pub fn from_number(number: u16) -> Option<Op>
+        ensures found { IfSome result (λ op. op.number ≡ number) }
+        ensures none { IfNone result (COUNT ≤ number) }
+    {
+        if number < COUNT {
+            Some(Op { number })
+        } else {
+            None
+        }
+    }
+
+    /// Its number, below [`COUNT`].
+    pub fn number(self) -> u16
+        ensures is { result ≡ self.number }
+        ensures below { result < COUNT }
+    {
+        self.number
+    }
+
+    /// The operands that it takes.
+    #[inline(always)]
+    pub fn shape(self) -> OpShape
+        ensures { result ≡ shape_of self.number }
+    {
+        shape(self.number)
+    }
+
+    #[inline(always)]
+    pub(crate) fn entry(self) -> Entry
+        ensures { entry_line result ≡ core_line self.number }
+    {
+        entry(self.number)
+    }
+}

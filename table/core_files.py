@@ -1,0 +1,284 @@
+"""The sources that the lines of the core give: what is believed of them, packed numbers, and constants."""
+
+from itertools import groupby
+
+from core_lines import CORE, CoreGroup, immediate_type, shape_of
+from formatting import CALL_WIDTH, in_order, use
+from rows import hexadecimal, packed
+
+SPECS = "crates/x64_core/specs/Lines.antt"
+NUMBERS = "crates/x64_core/src/lines.rt"
+SHAPES = "crates/x64_core/src/shapes.rt"
+KIND_LISTS = "crates/x64_core/src/kind_lists.rt"
+KIND_SPANS = "crates/x64_core/src/kind_spans.rt"
+EXTENSION_TABLE = "crates/x64_core/src/extension.rt"
+OPS = "crates/x64_core/src/ops"
+
+HOMES = {"memory": "Place", "general or memory": "Place", "vector or memory": "Place", "immediate": "Imm"}
+CLASSES = {"general": "General", "general or memory": "General", "fixed": "General", "vector": "Vector",
+           "vector or memory": "Vector", "memory": "None", "immediate": "None"}
+VECTOR_BITS = 128
+
+SETS = {(): "no_legacy", ("F0",): "F0", ("66", "F0"): "F0_66", ("66",): "only_66", ("F2",): "only_F2", ("F3",): "only_F3"}
+
+# The words of Rows.antt that lines are said in.
+WORDS = ("all_rows", "plain", "without_rex", "any", "W0", "W1", "F0", "F0_66", "only_66", "only_F2", "only_F3", "byte", "escaped")
+
+HEAD = """\
+use Rattle.std.specs.Prelude.{true, false, List, [], ◌∷◌, ◌++◌}
+use Rattle.cax64_machine_code.specs.Prefix.{no_legacy}
+use Rattle.cax64_machine_code.specs.ReadLine.{lines_of}
+use Rattle.cax64_machine_code.specs.Rows.{@}
+use Rattle.cax64_machine_code.specs.declared.line.LegacySet.{LegacySet}
+use Rattle.cax64_machine_code.specs.declared.line.Line.{Line}
+use Rattle.cax64_machine_code.specs.declared.line.ImmField.TheVariants.{NoImm, Imm, Simm}
+use Rattle.cax64_machine_code.specs.declared.line.PlaceField.TheVariants.{Memory, RegisterOrMemory, Register8OrMemory}
+use Rattle.cax64_machine_code.specs.declared.line.RegField.TheVariants.{Digit, Register8, Register}
+use Rattle.cax64_machine_code.specs.declared.line.TailField.TheVariants.{NoTail, Modrm}
+
+-- The lines of the core: those of all rows, in the order of `all_rows`, and behind them a line for each instruction of
+-- the core, in the words of the rows' own table. (Intel SDM, volume 2, chapters 3 to 5, the pages of the named
+-- instructions.)"""
+
+# The bits of a set of legacy prefixes, in the order of the record.
+BITS = (("lock", "F0"), ("operand_size", "66"), ("repne", "F2"), ("rep", "F3"))
+
+
+def set_name(prefixes):
+    """The word of a set of legacy prefixes: that of Rows.antt, or one that is defined beside the lines."""
+    return SETS.get(prefixes) or f"with_{'_'.join(prefixes)}"
+
+
+def set_definition(prefixes):
+    bits = "; ".join(f"{name} = {str(prefix in prefixes).lower()}" for name, prefix in BITS)
+    return [
+        "",
+        f"-- the prefixes {' and '.join(prefixes)}",
+        f"abbrev pub {set_name(prefixes)} : LegacySet",
+        f"{set_name(prefixes)} = record {{ {bits} }}",
+    ]
+
+
+def prefix_words(code):
+    kind = "plain" if code.may_have_rex else "without_rex"
+    return f"{kind} {set_name(tuple(sorted(code.prefixes)))}"
+
+
+def tail_words(line):
+    if not line.code.has_modrm:
+        return "NoTail"
+    digit, place = line.code.digit, line.place
+    reg = f"(Digit {digit})" if digit is not None else "Register8" if line.registers[0].size == 8 else "Register"
+    if place.kind == "memory":
+        return f"(Modrm {reg} Memory)"
+    return f"(Modrm {reg} {'Register8OrMemory' if place.kind == 'general or memory' and place.size == 8 else 'RegisterOrMemory'})"
+
+
+def imm_words(line):
+    if not line.immediate:
+        return "NoImm"
+    return f"({'Simm' if line.immediate.is_signed else 'Imm'} {line.immediate.size // 8})"
+
+
+def line_words(line):
+    """A line in the words of Rows.antt."""
+    code = line.code
+    w = "any" if code.w is None else f"W{code.w}"
+    opcode = f"({'escaped' if code.escape else 'byte'} 0x{code.opcode:02X})"
+    return f"{prefix_words(code)} {w} {opcode} {tail_words(line)} {imm_words(line)}"
+
+
+def name_of(file):
+    return f"{file}_lines"
+
+
+def lists(core):
+    """A list for each file of constants."""
+    for file in core.files:
+        yield from ["", f"unfoldable pub {name_of(file)} : List Line", f"{name_of(file)} ="]
+        for line in core.of_file(file):
+            yield f"    {line_words(line)} ∷  -- {line.name}"
+        yield "    []"
+
+
+def spec(core):
+    """The lists of lines, and all of them behind one another."""
+    found = list(lists(core))
+    used = {word for line in found for word in line.replace("(", " ").split()}
+    words = ", ".join(word for word in WORDS if word == "all_rows" or word in used)
+    lines = HEAD.replace("@", words).split("\n")
+    for prefixes in sorted({tuple(sorted(line.code.prefixes)) for line in core.lines}):
+        if prefixes not in SETS:
+            lines += set_definition(prefixes)
+    parts = " ++ (".join(["lines_of all_rows", *map(name_of, core.files)]) + ")" * len(core.files)
+    return [*lines, *found, "", "-- all of them", "unfoldable pub core_lines : List Line", f"core_lines = {parts}"]
+
+
+def numbers(rows):
+    """How many lines there are, and their packed numbers."""
+    return [
+        "/// How many lines the core has.",
+        f"pub const COUNT: u16 = {len(rows)};",
+        "",
+        "/// The rows, and behind them the lines of `table/core.txt`, each named beside its number.",
+        f"const NUMBERS: [u64; {len(rows)}] = [",
+        *(f"    {hexadecimal(packed(row))}, // {row.name}" for row in rows),
+        "];",
+    ]
+
+
+
+def shapes(lines):
+    """The operands that each line takes."""
+    found = [f"static SHAPES: [OpShape; {len(lines)}] = ["]
+    for line in lines:
+        kind = immediate_type(line).upper() if line.immediate else "None"
+        found.append(f"    OpShape {{ fields: OpFields::{shape_of(line)}, imm: OpImm::{kind} }}, // {line.name}")
+    return ["#[rattlefmt::skip]", *found, "];"]
+
+
+def home_of(operand, line):
+    """Where an operand is: the first register in the bytes stands in reg, the second in vvvv."""
+    if operand.kind == "fixed":
+        return f"Fixed({operand.number})"
+    if operand.is_register:
+        return "Reg" if operand == line.registers[0] else "Vvvv"
+    return HOMES[operand.kind]
+
+
+def access_of(operand, line):
+    """What is done with an operand. In the table of rows memory alone is an address; each row with such an operand is locked
+    or an exchange, and reads and writes what stands there."""
+    is_row = not isinstance(line.group, CoreGroup)
+    return "ReadWrite" if is_row and operand.kind == "memory" else operand.access
+
+
+def kind_record(operand, line):
+    """What an operand is, as the code has it."""
+    return (f"Kind {{ home: Home::{home_of(operand, line)}, class: Class::{CLASSES[operand.kind]}, "
+            f"access: Access::{access_of(operand, line)}, bits: {operand.size or VECTOR_BITS}, "
+            f"is_printed: {str(not operand.implicit).lower()} }}")
+
+
+def kind_list(line):
+    return tuple(kind_record(operand, line) for operand in line.operands if operand.kind != "nop")
+
+
+def kinds(lines):
+    """The different lists of operands, one behind the other, and for each line where its list stands."""
+    firsts, records = {}, []
+    for line in lines:
+        found = kind_list(line)
+        if found not in firsts:
+            firsts[found] = len(records)
+            records += found
+    spans = [f"    Span {{ first: {firsts[kind_list(line)]}, count: {len(kind_list(line))} }}, // {line.name}" for line in lines]
+    return (["#[rattlefmt::skip]", f"pub(crate) static KINDS: [Kind; {len(records)}] = [", *(f"    {record}," for record in records), "];"],
+            ["#[rattlefmt::skip]", f"pub(crate) static SPANS: [Span; {len(lines)}] = [", *spans, "];"])
+
+
+def extensions(lines):
+    """The extension that each line asks for."""
+    found = [f"    Some(Extension::{line.extension.capitalize()}), // {line.name}" if line.extension else f"    None, // {line.name}"
+             for line in lines]
+    return [f"static EXTENSIONS: [Option<Extension>; {len(lines)}] = [", *found, "];"]
+
+
+def constant_name(line):
+    return line.name.upper()
+
+
+def type_of(line):
+    """The type of a line's constant, without its parameter."""
+    shape = shape_of(line)
+    if not line.immediate:
+        return shape
+    return "Imm" if shape == "Bare" else f"{shape}Imm"
+
+
+def constant(line, number):
+    """A constant, with what it stands for in the manual's words."""
+    operands = ", ".join(operand.name for operand in line.operands if not operand.implicit and operand.kind != "nop")
+    kind, parameter = type_of(line), f"<{immediate_type(line)}>" if line.immediate else ""
+    macro = "with_imm" if line.immediate else "without_imm"
+    return [
+        f"/// `{line.printed_mnemonic} {operands}`." if operands else f"/// `{line.printed_mnemonic}`.",
+        f"pub const {constant_name(line)}: {kind}{parameter} = {macro}!({kind}, {number});",
+    ]
+
+
+def group_function(name, doc, lines, first):
+    """The lines of a group, which are those of their numbers."""
+    calls = [f"{constant_name(line)}.op()" for line in lines]
+    is_short = len(calls) == 1 or len(", ".join(calls)) <= CALL_WIDTH
+    body = [f"    [{', '.join(calls)}]"] if is_short else ["    [", *(f"        {call}," for call in calls), "    ]"]
+    return [
+        f"/// {doc}",
+        f"pub fn {name}() -> [Op; {len(lines)}]",
+        f"    ensures {{ map (λ op. op.number) result ≡ range_with_len {first} {len(lines)} }}",
+        "{",
+        *body,
+        "}",
+    ]
+
+
+def constants(about, groups):
+    """A file of constants: of each group its name, what it is about, its lines and the number of the first."""
+    lines = [line for _, _, found, _ in groups for line in found]
+    macros = sorted({"with_imm" if line.immediate else "without_imm" for line in lines})
+    text = [
+        f"//! {about}",
+        "",
+        "ghost use Rattle.std.specs.Prelude.{◌≡◌, map};",
+        "ghost use Rattle.std.specs.List.{range_with_len};",
+        "",
+        *use("crate::makers", sorted({type_of(line) for line in lines})),
+        "use crate::op::Op;",
+        *(["use std::marker::PhantomData;"] if "with_imm" in macros else []),
+    ]
+    for name, doc, found, first in groups:
+        text.append("")
+        for place, line in enumerate(found):
+            text += constant(line, first + place)
+        text += ["", *group_function(name, doc, found, first)]
+    return text
+
+
+def groups_of_rows(rows):
+    """Rows that stand together and are of one group, by the name of the first."""
+    first = 0
+    for group, found in groupby(rows, lambda row: row.group):
+        found = list(found)
+        yield f"from_{found[0].name}", group.doc, found, first
+        first += len(found)
+
+
+def groups_of_file(core, file, rows):
+    """The groups of a file of constants."""
+    numbers_of = {line.name: number for number, line in enumerate(core.lines, rows)}
+    for group in core.groups:
+        found = [line for line in core.lines if line.group == group]
+        if group.file == file and found:
+            yield group.name, group.doc, found, numbers_of[found[0].name]
+
+
+def ops_module(files):
+    """The module of constants, which names each of its files."""
+    return [f"pub mod {file};" for file in in_order(["rows", *files])]
+
+
+def write(table, core, sources):
+    lines = [*table.rows, *core.lines]
+    sources.whole(SPECS, spec(core), CORE)
+    sources.part(NUMBERS, "numbers", numbers(lines))
+    sources.part(SHAPES, "shapes", shapes(lines))
+    lists, spans = kinds(lines)
+    sources.part(KIND_LISTS, "kinds", lists)
+    sources.part(KIND_SPANS, "spans", spans)
+    sources.part(EXTENSION_TABLE, "extensions", extensions(lines))
+    sources.part(f"{OPS}.rt", "files", ops_module(core.files))
+    about = "The rows of the assembler, which come first in the core."
+    sources.whole(f"{OPS}/rows.rt", constants(about, list(groups_of_rows(table.rows))), CORE)
+    for file in core.files:
+        about = f"{core.abouts[file]}"
+        sources.whole(f"{OPS}/{file}.rt", constants(about, list(groups_of_file(core, file, len(table.rows)))), CORE)
