@@ -48,9 +48,13 @@ def table():
     return write.table_of(ROOT, (ROOT / write.TABLE).read_text(encoding="utf-8"))[0]
 
 
+def core():
+    return write.core_of((ROOT / write.CORE).read_text(encoding="utf-8"), table().rows)[0]
+
+
 def written_lines():
     """Lines of written files, and of written parts of others between their marks."""
-    sources = write.sources_of(table())
+    sources = write.sources_of(table(), core())
     parts = sum(len(text) for found in sources.parts.values() for text in found.values())
     return parts + sum(text.count("\n") for text in sources.files.values())
 
