@@ -31,7 +31,10 @@ fn push_jump(
     let label = if turn % 2 == 0 {
         places.next.saturating_sub(1 + far)
     } else {
-        places.next.saturating_add(far).min(labels.saturating_sub(1))
+        places
+            .next
+            .saturating_add(far)
+            .min(labels.saturating_sub(1))
     };
     buffer.push_jump(JUMPS[turn % 8], DeferredTarget::Label(Label(label)))
 }
