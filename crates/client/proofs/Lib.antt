@@ -1,2 +1,3 @@
 pub mod Readings
 mod Left
+mod Round

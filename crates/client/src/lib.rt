@@ -11,6 +11,7 @@ mod read_back;
 pub mod registers;
 mod renaming;
 mod reserved;
+mod rounds;
 
 ghost use Rattle.std.specs.Prelude.{◌≤◌, ◌<◌, IsTrue, All, length};
 ghost use Rattle.cranelift_assembler_x64.specs.FixedSink.{fixed_sink_state};
@@ -29,6 +30,7 @@ use cranelift_assembler_x64::{
 pub use read_back::rows_of_code;
 pub use renaming::put_renamed;
 pub use reserved::push_three;
+pub use rounds::until_equal;
 use std::alloc::Allocator;
 
 /// Two instructions in a buffer of 32 bytes: it has room for them, so nothing can be refused.
