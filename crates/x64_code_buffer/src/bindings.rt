@@ -91,6 +91,14 @@ impl<A: Allocator> Bindings<A> {
         self.others.as_ref()?.get(&constant.0).copied()
     }
 
+    /// How many labels were given.
+    #[inline(always)]
+    pub fn label_count(&self) -> u32
+        ensures { result ≡ length self.now.labels.items }
+    {
+        self.labels.len() as u32
+    }
+
     /// Makes room for the places of so many more labels.
     pub fn reserve_labels(&mut self, count: usize) -> Result<(), SinkError>
         ensures spare { OnOk result (count ≤ spare_labels self.new) }

@@ -106,6 +106,13 @@ impl<A: Allocator> CodeBuffer<A> {
         self.bindings.place_of(target)
     }
 
+    /// How many labels were given: those of a lower number.
+    pub fn labels(&self) -> u32
+        ensures { result ≡ label_count self.now }
+    {
+        self.bindings.label_count()
+    }
+
     /// Makes room for so many more bytes and notices, as [`Recorder::reserve`] does. An instruction has up to 13 bytes, and a
     /// notice.
     pub fn reserve(&mut self, bytes: usize, notices: usize) -> Result<(), SinkError>
