@@ -1,0 +1,4 @@
+pub mod Items
+pub mod Pieces
+pub mod Entries
+pub mod Steps
