@@ -1,11 +1,11 @@
 use Rattle.std.proofs.Common.{◌≡◌, ℕ, zero, suc, ◌+◌, ◌<◌, ◌≤◌, ◌⊎◌, inl, inr, arith, refl, ◌∙◌, ap, sym, subst, Option, Some, None, List, [], ◌∷◌, ◌++◌, length, take, get_or, slice_get, All, IsTrue, set}
-use Rattle.std.specs.Prelude.{IfSome, IsSome, is_some, option_map, option_and_then, nat_lt, if◌then◌else◌, Bool, true, false, ℤ, FitsSigned, slice_index, Err, Result}
+use Rattle.std.specs.Prelude.{IfSome, IsSome, is_some, option_map, option_and_then, nat_lt, if◌then◌else◌, Bool, true, false, ℤ, FitsSigned, slice_index, Ok, Err, Result}
 use Rattle.std.specs.Option.{option_or}
 use Rattle.std.specs.Int.{w8}
-use Rattle.std.proofs.lemmas.Bool.{ltb-true, cases_lt}
+use Rattle.std.proofs.lemmas.Bool.{ltb-true, lt-ltb, cases_lt}
 use Rattle.std.proofs.lemmas.List.{take_more, take_more_set, length-take-le}
 use Rattle.std.proofs.lemmas.List.Elements.{All-push, All-get_or, All-from_get_or}
-use Rattle.std.proofs.lemmas.Option.{slice_get_read, slice_get-get_or, slice_get_past, same_Some}
+use Rattle.std.proofs.lemmas.Option.{slice_get_read, slice_get_past, slice_get_within, same_Some}
 use Rattle.cax64_encoder.proofs.Faults.{no_fault, none_is}
 use Rattle.cax64_encoder.specs.Fault.{fault_of_meant}
 use Rattle.cax64_encoder.specs.Instruction.{Meaning, can_encode_in, fault_in}
@@ -177,3 +177,22 @@ far_stands Always lens n spot (inl h) two = absurd (two h.0)
 far_stands Always lens n spot (inr h) two = h
 far_stands (If condition) lens n spot (inl h) two = absurd (two h.0)
 far_stands (If condition) lens n spot (inr h) two = h
+
+-- the next entry of a list that is an instruction, or a jump
+
+pub inst_at : {I : Type 0} (len : I → ℕ) (items : List (Item I)) (k : ℕ) (inst : I) (lens : List ℕ) → slice_get items k ≡ Some (item.Inst inst) → IsLayout (spans_of len items items) lens → (entries (take k items) < length lens) × (slice_index lens (entries (take k items)) ≡ len inst)
+inst_at len items k inst lens is layout =
+    let s : Span = record { least = len inst; more = 0; spot = None } in
+    let there : slice_get (spans_of len items items) (entries (take k items)) ≡ Some s = span_there len items items k (item.Inst inst) s is refl in
+    let within : entries (take k items) < length (spans_of len items items) = slice_get_within (spans_of len items items) (entries (take k items)) s there in
+    (omega (arith, layout.as_many), inst_len lens (entries (take k items)) (len inst) (layout.each (entries (take k items)) s there))
+
+pub jump_at : {I : Type 0} (len : I → ℕ) (items : List (Item I)) (k : ℕ) (jump : Jump) (to : Label) (lens : List ℕ) → slice_get items k ≡ Some (item.Jump jump to) → IsLayout (spans_of len items items) lens → (entries (take k items) < length lens) × Stands lens (entries (take k items)) (span_of jump (spot_of to.0 items)) (slice_index lens (entries (take k items)))
+jump_at len items k jump to lens is layout =
+    let s : Span = span_of jump (spot_of to.0 items) in
+    let there : slice_get (spans_of len items items) (entries (take k items)) ≡ Some s = span_there len items items k (item.Jump jump to) s is refl in
+    let within : entries (take k items) < length (spans_of len items items) = slice_get_within (spans_of len items items) (entries (take k items)) s there in
+    (omega (arith, layout.as_many), layout.each (entries (take k items)) s there)
+
+pub answer_ok : (given number : ℕ) (o : Option ℕ) → number < given → o ≡ None → bind_answer given number o ≡ Ok tt
+answer_ok given number o below none = rw (none, lt-ltb number given below) refl

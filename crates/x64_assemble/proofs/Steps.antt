@@ -1,4 +1,6 @@
-use Rattle.std.proofs.Common.{◌≡◌, ℕ, zero, suc, ◌+◌, ◌<◌, ◌≤◌, arith, refl, ◌∙◌, ap, sym, subst, Option, Some, None, List, [], ◌∷◌, ◌++◌, length, ℤ, pos, length-append, Result, Ok, Err}
+use Rattle.std.proofs.Common.{◌≡◌, ℕ, zero, suc, ◌+◌, ◌<◌, ◌≤◌, arith, refl, ◌∙◌, ap, sym, subst, Option, Some, None, List, [], ◌∷◌, ◌++◌, length, ◌^◌, ℤ, pos, ◌-ℤ◌, length-append, Result, Ok, Err, FitsSigned, to_z, of_z}
+use Rattle.std.proofs.lemmas.Int.{ints, to_z-of_z}
+use Rattle.std.specs.Int.{w8, w32, w64}
 use Rattle.std.specs.Prelude.{IfSome, IsSome, OnOk, unwrap_or, slice_index}
 use Rattle.cax64_encoder.specs.Instruction.{AddsInstruction}
 use Rattle.cax64_encoder.specs.Meant.{Meant, len}
@@ -109,3 +111,23 @@ got_near jump lens n spot z s t old new there size same near places keeps room n
     let meant : ◌≡◌ {A = PartsOf Line} (jump_parts (line_of row) z) (jump_parts (line_of (row_of_len jump (slice_index lens n))) (distance_in lens n spot)) = meant_is row (row_of_len jump (slice_index lens n)) z (distance_in lens n spot) (sym rows) same in
     got_from whole (jump_parts (line_of row) z) (JumpReads lens n jump (Some spot)) (slice_index lens n) 0 s t old new adds.added (λ r e. e ∙ meant) adds.bytes all places keeps (subst (FallsBy s.byte_room t.byte_room) (sym size) room) notices (omega arith)
     (λ pieces h. of_some (λ (w : Row). LaidOn whole (jump_parts (line_of w) z) pieces t new) (short_row jump) row is (laid pieces h))
+
+-- What is computed of two places is their distance.
+
+cast_is : (p q : ℕ) (a b : ℤ) → a ≡ pos p → b ≡ pos q → p < 2 ^ 31 → q < 2 ^ 31 → to_z w64 (of_z w64 (to_z w64 (of_z w64 a) -ℤ to_z w64 (of_z w64 b))) ≡ pos p -ℤ pos q
+cast_is p q a b ea eb p_small q_small =
+    let fits_p : FitsSigned w64 (pos p) = omega (arith, ints) in
+    let fits_q : FitsSigned w64 (pos q) = omega (arith, ints) in
+    let fits : FitsSigned w64 (pos p -ℤ pos q) = omega (arith, ints) in
+    let x : to_z w64 (of_z w64 a) ≡ pos p = ap (λ (z : ℤ). to_z w64 (of_z w64 z)) ea ∙ to_z-of_z w64 (pos p) fits_p in
+    let y : to_z w64 (of_z w64 b) ≡ pos q = ap (λ (z : ℤ). to_z w64 (of_z w64 z)) eb ∙ to_z-of_z w64 (pos q) fits_q in
+    let d : to_z w64 (of_z w64 a) -ℤ to_z w64 (of_z w64 b) ≡ pos p -ℤ pos q = ap (λ (z : ℤ). z -ℤ to_z w64 (of_z w64 b)) x ∙ ap (λ (z : ℤ). pos p -ℤ z) y in
+    ap (λ (z : ℤ). to_z w64 (of_z w64 z)) d ∙ to_z-of_z w64 (pos p -ℤ pos q) fits
+
+pub near_is : (p q : ℕ) (a b : ℤ) → a ≡ pos p → b ≡ pos q → p < 2 ^ 31 → q < 2 ^ 31 → FitsSigned w8 (pos p -ℤ pos q) → to_z w8 (of_z w8 (to_z w64 (of_z w64 (to_z w64 (of_z w64 a) -ℤ to_z w64 (of_z w64 b))))) ≡ pos p -ℤ pos q
+near_is p q a b ea eb p_small q_small fits = ap (λ (z : ℤ). to_z w8 (of_z w8 z)) (cast_is p q a b ea eb p_small q_small) ∙ to_z-of_z w8 (pos p -ℤ pos q) fits
+
+pub far_is : (p q : ℕ) (a b : ℤ) → a ≡ pos p → b ≡ pos q → p < 2 ^ 31 → q < 2 ^ 31 → to_z w32 (of_z w32 (to_z w64 (of_z w64 (to_z w64 (of_z w64 a) -ℤ to_z w64 (of_z w64 b))))) ≡ pos p -ℤ pos q
+far_is p q a b ea eb p_small q_small =
+    let fits : FitsSigned w32 (pos p -ℤ pos q) = omega (arith, ints) in
+    ap (λ (z : ℤ). to_z w32 (of_z w32 z)) (cast_is p q a b ea eb p_small q_small) ∙ to_z-of_z w32 (pos p -ℤ pos q) fits
