@@ -27,7 +27,7 @@ use Rattle.x64_layout.specs.Layout.{AreSpans, IsLayout, IsSpan, Stands, place_in
 use Rattle.x64_layout.specs.declared.span.Span.{Span}
 use Rattle.x64_assemble.specs.Assembled.{distance_in, entries, long_len, span_of, spans_of, spot_of}
 use Rattle.x64_assemble.specs.Putting.{AreFree, CanEncode}
-use Rattle.x64_assemble.specs.Refused.{bind_refusal, error_in, item_refusal, refusal_at}
+use Rattle.x64_assemble.specs.Refused.{IsFirstRefusal, bind_refusal, error_in, item_refusal, number_in, refusal_at}
 use Rattle.x64_assemble.specs.declared.errors.LayoutError.{LayoutError}
 use Rattle.x64_assemble.specs.declared.errors.LayoutError.TheVariants as refusal
 use Rattle.x64_assemble.specs.declared.item.Item.{Item}
@@ -117,6 +117,10 @@ span_there len all (item.Inst inst ∷ xs) (suc k) x s is one = span_there len a
 span_there len all (item.Jump jump to ∷ xs) (suc k) x s is one = span_there len all xs k x s is one
 span_there len all (item.Bind bound ∷ xs) (suc k) x s is one = span_there len all xs k x s is one
 
+-- one length, and no jump
+abbrev pub plain : ℕ → Span
+plain len = record { least = len; more = 0; spot = None }
+
 pub inst_span : (n len : ℕ) → len ≤ 13 → IsSpan n (record { least = len; more = 0; spot = None })
 inst_span n len most = record { most = omega arith; within = tt }
 
@@ -196,3 +200,33 @@ jump_at len items k jump to lens is layout =
 
 pub answer_ok : (given number : ℕ) (o : Option ℕ) → number < given → o ≡ None → bind_answer given number o ≡ Ok tt
 answer_ok given number o below none = rw (none, lt-ltb number given below) refl
+
+pub spans_are : {I : Type 0} (len : I → ℕ) (items : List (Item I)) (noted : List Span) → noted ≡ spans_of len items items → All (IsSpan (entries items)) noted → length items ≤ 165191049 → AreSpans noted
+spans_are len items noted e each few =
+    let as_many : length noted ≡ entries items = ap length e ∙ spans_few len items items in
+    record {
+      few = omega (arith, as_many, entries_most items);
+      each = subst (λ (m : ℕ). All (IsSpan m) noted) (sym as_many) each;
+    }
+
+-- A refusal names the item that is refused.
+
+fault_numbered : (n : ℕ) (p : Option Fault) (why : LayoutError) → option_map (refusal.Fault n) p ≡ Some why → number_in why ≡ Some n
+fault_numbered n None why h = cc
+fault_numbered n (Some f) why h = let is : why ≡ refusal.Fault n f = cc in ap number_in is
+
+bind_numbered : (n : ℕ) (p : Option BindError) (why : LayoutError) → option_map (refusal.Bind n) p ≡ Some why → number_in why ≡ Some n
+bind_numbered n None why h = cc
+bind_numbered n (Some f) why h = let is : why ≡ refusal.Bind n f = cc in ap number_in is
+
+numbered_by : {I : Type 0} (fault : I → Option Fault) (given : ℕ) (places : DeferredTarget → Option ℕ) (before : List (Item I)) (n : ℕ) (o : Option (Item I)) (why : LayoutError) → option_and_then (item_refusal fault given places before n) o ≡ Some why → number_in why ≡ Some n
+numbered_by fault given places before n None why h = cc
+numbered_by fault given places before n (Some (item.Inst inst)) why h = fault_numbered n (fault inst) why h
+numbered_by fault given places before n (Some (item.Jump jump to)) why h = cc
+numbered_by fault given places before n (Some (item.Bind bound)) why h = bind_numbered n (bind_refusal given places before bound.0) why h
+
+pub first_named : {I : Type 0} (fault : I → Option Fault) (given : ℕ) (places : DeferredTarget → Option ℕ) (items : List (Item I)) (why : LayoutError) → ((n : ℕ) × IsFirstRefusal fault given places items n why) → IfSome (number_in why) (λ n. IsFirstRefusal fault given places items n why)
+first_named fault given places items why h =
+    let n : ℕ = h.0 in
+    let is : number_in why ≡ Some n = numbered_by fault given places (take n items) n (slice_get items n) why h.1.is in
+    subst (λ (o : Option ℕ). IfSome o (λ (m : ℕ). IsFirstRefusal fault given places items m why)) (sym is) h.1

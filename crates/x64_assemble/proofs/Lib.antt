@@ -2,3 +2,4 @@ pub mod Items
 pub mod Pieces
 pub mod Entries
 pub mod Steps
+pub mod Ends

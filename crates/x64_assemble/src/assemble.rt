@@ -151,7 +151,9 @@ impl<A: Allocator> Layout<A> {
         if self.make_room(items.len(), labels).is_err() {
             return Err(LayoutError::NoMemory);
         }
-        test_items(items, &*buffer, &mut self.binders)?;
+        if let Err(error) = test_items(items, &*buffer, &mut self.binders) {
+            return Err(error);
+        }
         let count = note_spans(items, &*buffer, &self.binders, &mut self.spans);
         put_least(
             items,
