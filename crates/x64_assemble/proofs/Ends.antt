@@ -1,4 +1,4 @@
-use Rattle.std.proofs.Common.{◌≡◌, ℕ, ◌+◌, ◌≤◌, arith, refl, ◌∙◌, ap, sym, subst, true, Option, Some, List, length, take, sum, Result, Ok, Err}
+use Rattle.std.proofs.Common.{◌≡◌, ℕ, ◌+◌, arith, ◌∙◌, ap, sym, subst, true, Option, Some, List, length, sum, Result, Ok, Err}
 use Rattle.std.specs.Prelude.{OnOk, is_ok}
 use Rattle.std.proofs.lemmas.List.{take_all}
 use Rattle.cax64_encoder.specs.Meant.{Meant, len}

@@ -1,14 +1,14 @@
-use Rattle.std.proofs.Common.{◌≡◌, ℕ, zero, suc, ◌+◌, ◌<◌, ◌≤◌, ◌⊎◌, inl, inr, arith, refl, ◌∙◌, ap, sym, subst, Option, Some, None, List, [], ◌∷◌, ◌++◌, length, take, get_or, slice_get, All, IsTrue, set}
-use Rattle.std.specs.Prelude.{IfSome, IsSome, is_some, option_map, option_and_then, nat_lt, if◌then◌else◌, Bool, true, false, ℤ, FitsSigned, slice_index, Ok, Err, Result}
+use Rattle.std.proofs.Common.{◌≡◌, ℕ, zero, suc, ◌+◌, ◌<◌, ◌≤◌, ◌⊎◌, inl, inr, arith, refl, ◌∙◌, ap, sym, subst, Option, Some, None, List, [], ◌∷◌, ◌++◌, length, take, get_or, slice_get, All, set}
+use Rattle.std.specs.Prelude.{IfSome, IsSome, option_map, option_and_then, nat_lt, if◌then◌else◌, Bool, true, false, FitsSigned, slice_index, Ok, Err}
 use Rattle.std.specs.Option.{option_or}
 use Rattle.std.specs.Int.{w8}
 use Rattle.std.proofs.lemmas.Bool.{ltb-true, lt-ltb, cases_lt}
 use Rattle.std.proofs.lemmas.List.{take_more, take_more_set, length-take-le}
-use Rattle.std.proofs.lemmas.List.Elements.{All-push, All-get_or, All-from_get_or}
+use Rattle.std.proofs.lemmas.List.Elements.{All-push}
 use Rattle.std.proofs.lemmas.Option.{slice_get_read, slice_get_past, slice_get_within, same_Some}
 use Rattle.cax64_encoder.proofs.Faults.{no_fault, none_is}
 use Rattle.cax64_encoder.specs.Fault.{fault_of_meant}
-use Rattle.cax64_encoder.specs.Instruction.{Meaning, can_encode_in, fault_in}
+use Rattle.cax64_encoder.specs.Instruction.{Meaning, fault_in}
 use Rattle.cax64_encoder.specs.Meant.{Meant}
 use Rattle.cax64_encoder.specs.declared.fault.Fault.{Fault}
 use Rattle.cax64_sink.specs.Sink.{State}
@@ -23,7 +23,7 @@ use Rattle.x64_code_buffer.specs.declared.jump.Condition.{Condition}
 use Rattle.x64_code_buffer.specs.declared.jump.Condition.TheVariants as cond
 use Rattle.x64_code_buffer.specs.declared.jump.Jump.{Jump}
 use Rattle.x64_code_buffer.specs.declared.jump.Jump.TheVariants.{Always, Call, If}
-use Rattle.x64_layout.specs.Layout.{AreSpans, IsLayout, IsSpan, Stands, place_in}
+use Rattle.x64_layout.specs.Layout.{AreSpans, IsLayout, IsSpan, Stands}
 use Rattle.x64_layout.specs.declared.span.Span.{Span}
 use Rattle.x64_assemble.specs.Assembled.{distance_in, entries, long_len, span_of, spans_of, spot_of}
 use Rattle.x64_assemble.specs.Putting.{AreFree, CanEncode}

@@ -1,5 +1,5 @@
 use Rattle.std.proofs.Common.{◌≡◌, ℕ, zero, suc, ◌+◌, ◌<◌, ◌≤◌, ◌⊎◌, inl, inr, arith, refl, ◌∙◌, ap, sym, Bool, true, false, Option, Some, None, List, [], ◌∷◌, ◌++◌, length, set, slice_get}
-use Rattle.std.specs.Prelude.{◌==◌, IfSome, if◌then◌else◌, option_map, option_and_then, nat_lt}
+use Rattle.std.specs.Prelude.{◌==◌, IfSome, if◌then◌else◌, option_map, option_and_then}
 use Rattle.std.specs.Option.{option_or}
 use Rattle.std.proofs.lemmas.Bool.{cases_eq, eq-eqb, ne_eqb}
 use Rattle.x64_assemble.specs.Assembled.{entries, spot_of}

@@ -1,5 +1,5 @@
-use Rattle.std.proofs.Common.{◌≡◌, ℕ, zero, suc, ◌+◌, ◌-◌, ◌<◌, ◌≤◌, ◌≢◌, ◌⊎◌, inl, inr, arith, refl, ◌∙◌, ap, sym, subst, Option, Some, None, List, [], ◌∷◌, ◌++◌, length, take, drop, sum, get_or, append_assoc, append-nil, Bool, true, false}
-use Rattle.std.specs.Prelude.{◌==◌, if◌then◌else◌, IfSome, slice_index}
+use Rattle.std.proofs.Common.{◌≡◌, ℕ, ◌+◌, ◌-◌, ◌<◌, ◌≤◌, ◌⊎◌, inl, inr, arith, refl, ◌∙◌, ap, sym, subst, Option, Some, None, List, [], ◌∷◌, ◌++◌, length, drop, sum, get_or, append_assoc, append-nil, Bool, true, false}
+use Rattle.std.specs.Prelude.{◌==◌, if◌then◌else◌, slice_index}
 use Rattle.std.specs.Option.{option_or}
 use Rattle.std.proofs.Math.Seq.{take-length}
 use Rattle.std.proofs.lemmas.Bool.{cases_eq, eq-eqb, ne_eqb}
@@ -7,7 +7,7 @@ use Rattle.std.proofs.lemmas.List.{length-drop, length_push}
 use Rattle.std.proofs.lemmas.List.Sums.{sum_by-drop_more}
 use Rattle.cax64_encoder.specs.Meant.{Meant}
 use Rattle.cax64_sink.specs.Keeps.{Keeps}
-use Rattle.cax64_sink.specs.Room.{Room, HasRoom, FallsBy, endless, count}
+use Rattle.cax64_sink.specs.Room.{Room, HasRoom, endless, count}
 use Rattle.cax64_sink.specs.Sink.{State}
 use Rattle.cax64_sink.specs.declared.DeferredTarget.{DeferredTarget}
 use Rattle.cax64_sink.specs.declared.DeferredTarget.TheVariants as target
@@ -20,7 +20,7 @@ use Rattle.x64_assemble.specs.Assembled.{EachReads, InstReads, IsNoLabelOf, Jump
 use Rattle.x64_assemble.specs.Putting.{GotEntry, Put}
 use Rattle.x64_assemble.specs.declared.item.Item.{Item}
 use Rattle.x64_assemble.specs.declared.item.Item.TheVariants as item
-use Rattle.x64_assemble.proofs.Items.{counted, entries_push, spot_here, spot_push}
+use Rattle.x64_assemble.proofs.Items.{counted, entries_push, spot_push}
 
 -- A list on its way into a buffer, one item longer.
 

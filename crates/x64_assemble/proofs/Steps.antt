@@ -1,4 +1,4 @@
-use Rattle.std.proofs.Common.{◌≡◌, ℕ, zero, suc, ◌+◌, ◌<◌, ◌≤◌, arith, refl, ◌∙◌, ap, sym, subst, Option, Some, None, List, [], ◌∷◌, ◌++◌, length, ◌^◌, ℤ, pos, ◌-ℤ◌, length-append, Result, Ok, Err, FitsSigned, to_z, of_z}
+use Rattle.std.proofs.Common.{◌≡◌, ℕ, ◌+◌, ◌<◌, ◌≤◌, arith, refl, ◌∙◌, ap, sym, subst, Option, Some, None, List, ◌++◌, length, ◌^◌, ℤ, pos, ◌-ℤ◌, length-append, Result, Ok, Err, FitsSigned, to_z, of_z}
 use Rattle.std.proofs.lemmas.Int.{ints, to_z-of_z}
 use Rattle.std.specs.Int.{w8, w32, w64}
 use Rattle.std.specs.Prelude.{IfSome, IsSome, OnOk, unwrap_or, slice_index}
@@ -11,7 +11,7 @@ use Rattle.cax64_machine_code.specs.Rows.{line_of}
 use Rattle.cax64_machine_code.specs.declared.line.Line.{Line}
 use Rattle.cax64_machine_code.specs.declared.row.Row.{Row}
 use Rattle.cax64_sink.specs.Keeps.{Keeps}
-use Rattle.cax64_sink.specs.Room.{Room, HasRoom, FallsBy, endless, count}
+use Rattle.cax64_sink.specs.Room.{Room, FallsBy}
 use Rattle.cax64_sink.specs.Sink.{State}
 use Rattle.cax64_sink.specs.declared.DeferredTarget.{DeferredTarget}
 use Rattle.x64_code_buffer.proofs.Jumped.{len_same, of_some}
@@ -22,7 +22,7 @@ use Rattle.x64_code_buffer.specs.Laid.{Laid, LaidOn, Piece, open_jump, parts_in,
 use Rattle.x64_code_buffer.specs.declared.jump.Condition.TheVariants as cond
 use Rattle.x64_code_buffer.specs.declared.jump.Jump.{Jump}
 use Rattle.x64_code_buffer.specs.declared.jump.Jump.TheVariants.{Always, Call, If}
-use Rattle.x64_assemble.specs.Assembled.{InstReads, JumpReads, WholeReads, OpenReads, distance_in, long_len, row_of_len}
+use Rattle.x64_assemble.specs.Assembled.{InstReads, JumpReads, distance_in, long_len, row_of_len}
 use Rattle.x64_assemble.specs.Putting.{GotEntry}
 use Rattle.x64_assemble.proofs.Pieces.{fewer}
 

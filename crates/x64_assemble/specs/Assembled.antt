@@ -1,7 +1,7 @@
 -- What a list of instructions, jumps to labels and places of labels becomes in a buffer.
 use Rattle.std.specs.Prelude.{◌≡◌, ℕ, suc, ◌+◌, ℤ, pos, ◌-ℤ◌, ◌==◌, if◌then◌else◌, Option, Some, None, option_map, unwrap_or, List, [], ◌∷◌, ◌++◌, length, sum, slice_index}
 use Rattle.cax64_encoder.specs.Meant.{Meant, len}
-use Rattle.cax64_machine_code.specs.ReadLine.{LineReading, parts_as}
+use Rattle.cax64_machine_code.specs.ReadLine.{parts_as}
 use Rattle.cax64_machine_code.specs.Reading.{Parts, PartsOf}
 use Rattle.cax64_machine_code.specs.Rows.{line_of}
 use Rattle.cax64_machine_code.specs.declared.line.Line.{Line}

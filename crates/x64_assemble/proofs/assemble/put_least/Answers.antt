@@ -1,11 +1,11 @@
-use Rattle.std.proofs.Common.{◌≡◌, ℕ, ◌+◌, ◌≤◌, arith, refl, ◌∙◌, ap, sym, subst, Option, Some, None, List, length, sum, ℤ}
+use Rattle.std.proofs.Common.{◌≡◌, ℕ, ◌+◌, arith, ◌∙◌, sym, subst, Option, List, length, sum, ℤ}
 use Rattle.std.specs.Prelude.{slice_index}
 use Rattle.cax64_encoder.specs.Meant.{len}
 use Rattle.cax64_sink.specs.Room.{HasRoom}
 use Rattle.cax64_sink.specs.Sink.{State}
 use Rattle.cax64_sink.specs.declared.DeferredTarget.{DeferredTarget}
 use Rattle.cax64_sink.specs.declared.DeferredTarget.TheVariants as target
-use Rattle.x64_code_buffer.specs.Buffer.{buffer_state, label_count, places_of}
+use Rattle.x64_code_buffer.specs.Buffer.{buffer_state, places_of}
 use Rattle.x64_layout.specs.Layout.{AreSpans, IsLayout, IsLeast, place_in}
 use Rattle.x64_layout.specs.declared.span.Span.{Span}
 use Rattle.x64_assemble.specs.Assembled.{spans_of}

@@ -1,4 +1,4 @@
-use Rattle.std.proofs.Common.{◌≡◌, ℕ, ◌+◌, ◌<◌, ◌≤◌, arith, refl, ◌∙◌, ap, sym, subst, Option, Some, None, List, [], ◌∷◌, ◌++◌, length, take, slice_get, ℤ, Ok}
+use Rattle.std.proofs.Common.{◌≡◌, ℕ, ◌+◌, ◌<◌, ◌≤◌, arith, refl, ◌∙◌, sym, subst, Option, Some, None, List, [], ◌∷◌, ◌++◌, length, take, slice_get, ℤ, Ok}
 use Rattle.std.specs.Prelude.{IfSome, slice_index}
 use Rattle.std.proofs.lemmas.List.{length-take-le, take_all}
 use Rattle.cax64_encoder.specs.Instruction.{len_in, notices_in}
@@ -6,17 +6,15 @@ use Rattle.cax64_encoder.specs.Meant.{Meant, len}
 use Rattle.cax64_sink.specs.Sink.{State}
 use Rattle.cax64_sink.specs.declared.DeferredTarget.{DeferredTarget}
 use Rattle.cax64_sink.specs.declared.DeferredTarget.TheVariants as target
-use Rattle.cax64_sink.specs.declared.Label.{Label}
-use Rattle.x64_code_buffer.specs.Binding.{bind_answer}
 use Rattle.x64_code_buffer.specs.Buffer.{buffer_state, label_count, places_of}
 use Rattle.x64_layout.proofs.Growth.{layout_bytes}
 use Rattle.x64_layout.specs.Layout.{Stands}
-use Rattle.x64_assemble.specs.Assembled.{InstReads, JumpReads, entries, span_of, spans_of, spot_of}
+use Rattle.x64_assemble.specs.Assembled.{InstReads, JumpReads, entries, span_of, spot_of}
 use Rattle.x64_assemble.specs.Putting.{GotEntry, Put}
 use Rattle.x64_assemble.specs.declared.item.Item.{Item}
 use Rattle.x64_assemble.specs.declared.item.Item.TheVariants as item
 use Rattle.x64_assemble.proofs.Items.{spot_most}
-use Rattle.x64_assemble.proofs.Pieces.{ItemReads, put_bind, put_entry}
+use Rattle.x64_assemble.proofs.Pieces.{put_bind, put_entry}
 use Rattle.x64_assemble.proofs.Entries.{answer_ok, entries_next, get_item, inst_at, jump_at, spans_few, take_next}
 use Rattle.x64_assemble.proofs.Steps.{given_ok, got_inst}
 use Rattle.x64_assemble.proofs.put.put_items.Goals as goal

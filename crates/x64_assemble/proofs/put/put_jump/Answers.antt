@@ -1,4 +1,4 @@
-use Rattle.std.proofs.Common.{◌≡◌, ◌≢◌, ℕ, ◌+◌, ◌≤◌, arith, refl, ◌∙◌, ap, sym, subst, Option, Some, None, List, length, ℤ, pos, ◌-ℤ◌, ◌<◌, ◌^◌, to_z, of_z}
+use Rattle.std.proofs.Common.{◌≡◌, ◌≢◌, ℕ, ◌+◌, ◌≤◌, arith, ◌∙◌, ap, sym, subst, Option, Some, None, List, length, ℤ, pos, ◌-ℤ◌, ◌<◌, ◌^◌, to_z, of_z}
 use Rattle.std.specs.Int.{w8, w32, w64}
 use Rattle.std.proofs.lemmas.List.Sums.{sum_by-take-le}
 use Rattle.std.specs.Prelude.{IfSome, slice_index}
@@ -6,7 +6,7 @@ use Rattle.cax64_sink.specs.Sink.{State}
 use Rattle.cax64_sink.specs.declared.DeferredTarget.TheVariants as target
 use Rattle.x64_code_buffer.specs.Buffer.{buffer_state, places_of}
 use Rattle.x64_layout.specs.Layout.{Stands, place_in}
-use Rattle.x64_assemble.specs.Assembled.{JumpReads, distance_in, long_len, span_of}
+use Rattle.x64_assemble.specs.Assembled.{JumpReads, distance_in, span_of}
 use Rattle.x64_assemble.specs.Putting.{GotEntry}
 use Rattle.x64_assemble.proofs.Entries.{far_stands, near_stands, open_len}
 use Rattle.x64_assemble.proofs.Steps.{far_is, given_ok, got_far, got_near, got_open, near_is}

@@ -1,4 +1,4 @@
-use Rattle.std.proofs.Common.{◌≡◌, ℕ, ◌+◌, ◌<◌, arith, refl, ◌∙◌, ap, sym, subst, All, List, [], ◌∷◌, ◌++◌, length, set, take, append-nil}
+use Rattle.std.proofs.Common.{◌≡◌, ℕ, ◌+◌, ◌<◌, arith, ◌∙◌, ap, sym, subst, All, List, [], ◌∷◌, ◌++◌, length, set, take, append-nil}
 use Rattle.cax64_encoder.specs.Instruction.{len_in}
 use Rattle.x64_code_buffer.specs.Buffer.{buffer_state, label_count, places_of}
 use Rattle.x64_layout.specs.Layout.{IsSpan}

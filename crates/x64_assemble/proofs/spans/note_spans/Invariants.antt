@@ -1,4 +1,4 @@
-use Rattle.std.proofs.Common.{◌≡◌, ◌≤◌, All, take, length}
+use Rattle.std.proofs.Common.{◌≡◌, ◌≤◌, All, take}
 use Rattle.cax64_encoder.specs.Instruction.{len_in}
 use Rattle.x64_code_buffer.specs.Buffer.{buffer_state}
 use Rattle.x64_layout.specs.Layout.{IsSpan}

@@ -1,11 +1,10 @@
-use Rattle.std.proofs.Common.{◌≡◌, ℕ, ◌+◌, ◌<◌, ◌≤◌, arith, refl, ◌∙◌, ap, sym, subst, Option, Some, None, List, [], ◌∷◌, ◌++◌, length, take, set, slice_get, below_more}
+use Rattle.std.proofs.Common.{◌≡◌, ℕ, ◌+◌, ◌<◌, arith, refl, ap, sym, subst, Option, Some, None, List, [], ◌∷◌, ◌++◌, length, take, set, slice_get, below_more}
 use Rattle.std.specs.Prelude.{option_map}
 use Rattle.std.proofs.lemmas.List.{length-set, length-take-le}
 use Rattle.cax64_encoder.specs.Instruction.{fault_in}
 use Rattle.cax64_encoder.specs.declared.fault.Fault.{Fault}
 use Rattle.cax64_sink.specs.declared.DeferredTarget.{DeferredTarget}
 use Rattle.x64_code_buffer.specs.Buffer.{buffer_state, label_count, places_of}
-use Rattle.x64_assemble.specs.Assembled.{entries, spot_of}
 use Rattle.x64_assemble.specs.Putting.{AreBinders}
 use Rattle.x64_assemble.specs.Refused.{bind_refusal, refusal_at}
 use Rattle.x64_assemble.specs.declared.binders.Binder.{Binder}

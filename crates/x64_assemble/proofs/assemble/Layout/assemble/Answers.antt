@@ -1,7 +1,10 @@
-use Rattle.std.proofs.Common.{◌≡◌, ℕ, ◌≤◌, arith, List, length, Option, None}
+use Rattle.std.proofs.Common.{◌≡◌, ℕ, arith, rules, List, Option, take, subst}
+use Rattle.std.proofs.lemmas.Grind.{common_steps}
 use Rattle.cax64_encoder.specs.Instruction.{fault_in, len_in}
 use Rattle.cax64_encoder.specs.declared.fault.Fault.{Fault}
 use Rattle.x64_code_buffer.specs.Buffer.{buffer_state, label_count, places_of}
+use Rattle.x64_layout.specs.Layout.{AreSpans}
+use Rattle.x64_layout.specs.declared.span.Span.{Span}
 use Rattle.x64_assemble.proofs.Entries.{are_free, can_encode_all, first_named, spans_are}
 use Rattle.x64_assemble.proofs.assemble.Layout.assemble.Goals as goal
 
@@ -21,4 +24,6 @@ put_least-requires-clause-free g c =
 pub put_least-requires-clause-are_spans : goal.put_least-requires-clause-are_spans
 put_least-requires-clause-are_spans g c =
     let size : g.row.I.Denot → ℕ = λ i. len_in (buffer_state c.args.buffer.now) (g.I.Instruction.meant i) in
-    spans_are size c.args.items.now _ c.note_spans-count.ensures.spans c.note_spans-count.ensures.each (omega arith)
+    let there : AreSpans (take c.note_spans-count.result c.note_spans-count.new.spans) = spans_are size c.args.items.now (take c.note_spans-count.result c.note_spans-count.new.spans) c.note_spans-count.ensures.spans c.note_spans-count.ensures.each (omega arith) in
+    let same : c.note_spans-count.new.spans ≡ c.deref-3.result.now = first_of (cc, search rules, grind (arith, common_steps)) in
+    subst (λ (z : List Span). AreSpans (take c.note_spans-count.result z)) same there
