@@ -1,0 +1,9 @@
+//! Lists in their least layout, at worked examples.
+#![tactic(auto)]
+
+#[cfg(test)]
+mod making;
+#[cfg(test)]
+mod refusals;
+#[cfg(test)]
+mod rows;

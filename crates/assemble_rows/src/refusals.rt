@@ -1,0 +1,44 @@
+//! Lists that are refused, which leave a buffer as it was.
+
+use crate::making::with_labels;
+use cax64_address::amode::Amode;
+use cax64_address::offset::AmodeOffsetPlusKnownOffset;
+use cax64_encoder::Fault;
+use cax64_operand::Numbers;
+use cax64_register::Gpr;
+use cax64_sink::{DeferredTarget, Label};
+use lock_a::lock_addl_mr;
+use x64_assemble::{Item, Layout, LayoutError};
+use x64_code_buffer::BindError;
+
+/// An addition to memory, which has a fault if its base is no register.
+fn addition(base: u8) -> Item<lock_addl_mr<Numbers>> {
+    let place = Amode::ImmReg {
+        base,
+        simm32: AmodeOffsetPlusKnownOffset::ZERO,
+        trap: None,
+    };
+    Item::Inst(lock_addl_mr::<Numbers>::new(place, Gpr::new(1)))
+}
+
+#[test]
+fn the_first_item_that_is_refused_decides(rt: HostRuntime) {
+    let mut layout = Layout::new(rt.alloc());
+    let mut buffer = with_labels(rt.alloc()).expect(&rt, "memory");
+    let twice = [Item::Bind(Label(0)), Item::Bind(Label(0)), addition(20)];
+    let refused = layout.assemble(&twice, &mut buffer);
+    assert!(rt; refused == Err(LayoutError::Bind(1, BindError::Twice)));
+    let unknown = [Item::Bind(Label(7)), addition(20)];
+    let refused = layout.assemble(&unknown, &mut buffer);
+    assert!(rt; refused == Err(LayoutError::Bind(0, BindError::Unknown)));
+    let faulty = [addition(1), addition(20), Item::Bind(Label(7))];
+    let refused = layout.assemble(&faulty, &mut buffer);
+    assert!(rt; refused == Err(LayoutError::Fault(1, Fault::Register(0))));
+    assert!(rt; buffer.bytes().is_empty());
+    assert!(rt; buffer.place_of(DeferredTarget::Label(Label(0))) == None);
+    assert!(rt; buffer.bind(Label(0)).is_ok());
+    let bound = [Item::Bind(Label(0)), addition(1)];
+    let refused = layout.assemble(&bound, &mut buffer);
+    assert!(rt; refused == Err(LayoutError::Bind(0, BindError::Twice)));
+    assert!(rt; buffer.bytes().is_empty());
+}

@@ -1,0 +1,5 @@
+pub mod Items
+pub mod Pieces
+pub mod Entries
+pub mod Steps
+pub mod Ends

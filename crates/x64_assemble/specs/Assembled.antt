@@ -1,0 +1,108 @@
+-- What a list of instructions, jumps to labels and places of labels becomes in a buffer.
+use Rattle.std.specs.Prelude.{◌≡◌, ℕ, suc, ◌+◌, ℤ, pos, ◌-ℤ◌, ◌==◌, if◌then◌else◌, Option, Some, None, option_map, unwrap_or, List, [], ◌∷◌, ◌++◌, length, sum, slice_index}
+use Rattle.cax64_encoder.specs.Meant.{Meant, len}
+use Rattle.cax64_machine_code.specs.ReadLine.{parts_as}
+use Rattle.cax64_machine_code.specs.Reading.{Parts, PartsOf}
+use Rattle.cax64_machine_code.specs.Rows.{line_of}
+use Rattle.cax64_machine_code.specs.declared.line.Line.{Line}
+use Rattle.cax64_machine_code.specs.declared.row.Row.{Row}
+use Rattle.cax64_sink.specs.Sink.{State}
+use Rattle.cax64_sink.specs.declared.DeferredTarget.{DeferredTarget}
+use Rattle.cax64_sink.specs.declared.DeferredTarget.TheVariants as target
+use Rattle.x64_code_buffer.specs.Jump.{jump_parts, long_row, short_row}
+use Rattle.x64_code_buffer.specs.Laid.{Laid, Piece, open_jump, parts_in, reading_in, whole}
+use Rattle.x64_code_buffer.specs.declared.jump.Jump.{Jump}
+use Rattle.x64_code_buffer.specs.declared.jump.Jump.TheVariants.{Always, Call, If}
+use Rattle.x64_layout.specs.Layout.{IsLeast, place_in}
+use Rattle.x64_layout.specs.declared.span.Span.{Span}
+use Rattle.x64_assemble.specs.declared.item.Item.{Item}
+use Rattle.x64_assemble.specs.declared.item.Item.TheVariants as item
+
+-- how many entries a list has: instructions and jumps
+abbrev pub entries : {I : Type 0} → List (Item I) → ℕ
+entries [] = 0
+entries (item.Inst inst ∷ later) = suc (entries later)
+entries (item.Jump jump to ∷ later) = suc (entries later)
+entries (item.Bind bound ∷ later) = entries later
+
+-- how many entries stand in front of a label's place, if the list has it
+abbrev pub spot_of : {I : Type 0} → ℕ → List (Item I) → Option ℕ
+spot_of label [] = None
+spot_of label (item.Inst inst ∷ later) = option_map suc (spot_of label later)
+spot_of label (item.Jump jump to ∷ later) = option_map suc (spot_of label later)
+spot_of label (item.Bind bound ∷ later) = if bound.0 == label then Some 0 else spot_of label later
+
+-- how many bytes a jump has with four bytes of distance (Intel SDM, volume 2, CALL, JMP and Jcc)
+abbrev pub long_len : Jump → ℕ
+long_len Call = 5
+long_len Always = 5
+long_len (If condition) = 6
+
+-- a jump to a label of the list has two lengths; a call, and a jump to another label, one
+abbrev pub span_of : Jump → Option ℕ → Span
+span_of jump None = record { least = long_len jump; more = 0; spot = None }
+span_of Call (Some spot) = record { least = 5; more = 0; spot = None }
+span_of Always (Some spot) = record { least = 2; more = 3; spot = Some spot }
+span_of (If condition) (Some spot) = record { least = 2; more = 4; spot = Some spot }
+
+-- the entries of a list, of which `all` has the labels, by what may be their lengths
+abbrev pub spans_of : {I : Type 0} → (I → ℕ) → List (Item I) → List (Item I) → List Span
+spans_of len all [] = []
+spans_of len all (item.Inst inst ∷ later) = record { least = len inst; more = 0; spot = None } ∷ spans_of len all later
+spans_of len all (item.Jump jump to ∷ later) = span_of jump (spot_of to.0 all) ∷ spans_of len all later
+spans_of len all (item.Bind bound ∷ later) = spans_of len all later
+
+-- the distance from the end of the n-th entry to the place of another
+abbrev pub distance_in : List ℕ → ℕ → ℕ → ℤ
+distance_in lens n spot = pos (place_in lens spot) -ℤ pos (place_in lens (n + 1))
+
+-- the row of a jump of so many bytes: two are those of the form with one byte of distance
+abbrev pub row_of_len : Jump → ℕ → Row
+row_of_len jump len = if len == 2 then unwrap_or (short_row jump) (long_row jump) else long_row jump
+
+-- a piece that is whole reads as this
+abbrev pub WholeReads : PartsOf Line → Piece → Type 0
+WholeReads meant (whole r) = ◌≡◌ {A = PartsOf Line} (parts_in r) meant
+WholeReads meant (open_jump r) = ⊥
+
+-- and a jump whose distance isn't there yet
+abbrev pub OpenReads : PartsOf Line → Piece → Type 0
+OpenReads meant (whole r) = ⊥
+OpenReads meant (open_jump r) = ◌≡◌ {A = PartsOf Line} (parts_in r) meant
+
+-- what an instruction is read as: by the line of its row
+abbrev pub InstReads : Parts → Piece → Type 0
+InstReads meant p = WholeReads (parts_as (line_of meant.row) meant) p
+
+-- what a jump that is the n-th entry is read as: by its distance to its spot; or open, if the list doesn't bind its label
+abbrev pub JumpReads : List ℕ → ℕ → Jump → Option ℕ → Piece → Type 0
+JumpReads lens n jump None p = OpenReads (jump_parts (line_of (long_row jump)) (pos 0)) p
+JumpReads lens n jump (Some spot) p = WholeReads (jump_parts (line_of (row_of_len jump (slice_index lens n))) (distance_in lens n spot)) p
+
+-- each instruction and jump, in order, with what it is read as, where the first is the n-th entry; each has the length that
+-- the layout gives it
+abbrev pub EachReads : {I M : Type 0} → (I → Meant M) → List ℕ → List (Item I) → ℕ → List (Item I) → List Piece → Type 0
+EachReads meant lens all n [] pieces = pieces ≡ []
+EachReads meant lens all n (item.Bind bound ∷ later) pieces = EachReads meant lens all n later pieces
+EachReads meant lens all n (item.Inst inst ∷ later) [] = ⊥
+EachReads meant lens all n (item.Inst inst ∷ later) (p ∷ pieces) = InstReads (meant inst).parts p × ((reading_in p).length ≡ slice_index lens n) × EachReads meant lens all (n + 1) later pieces
+EachReads meant lens all n (item.Jump jump to ∷ later) [] = ⊥
+EachReads meant lens all n (item.Jump jump to ∷ later) (p ∷ pieces) = JumpReads lens n jump (spot_of to.0 all) p × ((reading_in p).length ≡ slice_index lens n) × EachReads meant lens all (n + 1) later pieces
+
+-- a target that the list doesn't bind
+abbrev pub IsNoLabelOf : {I : Type 0} → List (Item I) → DeferredTarget → Type 0
+IsNoLabelOf items (target.Label label) = spot_of label.0 items ≡ None
+IsNoLabelOf items (target.Constant constant) = Unit {0}
+IsNoLabelOf items target.None = Unit {0}
+
+-- A buffer that had so many bytes has got a list: behind the pieces that were there one for each instruction and jump; each
+-- label of the list is bound to the place of its spot, and no other binding changes; the lengths are the least.
+pub record Assembled {I M : Type 0} (meant : I → Meant M) (items : List (Item I)) (pieces : List Piece) (base : ℕ) (old new : DeferredTarget → Option ℕ) (s : State) : Type 0 where
+  pub lens : List ℕ
+  pub least : IsLeast (spans_of (λ i. len (meant i)) items items) lens
+  pub more : List Piece
+  pub reads : EachReads meant lens items 0 items more
+  pub laid : Laid (pieces ++ more) (length s.bytes) s new
+  pub length : length s.bytes ≡ base + sum lens
+  pub bound : (label spot : ℕ) → spot_of label items ≡ Some spot → new (target.Label (record { 0 = label })) ≡ Some (base + place_in lens spot)
+  pub others : (target : DeferredTarget) → IsNoLabelOf items target → new target ≡ old target
