@@ -135,7 +135,7 @@ def main():
     assert not any(name.startswith(".rela.t") for name in found)
     print("#script\tfinish")
     for script in scripts:
-        print(" | ".join(script.steps), "ok:" + found[f".t{script.number}"].hex(), sep="\t")
+        print(" | ".join(script.steps), "ok:" + (found[f".t{script.number}"].hex() or "-"), sep="\t")
 
 
 if __name__ == "__main__":
