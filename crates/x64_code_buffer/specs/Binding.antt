@@ -1,5 +1,5 @@
 -- What labels and constants are bound to.
-use Rattle.std.specs.Prelude.{◌≡◌, ◌≢◌, ℕ, ◌-◌, nat_lt, nat_eq, ◌==◌, if◌then◌else◌, Option, Some, None, option_and_then, Result, Ok, Err, slice_index_or, vec_len, vec_capacity}
+use Rattle.std.specs.Prelude.{◌≡◌, ◌≢◌, ℕ, nat_lt, nat_eq, if◌then◌else◌, Option, Some, None, option_and_then, Result, Ok, Err, slice_index_or}
 use Rattle.std.specs.HashMap.{get}
 use Rattle.std.specs.Option.{option_or}
 use Rattle.cax64_sink.specs.declared.DeferredTarget.{DeferredTarget}
@@ -7,24 +7,13 @@ use Rattle.cax64_sink.specs.declared.DeferredTarget.TheVariants as target
 use Rattle.x64_code_buffer.specs.declared.errors.BindError.{BindError}
 use Rattle.x64_code_buffer.specs.declared.errors.BindError.TheVariants.{Unknown, Twice}
 use Rattle.x64_code_buffer.specs.declared.bindings.Bindings.{Bindings}
-use Rattle.x64_code_buffer.specs.declared.slot.Slot.{Slot}
-
--- the place that a slot holds: none where it holds 0, and else the number before
-abbrev pub slot_place : Slot → Option ℕ
-slot_place s = if s.after == 0 then None else Some (s.after - 1)
-
-abbrev pub no_slot : Slot
-no_slot = record { after = 0 }
+use Rattle.x64_code_buffer.specs.Label.{slot_place, no_slot, label_place}
 
 -- the place that a target is bound to
 abbrev pub place_bound : {A : Type 0} → Bindings A → DeferredTarget → Option ℕ
-place_bound b (target.Label label) = slot_place (slice_index_or b.labels.items label.0 no_slot)
+place_bound b (target.Label label) = label_place b.labels label.0
 place_bound b (target.Constant constant) = option_or (slot_place (slice_index_or b.listed.items constant.0 no_slot)) (option_and_then (λ others. get nat_eq others constant.0) b.others)
 place_bound b target.None = None
-
--- how many more labels there is memory for
-abbrev pub spare_labels : {A : Type 0} → Bindings A → ℕ
-spare_labels b = vec_capacity b.labels - vec_len b.labels
 
 -- no binding changes
 abbrev pub SamePlaces : (DeferredTarget → Option ℕ) → (DeferredTarget → Option ℕ) → Type 0

@@ -1,12 +1,13 @@
 -- What a contract sees of a `CodeBuffer`.
-use Rattle.std.specs.Prelude.{◌≡◌, ℕ, Option, List, length}
+use Rattle.std.specs.Prelude.{◌≡◌, ℕ, Option, List}
 use Rattle.std.proofs.Common.{◌∙◌}
 use Rattle.cax64_machine_code.specs.declared.reading.Reading.{Reading}
 use Rattle.cax64_sink.specs.Recorder.{recorder_state}
 use Rattle.cax64_sink.specs.Room.{FallsBy}
 use Rattle.cax64_sink.specs.Sink.{State}
 use Rattle.cax64_sink.specs.declared.DeferredTarget.{DeferredTarget}
-use Rattle.x64_code_buffer.specs.Binding.{SamePlaces, place_bound, spare_labels}
+use Rattle.x64_code_buffer.specs.Binding.{SamePlaces, place_bound}
+use Rattle.x64_code_buffer.specs.Label.{spare_labels}
 use Rattle.x64_code_buffer.specs.Filled.{Filled}
 use Rattle.x64_code_buffer.specs.Laid.{Piece, Laid}
 use Rattle.x64_code_buffer.specs.declared.buffer.CodeBuffer.{CodeBuffer}
@@ -17,11 +18,11 @@ buffer_state b = recorder_state b.recorder
 
 -- how many labels it gave
 abbrev pub label_count : {A : Type 0} → CodeBuffer A → ℕ
-label_count b = length b.bindings.labels.items
+label_count b = b.bindings.labels.given
 
 -- how many more labels it gives for sure
 abbrev pub label_room : {A : Type 0} → CodeBuffer A → ℕ
-label_room b = spare_labels b.bindings
+label_room b = spare_labels b.bindings.labels
 
 -- the place that a target is bound to
 abbrev pub places_of : {A : Type 0} → CodeBuffer A → DeferredTarget → Option ℕ

@@ -1,5 +1,6 @@
 -- What the clauses of public functions say.
 pub mod Field
+pub mod Label
 pub mod Binding
 pub mod Use
 pub mod Filled

@@ -1,12 +1,14 @@
 //! What labels and constants are bound to.
 
-ghost use Rattle.std.specs.Prelude.{ℕ, ◌≡◌, ◌≢◌, ◌↔◌, ◌+◌, ◌^◌, ◌⊎◌, ◌<◌, ◌≤◌, Some, None, Ok, Err, IfOk, IfErr, OnOk, OnErr, IsOk, MatchOption, option_and_then, if◌then◌else◌, is_ok, length, nat_eq, vec_len, vec_capacity};
+ghost use Rattle.std.specs.Prelude.{ℕ, ◌≡◌, ◌≢◌, ◌↔◌, ◌+◌, ◌^◌, ◌⊎◌, ◌<◌, ◌≤◌, Some, None, Ok, Err, IfOk, IfErr, OnOk, OnErr, IsOk, MatchOption, option_and_then, if◌then◌else◌, is_ok, length, nat_eq};
 ghost use Rattle.std.specs.HashMap.{get};
-ghost use Rattle.std.below.core.specs.declared.int.u32.TheConstants.{MAX};
+ghost use Rattle.x64_code_buffer.specs.Label.{spare_labels};
+ghost use Rattle.x64_code_buffer.specs.declared.labels.TheConstants.{FIRST};
 ghost use Rattle.x64_code_buffer.specs.declared.errors.BindError.{BindError};
 ghost use Rattle.cax64_sink.specs.declared.SinkError.{SinkError};
 
 use crate::errors::BindError;
+use crate::labels::Labels;
 use crate::slot::Slot;
 use cax64_sink::{Constant, DeferredTarget, Label, SinkError};
 use std::alloc::{AllocError, Allocator};
@@ -19,9 +21,6 @@ const NEAR: usize = 16;
 /// Places by the keys of constants.
 type Places<A> = HashMap<u32, usize, BuildHasherDefault<FoldHasher>, A>;
 
-/// For how many labels a first block is: 64 bytes.
-const FIRST_LABELS: usize = 8;
-
 /// The places of the labels that were given, by number, and of the constants that are bound.
 ///
 /// Constants are mostly numbered from 0 on, and bound in about this order. One with a key of the list, or near behind it, is
@@ -29,25 +28,24 @@ const FIRST_LABELS: usize = 8;
 /// all others. It is made at the first of these: an empty one is made and dropped at a price that a small buffer notices.
 #[derive(Drop)]
 pub struct Bindings<A: Allocator> {
-    labels: Vec<Slot, A>,
+    labels: Labels<A>,
     listed: Vec<Slot, A>,
     others: Option<Places<A>>,
-    ghost few: { vec_len labels ≤ MAX },
 }
 
 impl<A: Allocator + Copy> Bindings<A> {
-    ghost use Rattle.x64_code_buffer.specs.Binding.{place_bound, spare_labels};
+    ghost use Rattle.x64_code_buffer.specs.Binding.{place_bound};
     ghost use Rattle.cax64_sink.specs.declared.DeferredTarget.{DeferredTarget};
 
     /// No label and no constant. Takes no memory.
     #[inline(always)]
     pub fn new(alloc: A) -> Self
         ensures places { (target : DeferredTarget) → place_bound result target ≡ None }
-        ensures labels { length result.labels.items ≡ 0 }
-        ensures spare { spare_labels result ≡ 0 }
+        ensures labels { result.labels.given ≡ 0 }
+        ensures spare { spare_labels result.labels ≡ FIRST }
     {
         Bindings {
-            labels: Vec::new(alloc),
+            labels: Labels::new(alloc),
             listed: Vec::new(alloc),
             others: None,
         }
@@ -55,7 +53,7 @@ impl<A: Allocator + Copy> Bindings<A> {
 }
 
 impl<A: Allocator> Bindings<A> {
-    ghost use Rattle.x64_code_buffer.specs.Binding.{place_bound, spare_labels, SamePlaces, AddsBinding, bind_answer};
+    ghost use Rattle.x64_code_buffer.specs.Binding.{place_bound, SamePlaces, AddsBinding, bind_answer};
     ghost use Rattle.cax64_sink.specs.declared.DeferredTarget.{DeferredTarget};
 
     /// The place that a target is bound to.
@@ -64,7 +62,7 @@ impl<A: Allocator> Bindings<A> {
         ensures { result ≡ place_bound self.now target }
     {
         match target {
-            DeferredTarget::Label(Label(number)) => self.labels.get(number as usize)?.place(),
+            DeferredTarget::Label(Label(number)) => self.labels.place(number),
             DeferredTarget::Constant(constant) => self.constant_place(constant),
             DeferredTarget::None => None,
         }
@@ -94,89 +92,63 @@ impl<A: Allocator> Bindings<A> {
     /// How many labels were given.
     #[inline(always)]
     pub fn label_count(&self) -> u32
-        ensures { result ≡ length self.now.labels.items }
+        ensures { result ≡ self.now.labels.given }
     {
-        self.labels.len() as u32
+        self.labels.given()
     }
 
     /// Makes room for the places of so many more labels.
     pub fn reserve_labels(&mut self, count: usize) -> Result<(), SinkError>
-        ensures spare { OnOk result (count ≤ spare_labels self.new) }
-        ensures stays { spare_labels self.old ≤ spare_labels self.new }
-        ensures succeeds { count ≤ spare_labels self.old → IsOk result }
+        ensures spare { OnOk result (count ≤ spare_labels self.new.labels) }
+        ensures stays { spare_labels self.old.labels ≤ spare_labels self.new.labels }
+        ensures succeeds { count ≤ spare_labels self.old.labels → IsOk result }
         ensures no_memory { IfErr result (λ e. e ≡ SinkError.NoMemory) }
         ensures places { SamePlaces (place_bound self.old) (place_bound self.new) }
-        ensures labels { length self.new.labels.items ≡ length self.old.labels.items }
+        ensures labels { self.new.labels.given ≡ self.old.labels.given }
     {
-        self.labels.reserve(count).map_err(|_| SinkError::NoMemory)
+        self.labels.reserve(count)
     }
 
     /// The next label, with a place for its binding.
+    #[inline(always)]
     pub fn new_label(&mut self) -> Result<Label, SinkError>
-        ensures number { IfOk result (λ label. label.0 ≡ length self.old.labels.items) }
-        ensures count { length self.new.labels.items ≡ length self.old.labels.items + (if is_ok result then 1 else 0) }
-        ensures full { (result ≡ Err SinkError.Full) ↔ (length self.old.labels.items ≡ u32.MAX) }
-        ensures enough { 1 ≤ spare_labels self.old → IfErr result (λ e. e ≡ SinkError.Full) }
-        ensures spare { spare_labels self.old ≤ spare_labels self.new + (if is_ok result then 1 else 0) }
+        ensures number { IfOk result (λ label. label.0 ≡ self.old.labels.given) }
+        ensures count { self.new.labels.given ≡ self.old.labels.given + (if is_ok result then 1 else 0) }
+        ensures full { (result ≡ Err SinkError.Full) ↔ (self.old.labels.given ≡ u32.MAX) }
+        ensures enough { 1 ≤ spare_labels self.old.labels → IfErr result (λ e. e ≡ SinkError.Full) }
+        ensures spare { spare_labels self.old.labels ≤ spare_labels self.new.labels + (if is_ok result then 1 else 0) }
         ensures places { SamePlaces (place_bound self.old) (place_bound self.new) }
     {
-        if self.labels.len() == u32::MAX as usize {
+        if self.labels.given() == u32::MAX {
             return Err(SinkError::Full);
         }
-        // Asked here, since the compiler calls what grows a `Vec` for each label where `push` alone asks.
-        if self.labels.len() == self.labels.capacity() {
-            self.grow_labels()?;
-        }
-        let label = Label(self.labels.len() as u32);
-        self.labels
-            .push(Slot::empty())
-            .map_err(|_| SinkError::NoMemory)?;
-        Ok(label)
-    }
-
-    /// Makes room for a label where there is none: a first block, and then twice the room.
-    #[inline(never)]
-    fn grow_labels(&mut self) -> Result<(), SinkError>
-        ensures room { OnOk result (1 ≤ spare_labels self.new) }
-        ensures stays { spare_labels self.old ≤ spare_labels self.new }
-        ensures succeeds { 1 ≤ spare_labels self.old → IsOk result }
-        ensures no_memory { IfErr result (λ e. e ≡ SinkError.NoMemory) }
-        ensures places { SamePlaces (place_bound self.old) (place_bound self.new) }
-        ensures labels { length self.new.labels.items ≡ length self.old.labels.items }
-    {
-        let grown = if self.labels.capacity() == 0 {
-            self.labels.reserve_exact(FIRST_LABELS)
-        } else {
-            self.labels.reserve(1)
-        };
-        grown.map_err(|_| SinkError::NoMemory)
+        self.labels.give().map(Label)
     }
 
     /// Binds a label that was given to a place.
     pub fn bind(&mut self, label: Label, place: usize) -> Result<(), BindError>
         requires { place < 2 ^ 63 }
-        ensures answer { result ≡ bind_answer (length self.old.labels.items) label.0 (place_bound self.old (DeferredTarget.Label label)) }
+        ensures answer { result ≡ bind_answer self.old.labels.given label.0 (place_bound self.old (DeferredTarget.Label label)) }
         ensures binds { OnOk result (AddsBinding (DeferredTarget.Label label) place (place_bound self.old) (place_bound self.new)) }
         ensures unchanged { OnErr result (SamePlaces (place_bound self.old) (place_bound self.new)) }
-        ensures labels { length self.new.labels.items ≡ length self.old.labels.items }
-        ensures spare { spare_labels self.new ≡ spare_labels self.old }
+        ensures labels { self.new.labels.given ≡ self.old.labels.given }
+        ensures spare { spare_labels self.new.labels ≡ spare_labels self.old.labels }
     {
-        let number = label.0 as usize;
-        if number >= self.labels.len() {
+        if label.0 >= self.labels.given() {
             return Err(BindError::Unknown);
         }
-        if self.labels[number].place().is_some() {
+        if self.labels.place(label.0).is_some() {
             return Err(BindError::Twice);
         }
-        self.labels[number] = Slot::of(place);
+        self.labels.bind(label.0, place);
         Ok(())
     }
 
     /// Forgets all labels and constants, and keeps the memory.
     pub fn clear(&mut self)
         ensures places { (target : DeferredTarget) → place_bound self.new target ≡ None }
-        ensures labels { length self.new.labels.items ≡ 0 }
-        ensures spare { spare_labels self.new ≡ spare_labels self.old + length self.old.labels.items }
+        ensures labels { self.new.labels.given ≡ 0 }
+        ensures spare { spare_labels self.new.labels ≡ spare_labels self.old.labels + self.old.labels.given }
     {
         self.labels.clear();
         self.listed.clear();
@@ -187,7 +159,7 @@ impl<A: Allocator> Bindings<A> {
 }
 
 impl<A: Allocator + Clone> Bindings<A> {
-    ghost use Rattle.x64_code_buffer.specs.Binding.{place_bound, spare_labels, SamePlaces, AddsBinding};
+    ghost use Rattle.x64_code_buffer.specs.Binding.{place_bound, SamePlaces, AddsBinding};
     ghost use Rattle.cax64_sink.specs.declared.DeferredTarget.{DeferredTarget};
 
     /// Binds a constant to a place. Where the list can't grow, the map has it.
@@ -196,8 +168,8 @@ impl<A: Allocator + Clone> Bindings<A> {
         ensures answer { MatchOption (place_bound self.old (DeferredTarget.Constant constant)) ((result ≡ Ok tt) ⊎ (result ≡ Err BindError.NoMemory)) (λ _. result ≡ Err BindError.Twice) }
         ensures binds { OnOk result (AddsBinding (DeferredTarget.Constant constant) place (place_bound self.old) (place_bound self.new)) }
         ensures unchanged { OnErr result (SamePlaces (place_bound self.old) (place_bound self.new)) }
-        ensures labels { length self.new.labels.items ≡ length self.old.labels.items }
-        ensures spare { spare_labels self.new ≡ spare_labels self.old }
+        ensures labels { self.new.labels.given ≡ self.old.labels.given }
+        ensures spare { spare_labels self.new.labels ≡ spare_labels self.old.labels }
     {
         let key = constant.0 as usize;
         if key.saturating_sub(self.listed.len()) < NEAR {
@@ -218,8 +190,8 @@ impl<A: Allocator + Clone> Bindings<A> {
         ensures answer { MatchOption (place_bound self.old (DeferredTarget.Constant constant)) ((result ≡ Ok tt) ⊎ (result ≡ Err BindError.NoMemory)) (λ _. result ≡ Err BindError.Twice) }
         ensures binds { OnOk result (AddsBinding (DeferredTarget.Constant constant) place (place_bound self.old) (place_bound self.new)) }
         ensures unchanged { OnErr result (SamePlaces (place_bound self.old) (place_bound self.new)) }
-        ensures labels { length self.new.labels.items ≡ length self.old.labels.items }
-        ensures spare { spare_labels self.new ≡ spare_labels self.old }
+        ensures labels { self.new.labels.given ≡ self.old.labels.given }
+        ensures spare { spare_labels self.new.labels ≡ spare_labels self.old.labels }
     {
         if let Some(others) = &mut self.others {
             return bind_in(others, constant.0, place);
@@ -241,8 +213,8 @@ impl<A: Allocator + Clone> Bindings<A> {
         ensures there { OnOk result (key < length self.new.listed.items) }
         ensures short { OnErr result (length self.new.listed.items ≤ key) }
         ensures places { SamePlaces (place_bound self.old) (place_bound self.new) }
-        ensures labels { length self.new.labels.items ≡ length self.old.labels.items }
-        ensures spare { spare_labels self.new ≡ spare_labels self.old }
+        ensures labels { self.new.labels.given ≡ self.old.labels.given }
+        ensures spare { spare_labels self.new.labels ≡ spare_labels self.old.labels }
     {
         if key < self.listed.len() {
             return Ok(());

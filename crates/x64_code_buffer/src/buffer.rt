@@ -43,7 +43,8 @@ impl<A: Allocator + Copy> CodeBuffer<A> {
     ghost use Rattle.x64_code_buffer.specs.Filled.{Filled};
     ghost use Rattle.x64_code_buffer.specs.Laid.{Laid};
 
-    /// An empty buffer that knows no offset, gave no label and bound nothing. Takes no memory.
+    /// An empty buffer that knows no offset, gave no label and bound nothing. Takes no memory, and has places for sixteen
+    /// labels.
     #[inline(always)]
     pub fn new(alloc: A) -> Self
         ensures bytes { (buffer_state result).bytes ≡ [] }
@@ -52,7 +53,7 @@ impl<A: Allocator + Copy> CodeBuffer<A> {
         ensures byte_room { (buffer_state result).byte_room ≡ count 0 }
         ensures notice_room { (buffer_state result).notice_room ≡ count 0 }
         ensures labels { label_count result ≡ 0 }
-        ensures label_room { label_room result ≡ 0 }
+        ensures label_room { label_room result ≡ 16 }
         ensures places { (target : DeferredTarget) → places_of result target ≡ None }
         ensures filled { Filled [] 0 (buffer_state result) (places_of result) }
         ensures laid { Laid [] 0 (buffer_state result) (places_of result) }

@@ -10,6 +10,7 @@ mod errors;
 mod field;
 mod jump;
 mod jumps;
+mod labels;
 pub mod laws;
 mod message;
 mod patch;

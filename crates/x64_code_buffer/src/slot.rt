@@ -10,7 +10,7 @@ pub struct Slot {
 }
 
 impl Slot {
-    ghost use Rattle.x64_code_buffer.specs.Binding.{slot_place};
+    ghost use Rattle.x64_code_buffer.specs.Label.{slot_place};
 
     /// No place.
     #[inline(always)]

@@ -1,0 +1,41 @@
+//! A line of the file.
+
+use crate::columns::{optional, place_of, value_of};
+use cax64_sink::FixedSink;
+use std::alloc::{AllocError, Global};
+use x64_core::{Core, Op};
+
+/// The instruction of a line, where each column is of its form and the operands are those of the line of the core.
+fn core_of(line: &str) -> Option<Core> {
+    let mut columns = line.split('\t');
+    let op = Op::from_number(value_of(columns.next()?)?)?;
+    let _name = columns.next()?;
+    let reg = optional(columns.next()?)?;
+    let place = place_of(columns.next()?)?;
+    let imm = optional(columns.next()?)?;
+    Core::new(op, reg, None, place, imm).ok()
+}
+
+/// Whether what came is what the line has in its last column.
+pub(crate) fn is_wanted(line: &str, came: &str) -> bool {
+    line.split('\t').last() == Some(came)
+}
+
+/// The bytes of the instruction of a line as hexadecimal pairs, or why there are none.
+pub(crate) fn outcome_of(alloc: Global, line: &str) -> Result<String, AllocError> {
+    let mut came = String::new(alloc);
+    let Some(core) = core_of(line) else {
+        came.push_str("nothing: the line isn't of its form")?;
+        return Ok(came);
+    };
+    let mut sink = FixedSink::<13>::new();
+    match core.encode_checked(&mut sink) {
+        Ok(()) => {
+            for byte in sink.bytes() {
+                write!(came, "{byte:02x}")?;
+            }
+        }
+        Err(_) => came.push_str("nothing: it can't be encoded")?,
+    }
+    Ok(came)
+}
