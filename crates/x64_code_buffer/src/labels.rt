@@ -131,7 +131,7 @@ impl<A: Allocator> Labels<A> {
         Ok(number)
     }
 
-    /// Makes room for a label where there is none.
+    /// Makes room for a label where there is none: for as many as there are, and then twice the room.
     #[inline(never)]
     fn grow(&mut self) -> Result<(), SinkError>
         ensures room { OnOk result (vec_len self.new.others < vec_capacity self.new.others) }
@@ -142,7 +142,12 @@ impl<A: Allocator> Labels<A> {
         ensures first { self.new.first ≡ self.old.first }
         ensures items { self.new.others.items ≡ self.old.others.items }
     {
-        self.others.reserve(1).map_err(|_| SinkError::NoMemory)
+        let grown = if self.others.capacity() == 0 {
+            self.others.reserve_exact(FIRST)
+        } else {
+            self.others.reserve(1)
+        };
+        grown.map_err(|_| SinkError::NoMemory)
     }
 
     /// Forgets all labels, and keeps the memory.
