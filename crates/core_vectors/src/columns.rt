@@ -7,12 +7,18 @@ use std::str::FromStr;
 use x64_core::CorePlace;
 
 /// The value that a text is, or none.
-pub(crate) fn value_of<T: FromStr>(text: &str) -> Option<T> {
+pub(crate) fn value_of<T: FromStr>(text: &str) -> Option<T>
+where
+    T::Err: Drop,
+{
     T::from_str(text).ok()
 }
 
 /// Nothing of `-`, and else what a text is.
-pub(crate) fn optional<T: FromStr>(text: &str) -> Option<Option<T>> {
+pub(crate) fn optional<T: FromStr>(text: &str) -> Option<Option<T>>
+where
+    T::Err: Drop,
+{
     match text {
         "-" => Some(None),
         given => Some(Some(value_of(given)?)),
