@@ -7,6 +7,7 @@ pub mod Shape
 pub mod Fits
 pub mod Adds
 pub mod Refusal
+pub mod Message
 pub mod Rename
 pub mod Kinds
 pub mod Extension
