@@ -4,6 +4,7 @@ use cax64_inst_data::{DataOperand, InstData};
 use cax64_machine_code::row::{Branch, Row};
 use cax64_operand::{OperandKind, signature};
 use cranelift_assembler_x64::Amode;
+use cranelift_assembler_x64::laws::data_is_made_of_what_it_lists;
 use std::alloc::AllocFailed;
 
 #[test]
@@ -56,6 +57,7 @@ fn operand(kind: &OperandKind) -> DataOperand {
 
 #[test]
 fn what_data_lists_makes_it_again(rt: HostRuntime) -> Result<(), AllocFailed<DataOperand>> {
+    data_is_made_of_what_it_lists();
     let mut made = 0usize;
     for row in Row::all() {
         let mut operands = Vec::new(rt.alloc());
