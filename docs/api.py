@@ -18,9 +18,10 @@ SECTIONS = (
     ("An instruction", "Instruction InstructionText EncodeError Fault RoomNeeded rename"),
     ("Lists of instructions", "encode_all encode_all_whole encode_each encode_each_checked encode_each_whole all_encodable "
      "Refused Stopped"),
-    ("Every kind of instruction", "inst::Inst Row"),
+    ("Every kind of instruction", "inst::Inst Row Branch signature OperandKind ImmediateKind"),
     ("Registers", "Registers Numbers AsReg Gpr NonRspGpr Xmm Fixed Size register_name gpr::enc xmm::enc"),
-    ("Addresses", "Amode AmodeOffset AmodeOffsetPlusKnownOffset Scale GprMem XmmMem emit_modrm_sib_disp rex::Disp Dialect"),
+    ("Addresses", "Amode BaseAddress IndexAddress AmodeOffset AmodeOffsetPlusKnownOffset Scale GprMem XmmMem "
+     "emit_modrm_sib_disp rex::Disp Dialect"),
     ("Immediates", "Imm8 Imm16 Imm32 Imm64 Simm8 Simm16 Simm32 Extension OutOfRange"),
     ("Sinks", "CodeSink Recorder FixedSink Notice TrapCode DeferredTarget Label Constant KnownOffset SinkError"),
     ("The code buffer", "CodeBuffer Jump Condition BindError FinishError patched_field"),

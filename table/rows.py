@@ -1,5 +1,9 @@
 """The rows: their enumeration and names, their places, the packed table, and the heads of data."""
 
+import re
+
+from formatting import arms
+
 PLACE_MEMORY, PLACE_REGISTER, PLACE_REGISTER_8 = range(3)
 TAIL_NONE, TAIL_DIGIT, TAIL_REGISTER_8, TAIL_REGISTER = range(4)
 ANY_W = 2
@@ -86,6 +90,23 @@ def head_table(rows):
     return [*lines, "];"]
 
 
+def all_rows(names):
+    return [f"static ALL: [Row; {len(names)}] = [", *(f"    Row::{name}," for name in names), "];"]
+
+
+# The branches, by their opcodes. (Intel SDM, volume 2, the pages of JMP, CALL and Jcc.)
+BRANCHES = {"Jump": "EB|E9|FF /4", "Call": "E8|FF /2", "Conditional": "7.|0F 8."}
+
+
+def branch_arms(rows):
+    """The rows of each kind of branch."""
+    lines = []
+    for kind, opcodes in BRANCHES.items():
+        found = [row for row in rows if not row.code.vex and re.fullmatch(opcodes, row.code.opcode_name)]
+        lines += arms([f"Row::{row.name}" for row in found], f"Some(Branch::{kind})", " " * 12)
+    return lines
+
+
 def number_function(count):
     """The place of a row, with its bound."""
     return [
@@ -116,6 +137,8 @@ def write(table, sources):
     enumeration = "crates/cax64_machine_code/src/row.rt"
     sources.part(enumeration, "variants", [f"    {name}," for name in names])
     sources.part(enumeration, "names", [f'            Row::{name} => "{name}",' for name in names])
+    sources.part(enumeration, "rows", all_rows(names))
+    sources.part(enumeration, "branches", branch_arms(table.rows))
     places = "crates/cax64_machine_code/proofs/Table.antt"
     variants = "Rattle.cax64_machine_code.specs.declared.row.Row.TheVariants"
     sources.part(places, "variants", [f"use {variants}.{{{', '.join(names)}}}"])

@@ -8,6 +8,8 @@ use cax64_operand::Numbers;
 use cax64_register::Gpr;
 use cax64_sink::{DeferredTarget, Label};
 use lock_a::lock_addl_mr;
+use std::alloc::{AllocError, Global};
+use std::error::Error;
 use x64_assemble::{Item, Layout, LayoutError};
 use x64_code_buffer::BindError;
 
@@ -41,4 +43,29 @@ fn the_first_item_that_is_refused_decides(rt: HostRuntime) {
     let refused = layout.assemble(&bound, &mut buffer);
     assert!(rt; refused == Err(LayoutError::Bind(0, BindError::Twice)));
     assert!(rt; buffer.bytes().is_empty());
+}
+
+/// Whether any error is told so.
+fn tells<E: Error>(alloc: Global, error: &E, text: &str) -> Result<bool, AllocError> {
+    Ok(error.to_string(alloc)?.as_str() == text)
+}
+
+#[test]
+fn refusals_print(rt: HostRuntime) -> Result<(), AllocError> {
+    let alloc = rt.alloc();
+    let fault = LayoutError::Fault(1, Fault::Unknown(7));
+    let text = "item 1 of the list can't be encoded: the late offset 7 isn't known";
+    assert!(rt; tells(alloc, &fault, text)?);
+    let twice = LayoutError::Bind(2, BindError::Twice);
+    let text = "item 2 of the list can't be bound: the label or constant is bound already";
+    assert!(rt; tells(alloc, &twice, text)?);
+    assert!(rt;
+        tells(
+            alloc,
+            &LayoutError::TooMany,
+            "the list has more than 165191049 items"
+        )?
+    );
+    assert!(rt; tells(alloc, &LayoutError::NoMemory, "no memory is left")?);
+    Ok(())
 }

@@ -10,6 +10,10 @@ mod counted_loop;
 #[cfg(test)]
 mod data;
 #[cfg(test)]
+mod errors;
+#[cfg(test)]
 mod examples;
+#[cfg(test)]
+mod makers;
 #[cfg(test)]
 mod reserved;

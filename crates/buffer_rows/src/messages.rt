@@ -25,6 +25,9 @@ fn errors_of_finishing_print(rt: HostRuntime) -> Result<(), AllocError> {
     let none = FinishError::Unbound(DeferredTarget::None).to_string(rt.alloc())?;
     assert!(rt; none.as_str() == "a field refers to no label and no constant");
     let far = FinishError::TooFar(12).to_string(rt.alloc())?;
-    assert!(rt; far.as_str() == "the field at byte 12 isn't whole, or can't hold the distance");
+    assert!(rt;
+        far.as_str()
+            == "the field at byte 12 can't hold the distance; or the code ends before the field does"
+    );
     Ok(())
 }

@@ -4,6 +4,7 @@
 pub mod amode;
 pub mod disp;
 pub mod laws;
+pub mod makers;
 pub mod memory;
 pub mod number;
 pub mod offset;

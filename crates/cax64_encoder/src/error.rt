@@ -5,6 +5,7 @@ ghost use Rattle.cax64_encoder.specs.Message.{encode_error_text};
 
 use crate::fault::Fault;
 use cax64_sink::SinkError;
+use std::error::Error;
 use std::fmt;
 
 /// Why [`Instruction::encode_checked`](crate::Instruction::encode_checked) didn't put an instruction.
@@ -24,5 +25,29 @@ impl fmt::Display for EncodeError {
             EncodeError::Fault(fault) => write!(f, "{fault}"),
             EncodeError::Sink(error) => write!(f, "{error}"),
         }
+    }
+}
+
+impl Error for EncodeError {}
+
+impl From<Fault> for EncodeError {
+    ghost use Rattle.std.specs.Prelude.{◌≡◌};
+    ghost use Rattle.cax64_encoder.specs.declared.error.EncodeError.TheVariants as variants;
+
+    ghost from_gives = { λ fault error. error ≡ variants.Fault fault };
+
+    fn from(fault: Fault) -> EncodeError {
+        EncodeError::Fault(fault)
+    }
+}
+
+impl From<SinkError> for EncodeError {
+    ghost use Rattle.std.specs.Prelude.{◌≡◌};
+    ghost use Rattle.cax64_encoder.specs.declared.error.EncodeError.TheVariants as variants;
+
+    ghost from_gives = { λ refused error. error ≡ variants.Sink refused };
+
+    fn from(refused: SinkError) -> EncodeError {
+        EncodeError::Sink(refused)
     }
 }

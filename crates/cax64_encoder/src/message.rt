@@ -4,6 +4,7 @@ ghost use Rattle.std.specs.Prelude.{Some};
 ghost use Rattle.cax64_encoder.specs.Message.{fault_text};
 
 use crate::Fault;
+use std::error::Error;
 use std::fmt;
 
 impl fmt::Display for Fault {
@@ -31,3 +32,5 @@ impl fmt::Display for Fault {
         }
     }
 }
+
+impl Error for Fault {}

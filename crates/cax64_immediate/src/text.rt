@@ -5,6 +5,7 @@ ghost use Rattle.cax64_immediate.specs.Text.{imm_text, fits_extension, extended8
 
 use crate::{Extension, Imm8, Imm16, Imm32, Imm64, OutOfRange, Simm8, Simm16, Simm32};
 use std::alloc::{AllocError, Allocator};
+use std::error::Error;
 use std::fmt;
 
 impl fmt::Display for OutOfRange {
@@ -14,6 +15,8 @@ impl fmt::Display for OutOfRange {
         f.write_str("the number doesn't fit in the immediate")
     }
 }
+
+impl Error for OutOfRange {}
 
 impl fmt::Display for Imm8 {
     ghost output = { λ imm. Some (imm_text imm) };

@@ -34,3 +34,4 @@ pub mod CodeParts
 pub mod Coded
 pub mod Equality
 pub mod Exact
+pub mod GivenBack

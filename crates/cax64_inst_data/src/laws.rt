@@ -1,6 +1,6 @@
 //! Laws of the items here. The functions do nothing: their clauses are the laws.
 
-ghost use Rattle.std.specs.Prelude.{◌≡◌, ◌↔◌, ◌≤◌, ◌⊎◌, ℕ, ℤ, true, false, not, List, length, Option, Some, option_and_then, option_map};
+ghost use Rattle.std.specs.Prelude.{◌≡◌, ◌↔◌, ◌≤◌, ◌⊎◌, ℕ, ℤ, true, false, not, List, length, Option, None, Some, Result, IfOk, IsOk, option_and_then, option_map};
 ghost use Rattle.cax64_encoder.specs.Fault.{is_encodable};
 ghost use Rattle.cax64_encoder.specs.Meant.{meant_of};
 ghost use Rattle.cax64_encoder.specs.Nop.{nop_bytes, nop_place};
@@ -9,11 +9,17 @@ ghost use Rattle.cax64_machine_code.specs.Reading.{read};
 ghost use Rattle.cax64_machine_code.specs.declared.reading.Reading.{Reading};
 ghost use Rattle.cax64_machine_code.specs.declared.row.Row.{Row};
 ghost use Rattle.cax64_operand.specs.NopRow.{nop_row};
+ghost use Rattle.cax64_operand.specs.OperandList.{list_of, nop_of};
+ghost use Rattle.cax64_operand.specs.Signature.{HasSignature};
+ghost use Rattle.cax64_operand.specs.declared.instruction.Numbers.{Numbers};
 ghost use Rattle.cax64_operand.specs.declared.nop.Nop.{Nop};
 ghost use Rattle.cax64_operand.specs.declared.operand.Operands.{Operands};
+ghost use Rattle.cax64_inst_data.specs.Data.{data_operands, data_row};
+ghost use Rattle.cax64_inst_data.specs.Given.{all_given};
+ghost use Rattle.cax64_inst_data.specs.Made.{MadeOf};
 ghost use Rattle.cax64_inst_data.specs.Numbered.{numbered_amode, numbered_operands, settled_operands};
 ghost use Rattle.cax64_inst_data.specs.OfReading.{is_data, is_left_out, nop_for};
-ghost use Rattle.cax64_inst_data.specs.Refusal.{is_nop_row};
+ghost use Rattle.cax64_inst_data.specs.Refusal.{is_nop_row, refusal};
 ghost use Rattle.cax64_inst_data.specs.declared.data.InstData.{InstData};
 ghost use Rattle.cax64_inst_data.specs.declared.operand.DataError.{DataError};
 ghost use Rattle.cax64_inst_data.specs.declared.operand.DataOperand.{DataOperand};
@@ -46,6 +52,18 @@ pub fn laws_of_equality()
     ensures data { (a b : InstData) → (⟦<InstData as PartialEq>⟧.eq a b ≡ true) ↔ (a ≡ b) }
     ensures operands { (a b : DataOperand) → (⟦<DataOperand as PartialEq>⟧.eq a b ≡ true) ↔ (a ≡ b) }
     ensures errors { (a b : DataError) → (⟦<DataError as PartialEq>⟧.eq a b ≡ true) ↔ (a ≡ b) }
+{}
+
+/// What is given of operands that have a row's signature isn't refused, and no others of that signature give it. So what
+/// data lists makes data of the same row and the same operands; a no-operation has none to give.
+pub fn data_is_made_of_what_it_lists()
+    ensures taken { (row : Row) (o : Operands Numbers ℕ ℕ ℕ ℕ ℕ ℕ) → HasSignature row o → nop_of o ≡ None → is_nop_row row ≡ false
+        → refusal row (all_given (list_of o)) ≡ None }
+    ensures same { (row : Row) (a b : Operands Numbers ℕ ℕ ℕ ℕ ℕ ℕ) → HasSignature row a → HasSignature row b → nop_of a ≡ None → nop_of b ≡ None
+        → all_given (list_of a) ≡ all_given (list_of b) → a ≡ b }
+    ensures data { (d : InstData) (result : Result InstData DataError) → is_nop_row (data_row d) ≡ false
+        → MadeOf (data_row d) (all_given (list_of (data_operands d))) result
+        → IsOk result × IfOk result (λ e. (data_row e ≡ data_row d) × (data_operands e ≡ data_operands d)) }
 {}
 
 /// Of what is read of any bytes there is data but for four reasons: a high byte, a place relative to the end, memory

@@ -10,15 +10,17 @@ ghost use Rattle.cax64_inst_data.specs.declared.operand.DataOperand.TheVariants.
 ghost use Rattle.cax64_inst_data.specs.Fits.{imm_fits, is_memory, is_present};
 ghost use Rattle.cax64_inst_data.specs.declared.place.PlaceKind.TheVariants.{Absent};
 ghost use Rattle.cax64_inst_data.specs.Given.{gpr_mem_given, xmm_mem_given};
-ghost use Rattle.cax64_inst_data.specs.Message.{data_error_text};
+ghost use Rattle.cax64_inst_data.specs.Message.{data_error_text, operand_noun};
 ghost use Rattle.cax64_inst_data.specs.Operands.{amode_of, gpr_mem_of, imm_by, xmm_mem_of};
 ghost use Rattle.cax64_inst_data.specs.Refusal.{no_immediate, no_memory, no_place, no_register, no_two_registers, value_fits};
 
 use crate::place::{DataPlace, PlaceKind};
 use cax64_address::amode::{Amode, Scale};
 use cax64_address::offset::AmodeOffset;
-use cax64_operand::ImmediateKind;
+use cax64_address::operand::{GprMem, XmmMem};
+use cax64_operand::{ImmOperand, ImmediateKind, Numbers, Operand};
 use cax64_sink::DeferredTarget;
+use std::error::Error;
 use std::fmt;
 
 /// An operand by its numbers. Registers of 16 and up are virtual.
@@ -53,13 +55,76 @@ impl fmt::Display for DataError {
     fn fmt<W: fmt::Write>(&self, f: &mut fmt::Formatter<W>) -> fmt::Result {
         match self {
             DataError::Nop => f.write_str("a no-operation is made by its length"),
-            DataError::Count(wanted) => write!(f, "the row takes {wanted} operands"),
+            DataError::Count(wanted) => {
+                let noun = operand_noun(*wanted);
+                write!(f, "the row takes {wanted} {noun}")
+            }
             DataError::Kind(at) => write!(
                 f,
                 "operand {at} is of another kind than the row takes there"
             ),
             DataError::Range(at) => write!(f, "operand {at} is an immediate out of its range"),
         }
+    }
+}
+
+impl Error for DataError {}
+
+/// The word for so many operands.
+fn operand_noun(count: usize) -> &'static str
+    ensures { result.now ≡ operand_noun count }
+{
+    if count == 1 { "operand" } else { "operands" }
+}
+
+impl From<Operand<Numbers>> for DataOperand {
+    ghost use Rattle.std.specs.Prelude.{◌≡◌};
+    ghost use Rattle.cax64_inst_data.specs.Given.{given_of};
+
+    ghost from_gives = { λ operand given. given ≡ given_of operand };
+
+    fn from(operand: Operand<Numbers>) -> DataOperand {
+        match operand {
+            Operand::ReadGpr(reg, _)
+            | Operand::ReadWriteGpr(reg, _)
+            | Operand::WriteGpr(reg, _)
+            | Operand::FixedReadGpr(reg, _, _)
+            | Operand::FixedReadWriteGpr(reg, _, _)
+            | Operand::ReadXmm(reg)
+            | Operand::ReadWriteXmm(reg)
+            | Operand::WriteXmm(reg) => DataOperand::Register(reg),
+            Operand::WriteTwoGprs(high, low, _) => DataOperand::TwoRegisters(high, low),
+            Operand::ReadAmode(amode) => DataOperand::Memory(amode),
+            Operand::ReadGprMem(place, _) | Operand::ReadWriteGprMem(place, _) => given_place(
+                place,
+            ),
+            Operand::ReadXmmMem(XmmMem::Xmm(reg)) => DataOperand::Register(reg),
+            Operand::ReadXmmMem(XmmMem::Mem(amode)) => DataOperand::Memory(amode),
+            Operand::Imm(imm) => DataOperand::Immediate(value_of(imm.bytes())),
+        }
+    }
+}
+
+/// The value of an immediate.
+fn value_of(imm: ImmOperand) -> i64
+    ensures { result ≡ imm_value imm }
+{
+    match imm {
+        ImmOperand::Imm8(value) => i64::from(value),
+        ImmOperand::Imm16(value) => i64::from(value),
+        ImmOperand::Imm32(value) => i64::from(value),
+        ImmOperand::Simm8(value) => i64::from(value),
+        ImmOperand::Simm32(value) => i64::from(value),
+    }
+}
+
+/// A general register or memory.
+fn given_place(place: GprMem<u8, u8>) -> DataOperand
+    ensures { result ≡ gpr_mem_given place }
+{
+    match place {
+        GprMem::Gpr(reg) => DataOperand::Register(reg),
+        GprMem::Mem(amode) => DataOperand::Memory(amode),
     }
 }
 

@@ -12,3 +12,4 @@ pub mod NoShorter
 pub mod Reached
 pub mod Equality
 pub mod ReadLine
+pub mod Named

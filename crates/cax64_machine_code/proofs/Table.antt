@@ -179,7 +179,7 @@ place_of nopl_rm = 156
 place_of nopw_rm = 157
 
 -- table/write.py: end
-stands_at : (row : Row) → slice_get all_rows (place_of row) ≡ Some row
+pub stands_at : (row : Row) → slice_get all_rows (place_of row) ≡ Some row
 unfolding all_rows place_of
 stands_at lock_addb_mi = refl
 stands_at _ = refl

@@ -7,6 +7,7 @@ pub mod Evex
 pub mod Apx
 pub mod Line
 pub mod Rows
+pub mod Branch
 pub mod Reading
 pub mod Apart
 pub mod ReadLine

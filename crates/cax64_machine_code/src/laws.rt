@@ -23,13 +23,14 @@ ghost use Rattle.cax64_machine_code.specs.declared.line.VvvvField.{VvvvField};
 ghost use Rattle.cax64_machine_code.specs.declared.reading.Place.{Place};
 ghost use Rattle.cax64_machine_code.specs.declared.reading.Reading.{Reading};
 ghost use Rattle.cax64_machine_code.specs.declared.reading.RegView.{RegView};
+ghost use Rattle.cax64_machine_code.specs.declared.row.Branch.{Branch};
 ghost use Rattle.cax64_machine_code.specs.declared.row.Row.{Row};
 
 use crate::line::{
     ImmField, LegacySet, Line, Opcode, PlaceField, PrefixField, RegField, TailField, VvvvField,
 };
 use crate::reading::{Place, Reading, RegView};
-use crate::row::Row;
+use crate::row::{Branch, Row};
 
 /// A prefix and what follows it match one row of the table at most.
 pub fn one_row_matches(a: Row, b: Row)
@@ -106,10 +107,11 @@ pub fn rows_are_read_by_their_lines()
     ensures all { (bytes : List ℕ) → option_map with_line (read bytes) ≡ read_of (lines_of all_rows) bytes }
 {}
 
-/// Rows, lines of the table and each of their parts, registers, places and readings compare equal where they are equal,
-/// and nowhere else.
+/// Rows, branches, lines of the table and each of their parts, registers, places and readings compare equal where they
+/// are equal, and nowhere else.
 pub fn laws_of_equality()
     ensures rows { (a b : Row) → (⟦<Row as PartialEq>⟧.eq a b ≡ true) ↔ (a ≡ b) }
+    ensures branches { (a b : Branch) → (⟦<Branch as PartialEq>⟧.eq a b ≡ true) ↔ (a ≡ b) }
     ensures legacy_sets { (a b : LegacySet) → (⟦<LegacySet as PartialEq>⟧.eq a b ≡ true) ↔ (a ≡ b) }
     ensures vvvv_fields { (a b : VvvvField) → (⟦<VvvvField as PartialEq>⟧.eq a b ≡ true) ↔ (a ≡ b) }
     ensures prefix_fields { (a b : PrefixField) → (⟦<PrefixField as PartialEq>⟧.eq a b ≡ true) ↔ (a ≡ b) }

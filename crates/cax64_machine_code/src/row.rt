@@ -1,7 +1,8 @@
 //! The rows of the table, by the names of their instructions.
 
-ghost use Rattle.std.specs.Prelude.{◌≡◌};
-ghost use Rattle.cax64_machine_code.specs.Rows.{name_of};
+ghost use Rattle.std.specs.Prelude.{◌≡◌, ◌↔◌, Some};
+ghost use Rattle.cax64_machine_code.specs.Branch.{branch_of};
+ghost use Rattle.cax64_machine_code.specs.Rows.{all_rows, name_of};
 
 /// A row of the table: an instruction's opcode, prefixes and operands as its page in the Intel SDM has them. The nine
 /// no-operation instructions share four rows.
@@ -170,7 +171,223 @@ pub enum Row {
     // table/write.py: end
 }
 
+// table/write.py: rows
+static ALL: [Row; 158] = [
+    Row::lock_addb_mi,
+    Row::lock_addw_mi,
+    Row::lock_addl_mi,
+    Row::lock_addq_mi_sxl,
+    Row::lock_addl_mi_sxb,
+    Row::lock_addq_mi_sxb,
+    Row::lock_addb_mr,
+    Row::lock_addw_mr,
+    Row::lock_addl_mr,
+    Row::lock_addq_mr,
+    Row::lock_orb_mi,
+    Row::lock_orw_mi,
+    Row::lock_orl_mi,
+    Row::lock_orq_mi_sxl,
+    Row::lock_orl_mi_sxb,
+    Row::lock_orq_mi_sxb,
+    Row::lock_orb_mr,
+    Row::lock_orw_mr,
+    Row::lock_orl_mr,
+    Row::lock_orq_mr,
+    Row::lock_adcb_mi,
+    Row::lock_adcw_mi,
+    Row::lock_adcl_mi,
+    Row::lock_adcq_mi_sxl,
+    Row::lock_adcl_mi_sxb,
+    Row::lock_adcq_mi_sxb,
+    Row::lock_adcb_mr,
+    Row::lock_adcw_mr,
+    Row::lock_adcl_mr,
+    Row::lock_adcq_mr,
+    Row::lock_sbbb_mi,
+    Row::lock_sbbw_mi,
+    Row::lock_sbbl_mi,
+    Row::lock_sbbq_mi_sxl,
+    Row::lock_sbbl_mi_sxb,
+    Row::lock_sbbq_mi_sxb,
+    Row::lock_sbbb_mr,
+    Row::lock_sbbw_mr,
+    Row::lock_sbbl_mr,
+    Row::lock_sbbq_mr,
+    Row::lock_andb_mi,
+    Row::lock_andw_mi,
+    Row::lock_andl_mi,
+    Row::lock_andq_mi_sxl,
+    Row::lock_andl_mi_sxb,
+    Row::lock_andq_mi_sxb,
+    Row::lock_andb_mr,
+    Row::lock_andw_mr,
+    Row::lock_andl_mr,
+    Row::lock_andq_mr,
+    Row::lock_subb_mi,
+    Row::lock_subw_mi,
+    Row::lock_subl_mi,
+    Row::lock_subq_mi_sxl,
+    Row::lock_subl_mi_sxb,
+    Row::lock_subq_mi_sxb,
+    Row::lock_subb_mr,
+    Row::lock_subw_mr,
+    Row::lock_subl_mr,
+    Row::lock_subq_mr,
+    Row::lock_xorb_mi,
+    Row::lock_xorw_mi,
+    Row::lock_xorl_mi,
+    Row::lock_xorq_mi_sxl,
+    Row::lock_xorl_mi_sxb,
+    Row::lock_xorq_mi_sxb,
+    Row::lock_xorb_mr,
+    Row::lock_xorw_mr,
+    Row::lock_xorl_mr,
+    Row::lock_xorq_mr,
+    Row::lock_xaddb_mr,
+    Row::lock_xaddw_mr,
+    Row::lock_xaddl_mr,
+    Row::lock_xaddq_mr,
+    Row::lock_cmpxchgb_mr,
+    Row::lock_cmpxchgw_mr,
+    Row::lock_cmpxchgl_mr,
+    Row::lock_cmpxchgq_mr,
+    Row::lock_cmpxchg16b_m,
+    Row::xchgb_rm,
+    Row::xchgw_rm,
+    Row::xchgl_rm,
+    Row::xchgq_rm,
+    Row::rolb_m1,
+    Row::rolw_m1,
+    Row::roll_m1,
+    Row::rolq_m1,
+    Row::rorb_m1,
+    Row::rorw_m1,
+    Row::rorl_m1,
+    Row::rorq_m1,
+    Row::shlb_m1,
+    Row::shlw_m1,
+    Row::shll_m1,
+    Row::shlq_m1,
+    Row::shrb_m1,
+    Row::shrw_m1,
+    Row::shrl_m1,
+    Row::shrq_m1,
+    Row::sarb_m1,
+    Row::sarw_m1,
+    Row::sarl_m1,
+    Row::sarq_m1,
+    Row::callq_m,
+    Row::jmpq_m,
+    Row::andps_a,
+    Row::cmpps_a,
+    Row::cmppd_a,
+    Row::cmpss_a,
+    Row::cmpsd_a,
+    Row::andb_i,
+    Row::callq_d,
+    Row::jmp_d8,
+    Row::jmp_d32,
+    Row::jo_d8,
+    Row::jno_d8,
+    Row::jb_d8,
+    Row::jae_d8,
+    Row::je_d8,
+    Row::jne_d8,
+    Row::jbe_d8,
+    Row::ja_d8,
+    Row::js_d8,
+    Row::jns_d8,
+    Row::jp_d8,
+    Row::jnp_d8,
+    Row::jl_d8,
+    Row::jge_d8,
+    Row::jle_d8,
+    Row::jg_d8,
+    Row::jo_d32,
+    Row::jno_d32,
+    Row::jb_d32,
+    Row::jae_d32,
+    Row::je_d32,
+    Row::jne_d32,
+    Row::jbe_d32,
+    Row::ja_d32,
+    Row::js_d32,
+    Row::jns_d32,
+    Row::jp_d32,
+    Row::jnp_d32,
+    Row::jl_d32,
+    Row::jge_d32,
+    Row::jle_d32,
+    Row::jg_d32,
+    Row::vcmpps_b,
+    Row::vcmppd_b,
+    Row::vcmpss_b,
+    Row::vcmpsd_b,
+    Row::vcvtpd2ps_a,
+    Row::vcvttpd2dq_a,
+    Row::mulxl_rvm,
+    Row::mulxq_rvm,
+    Row::nop_1b,
+    Row::nop_2b,
+    Row::nopl_rm,
+    Row::nopw_rm,
+];
+// table/write.py: end
+
+/// How an instruction goes on elsewhere than behind itself.
+#[derive(Clone, Copy, Debug, PartialEq)]
+pub enum Branch {
+    /// It always does, as `jmp`.
+    Jump,
+    /// It always does, and leaves the place behind itself on the stack, as `call`.
+    Call,
+    /// It does where a condition holds, as `je`.
+    Conditional,
+}
+
 impl Row {
+    /// All rows, in the order of the table, which is that of the variants.
+    pub fn all() -> &'static [Row]
+        ensures { result.now ≡ all_rows }
+    {
+        &ALL
+    }
+
+    /// The row of this name, as `lock_addb_mi`.
+    pub fn from_name(name: &str) -> Option<Row>
+        ensures { (row : Row) → (result ≡ Some row) ↔ (name_of row ≡ name.now) }
+    {
+        for row in Row::all() {
+            if row.name() == name {
+                return Some(*row);
+            }
+        }
+        None
+    }
+
+    /// How the row's instruction goes on elsewhere, by a distance or through an operand; None where it goes on behind
+    /// itself. (Intel SDM, volume 2, the pages of CALL, JMP and Jcc.)
+    #[tactic(auto, unfolding(crate::specs::Rows::line_of))]
+    pub fn branch(&self) -> Option<Branch>
+        ensures { result ≡ branch_of self.now }
+    {
+        match self {
+            // table/write.py: branches
+            Row::jmpq_m | Row::jmp_d8 | Row::jmp_d32 => Some(Branch::Jump),
+            Row::callq_m | Row::callq_d => Some(Branch::Call),
+            Row::jo_d8 | Row::jno_d8 | Row::jb_d8 | Row::jae_d8 => Some(Branch::Conditional),
+            Row::je_d8 | Row::jne_d8 | Row::jbe_d8 | Row::ja_d8 => Some(Branch::Conditional),
+            Row::js_d8 | Row::jns_d8 | Row::jp_d8 | Row::jnp_d8 => Some(Branch::Conditional),
+            Row::jl_d8 | Row::jge_d8 | Row::jle_d8 | Row::jg_d8 => Some(Branch::Conditional),
+            Row::jo_d32 | Row::jno_d32 | Row::jb_d32 | Row::jae_d32 => Some(Branch::Conditional),
+            Row::je_d32 | Row::jne_d32 | Row::jbe_d32 | Row::ja_d32 => Some(Branch::Conditional),
+            Row::js_d32 | Row::jns_d32 | Row::jp_d32 | Row::jnp_d32 => Some(Branch::Conditional),
+            Row::jl_d32 | Row::jge_d32 | Row::jle_d32 | Row::jg_d32 => Some(Branch::Conditional),
+            // table/write.py: end
+            _ => None,
+        }
+    }
+
     /// The name of the instruction whose row it is, as `lock_addb_mi`.
     pub fn name(&self) -> &'static str
         ensures { result.now ≡ name_of self.now }

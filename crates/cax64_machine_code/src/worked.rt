@@ -2,6 +2,7 @@
 
 ghost use Rattle.std.specs.Prelude.{◌≡◌, ◌≢◌, ◌-◌, ◌^◌, [], ◌∷◌, ℕ, List, length, Some, None, pos, negsuc};
 ghost use Rattle.cax64_machine_code.specs.Address.{address_of};
+ghost use Rattle.cax64_machine_code.specs.Branch.{branch_of};
 ghost use Rattle.cax64_machine_code.specs.Fields.{IsBytes};
 ghost use Rattle.cax64_machine_code.specs.Len.{len_of, least_tail};
 ghost use Rattle.cax64_machine_code.specs.Shortest.{Shortest};
@@ -18,7 +19,7 @@ use crate::line::{
     ImmField, LegacySet, Line, Opcode, PlaceField, PrefixField, RegField, TailField,
 };
 use crate::reading::{Place, Reading, RegView};
-use crate::row::Row;
+use crate::row::{Branch, Row};
 
 /// Tails: the stack pointer as a base, `%rbp` with no displacement, `%r12`, a byte under a factor, an index, a place
 /// relative to the end.
@@ -46,6 +47,19 @@ pub fn instructions()
     ensures cut_immediate { read (0x24 ∷ []) ≡ None }
     ensures repeated { read (0xF0 ∷ 0xF0 ∷ 0x01 ∷ 0x08 ∷ []) ≡ None }
     ensures memory_alone { read (0xF0 ∷ 0x01 ∷ 0xC8 ∷ []) ≡ None }
+{}
+
+/// Branches by a distance of either length and through an operand, and what is none.
+#[tactic(auto, unfolding(crate::specs::Rows::line_of))]
+pub fn branches()
+    ensures short { branch_of Row.jmp_d8 ≡ Some Branch.Jump }
+    ensures operand { branch_of Row.jmpq_m ≡ Some Branch.Jump }
+    ensures call { branch_of Row.callq_d ≡ Some Branch.Call }
+    ensures call_of_operand { branch_of Row.callq_m ≡ Some Branch.Call }
+    ensures short_condition { branch_of Row.jg_d8 ≡ Some Branch.Conditional }
+    ensures long_condition { branch_of Row.jo_d32 ≡ Some Branch.Conditional }
+    ensures other { branch_of Row.xchgb_rm ≡ None }
+    ensures vex { branch_of Row.mulxq_rvm ≡ None }
 {}
 
 /// Addresses: a base, an index and a displacement; one that wraps below 0 and one above 2 to the 64; a place relative to

@@ -28,6 +28,17 @@ impl<R, const E: u8> Fixed<R, E> {
 }
 
 impl<R: AsReg, const E: u8> Fixed<R, E> {
+    /// The family's register of the number that the instruction fixes.
+    ///
+    /// Only where the family [accepts](AsReg::accepts) the number.
+    pub fn expected() -> Fixed<R, E>
+        requires { IsTrue (R.accepts E) }
+        ensures settled { IsTrue (R.settled result.0) }
+        ensures number { R.enc result.0 ≡ E }
+    {
+        Fixed(R::new(E))
+    }
+
     /// The text of the register held, at this size, or at none.
     ///
     /// Fails where there is no memory.

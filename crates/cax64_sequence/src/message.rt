@@ -4,6 +4,7 @@ ghost use Rattle.std.specs.Prelude.{Some};
 ghost use Rattle.cax64_sequence.specs.Message.{refused_text, stopped_text};
 
 use crate::{Refused, Stopped};
+use std::error::Error;
 use std::fmt;
 
 impl fmt::Display for Refused {
@@ -23,3 +24,7 @@ impl fmt::Display for Stopped {
         write!(f, "instruction {whole} of the list isn't whole: {error}")
     }
 }
+
+impl Error for Refused {}
+
+impl Error for Stopped {}

@@ -13,6 +13,5 @@ pub mod FixedSink
 pub mod TrapCode
 pub mod Message
 pub mod Cleared
-pub mod Laws
--- Steps of the proofs.
 pub mod Ends
+pub mod Laws

@@ -11,6 +11,7 @@ ghost use Rattle.cax64_sink.specs.Run.{Ran};
 ghost use Rattle.cax64_sink.specs.TrapCode.{trap_text};
 ghost use Rattle.cax64_sink.specs.Message.{sink_error_text};
 
+use std::error::Error;
 use std::fmt;
 use std::num::NonZeroU8;
 
@@ -43,6 +44,8 @@ impl fmt::Display for SinkError {
         }
     }
 }
+
+impl Error for SinkError {}
 
 /// The number of a place in code that an address refers to.
 #[derive(Clone, Copy, Debug, PartialEq)]

@@ -35,6 +35,18 @@ impl Entry {
         }
     }
 
+    /// That of a packed number that is an entry, with no test when it runs.
+    ///
+    /// The number has to be one, as [`of`](Self::of) tells. Of another a build that wasn't proved makes an entry whose
+    /// parts don't fit one another.
+    #[inline(always)]
+    pub fn of_entry(packed: u64) -> Entry
+        requires { IsTrue (is_entry packed) }
+        ensures { entry_line result ≡ unpacked packed }
+    {
+        Entry { packed }
+    }
+
     /// That of a row.
     #[inline(always)]
     pub fn of_row(row: Row) -> Entry

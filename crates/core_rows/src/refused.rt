@@ -5,6 +5,8 @@ use cax64_address::amode::{Amode, Scale};
 use cax64_address::offset::{AmodeOffset, AmodeOffsetPlusKnownOffset};
 use cax64_encoder::{EncodeError, Fault};
 use cax64_sink::{FixedSink, Recorder, SinkError};
+use std::alloc::{AllocError, Global};
+use std::error::Error;
 use x64_core::ops::arithmetic::{ADDQ_MI_SXB, ADDQ_RM, ADDW_I};
 use x64_core::ops::control::RETQ_ZO;
 use x64_core::ops::moves::{LEAQ_RM, MOVQ_MI_SXL, MOVQ_RM};
@@ -182,4 +184,30 @@ fn a_full_sink(rt: HostRuntime) {
     assert!(rt; core.encode_checked(&mut small) == Err(EncodeError::Sink(SinkError::Full)));
     assert!(rt; small.bytes().len() < 8);
     assert!(rt; sink.bytes().starts_with(small.bytes()));
+}
+
+/// Whether any error is told so.
+fn tells<E: Error>(alloc: Global, error: &E, text: &str) -> Result<bool, AllocError> {
+    Ok(error.to_string(alloc)?.as_str() == text)
+}
+
+#[test]
+fn refusals_print(rt: HostRuntime) -> Result<(), AllocError> {
+    let alloc = rt.alloc();
+    let register = "the line has a register in reg and none is given, or the other way round";
+    assert!(rt; tells(alloc, &Shape::Register, register)?);
+    let vvvv = "the line has a register in vvvv and none is given, or the other way round";
+    assert!(rt; tells(alloc, &Shape::Vvvv, vvvv)?);
+    let place = "a register, memory or nothing is given where the line has another of these";
+    assert!(rt; tells(alloc, &Shape::Place, place)?);
+    let immediate = "the line has an immediate and none is given, or the other way round";
+    assert!(rt; tells(alloc, &Shape::Immediate, immediate)?);
+    assert!(rt;
+        tells(
+            alloc,
+            &Shape::Range,
+            "the immediate is out of the line's range"
+        )?
+    );
+    Ok(())
 }

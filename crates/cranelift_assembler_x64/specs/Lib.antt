@@ -5,6 +5,7 @@ pub use Rattle.cax64_sink.specs.Sink
 pub use Rattle.cax64_sink.specs.Call
 pub use Rattle.cax64_sink.specs.Run
 pub use Rattle.cax64_sink.specs.Puts
+pub use Rattle.cax64_sink.specs.Ends
 pub use Rattle.cax64_sink.specs.Rest
 pub use Rattle.cax64_sink.specs.Keeps
 pub use Rattle.cax64_sink.specs.Vec
@@ -39,6 +40,7 @@ pub use Rattle.cax64_machine_code.specs.Evex as MachineEvex
 pub use Rattle.cax64_machine_code.specs.Apx as MachineApx
 pub use Rattle.cax64_machine_code.specs.Line
 pub use Rattle.cax64_machine_code.specs.Rows
+pub use Rattle.cax64_machine_code.specs.Branch
 pub use Rattle.cax64_machine_code.specs.Reading
 pub use Rattle.cax64_machine_code.specs.Apart
 pub use Rattle.cax64_machine_code.specs.ReadLine

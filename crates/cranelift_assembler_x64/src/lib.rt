@@ -24,6 +24,7 @@
 #![tactic(auto)]
 
 pub use cax64_address::amode::{Amode, Scale};
+pub use cax64_address::makers::{BaseAddress, IndexAddress};
 pub use cax64_address::offset::{AmodeOffset, AmodeOffsetPlusKnownOffset};
 pub use cax64_address::operand::{GprMem, XmmMem};
 pub use cax64_address::tail::emit_modrm_sib_disp;
@@ -36,10 +37,11 @@ pub use cax64_immediate::{
 };
 pub use cax64_inst::Inst;
 pub use cax64_inst_data::{DataError, DataOperand, DataOperands, InstData};
-pub use cax64_machine_code::row::Row;
+pub use cax64_machine_code::row::{Branch, Row};
 pub use cax64_operand::{
-    FromOperands, HasOperands, ImmOperand, Immediate, Made, Nop, Numbers, Operand, Operands,
-    RegisterVisitor, RowAndOperands, Task, of_five, of_four, of_one, of_three, of_two, operands_of,
+    FromOperands, HasOperands, ImmOperand, Immediate, ImmediateKind, Made, Nop, Numbers, Operand,
+    OperandKind, Operands, RegisterVisitor, RowAndOperands, Task, of_five, of_four, of_one,
+    of_three, of_two, operands_of, signature,
 };
 pub use cax64_prefix::rex::RexPrefix;
 pub use cax64_register::{AsReg, Fixed, Gpr, NonRspGpr, Registers, Size, Xmm, register_name};
@@ -259,7 +261,8 @@ pub mod laws {
     pub use cax64_encode_all::encode_all_to_fixed_sink;
     pub use cax64_encoder::laws::encode_to_fixed_sink;
     pub use cax64_inst_data::laws::{
-        numbers_mean_the_same, the_length_tells_a_no_operation, what_bytes_have_is_data,
+        data_is_made_of_what_it_lists, numbers_mean_the_same, the_length_tells_a_no_operation,
+        what_bytes_have_is_data,
     };
     pub use cax64_sequence::laws::{encode_each_to_fixed_sink, first_of_a_list};
     pub use cax64_shortest::laws::{len_is_least, whole_instruction_is_shortest};

@@ -23,6 +23,8 @@ mod fixed_sinks;
 #[cfg(test)]
 mod lines;
 #[cfg(test)]
+mod makers;
+#[cfg(test)]
 mod messages;
 #[cfg(test)]
 mod patched;
@@ -30,6 +32,8 @@ mod patched;
 mod registers;
 #[cfg(test)]
 mod reused_sinks;
+#[cfg(test)]
+mod rows;
 #[cfg(test)]
 mod shifts;
 #[cfg(test)]

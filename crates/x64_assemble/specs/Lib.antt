@@ -1,5 +1,6 @@
 -- What the clauses say.
 pub mod Assembled
 pub mod Refused
+pub mod Message
 -- Steps of the proofs.
 pub mod Putting

@@ -6,6 +6,7 @@ mod binders;
 mod errors;
 mod item;
 pub mod laws;
+mod message;
 mod put;
 mod spans;
 mod tested;

@@ -6,9 +6,9 @@ pub mod Use
 pub mod Filled
 pub mod Laid
 pub mod Jump
+pub mod Put
 pub mod Padding
 pub mod Buffer
 pub mod Message
 -- Steps of the proofs.
-pub mod Put
 pub mod Patching

@@ -16,4 +16,4 @@ abbrev pub finish_text : FinishError → List ℕ
 finish_text (Unbound (Label label)) = codes "label " ++ decimal label.0 ++ codes " isn't bound"
 finish_text (Unbound (Constant constant)) = codes "constant " ++ decimal constant.0 ++ codes " isn't bound"
 finish_text (Unbound None) = codes "a field refers to no label and no constant"
-finish_text (TooFar at) = codes "the field at byte " ++ decimal at ++ codes " isn't whole, or can't hold the distance"
+finish_text (TooFar at) = codes "the field at byte " ++ decimal at ++ codes " can't hold the distance; or the code ends before the field does"

@@ -36,7 +36,7 @@ impl fmt::Display for FinishError {
             FinishError::TooFar(at) => {
                 write!(
                     f,
-                    "the field at byte {at} isn't whole, or can't hold the distance"
+                    "the field at byte {at} can't hold the distance; or the code ends before the field does"
                 )
             }
         }

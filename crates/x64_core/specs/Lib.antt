@@ -3,12 +3,13 @@ pub mod Lines
 pub mod Line
 pub mod View
 pub mod Core
+pub mod Shape
+pub mod Fits
 pub mod Adds
 pub mod Refusal
+pub mod Message
 pub mod Rename
 pub mod Kinds
 pub mod Extension
 -- Steps of the proofs.
-pub mod Shape
-pub mod Fits
 pub mod Form

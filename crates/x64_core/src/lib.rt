@@ -17,6 +17,7 @@ pub mod laws;
 pub mod lines;
 pub mod make;
 pub mod makers;
+mod message;
 pub mod op;
 pub mod ops;
 pub mod place;

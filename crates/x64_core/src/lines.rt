@@ -614,5 +614,5 @@ pub(crate) fn entry(number: u16) -> Entry
     requires { number < COUNT }
     ensures { entry_line result ≡ core_line number }
 {
-    Entry::of(packed(number)).unwrap()
+    Entry::of_entry(packed(number))
 }
