@@ -86,11 +86,16 @@ def all_cases():
     return sum(map(cases, names.split()))
 
 
+def core_cases():
+    """How many cases of the core's lines there are, all equal."""
+    return int(re.search(r"(\d+) equal", (ROOT / "crates/core_vectors/stdout").read_text(encoding="utf-8"))[1])
+
+
 def executed():
-    """The cases of instructions, and the readings that are no `none`."""
+    """The cases of instructions, those of the core, and the readings that are no `none`."""
     text = (ROOT / "crates/vectors/data/reader.tsv").read_text(encoding="utf-8")
     readings = [line for line in text.splitlines()[1:] if line.split("\t")[2] != "none"]
-    return cases("instructions") + len(readings)
+    return cases("instructions") + core_cases() + len(readings)
 
 
 def headline():
@@ -111,6 +116,7 @@ SENTENCES = (
     (rf"(?:the|all|of) {NUMBER} rows", rows),
     (rf"{NUMBER} cases from outside", all_cases),
     (rf"{NUMBER} cases are executed", executed),
+    (rf"{NUMBER} cases of the core", core_cases),
     (rf"all {NUMBER} (?:structs|kinds|variants|instructions)", structs),
     (rf"{NUMBER} tails, {NUMBER} relative places, {NUMBER} displacements", of("tails"), of("relative"), of("disp")),
     (rf"{NUMBER} prefixes of the four forms, {NUMBER} immediates", prefixes, of("immediates")),
