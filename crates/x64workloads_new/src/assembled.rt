@@ -1,7 +1,8 @@
 //! What the job `assembled` has beside `data`: a jump to a label behind every sixth instruction, half of them forward.
 
-use crate::data::{Labels, Plan, push_if_encodable, push_or_tell};
-use cranelift_assembler_x64::{DeferredTarget, InstData, Label, SinkError};
+use crate::data::{Labels, Plan, push_settled};
+use crate::work::Work;
+use cranelift_assembler_x64::{DeferredTarget, Label, SinkError};
 use std::alloc::Global;
 use workload_source::digest::Digest;
 use workload_source::stub::bind;
@@ -40,9 +41,9 @@ fn push_jump(
 }
 
 /// Pushes the instructions as `data` does, and the jumps between them.
-pub(crate) fn push_body_and_jumps(
+pub(crate) fn push_body_and_jumps<W: Work>(
     buffer: &mut CodeBuffer<Global>,
-    insts: &[InstData],
+    insts: &[W],
     labels: u32,
     plan: &Plan,
     homes: &[u8; 256],
@@ -53,13 +54,7 @@ pub(crate) fn push_body_and_jumps(
         if let Some(label) = places.step() {
             bind(buffer, label, digest);
         }
-        let mut settled = *inst;
-        settled.rename(homes);
-        if plan.tells_faults {
-            push_or_tell(buffer, &settled, digest)?;
-        } else {
-            push_if_encodable(buffer, &settled, digest)?;
-        }
+        push_settled(buffer, inst, plan, homes, digest)?;
         if number % 6 == 5 {
             push_jump(buffer, &places, labels, number)?;
         }

@@ -1,9 +1,10 @@
-//! The job `functions` of `x64workloads` over instructions as data: each is made by a short constructor, keeps its virtual
+//! The job `functions` of `x64workloads` over instructions as data, of the table or of the core: each is made by a short constructor, keeps its virtual
 //! registers, and a copy of it is renamed by a table of homes, tested and put.
 
 use crate::assembled::push_body_and_jumps;
-use crate::kinds::{FIRST_FIXED, make};
-use cranelift_assembler_x64::{CodeSink, Constant, Fault, InstData, Instruction, Label, SinkError};
+use crate::kinds::FIRST_FIXED;
+use crate::work::Work;
+use cranelift_assembler_x64::{CodeSink, Constant, Fault, Label, SinkError};
 use std::alloc::Global;
 use workload_source::digest::Digest;
 use workload_source::maker::{Maker, OFFSETS};
@@ -103,36 +104,31 @@ fn digest_fault(digest: &mut Digest, fault: Fault) {
     }
 }
 
-pub(crate) fn push_or_tell(
+/// Pushes a copy with the homes of its registers.
+#[inline(always)]
+pub(crate) fn push_settled<W: Work>(
     buffer: &mut CodeBuffer<Global>,
-    inst: &InstData,
+    inst: &W,
+    plan: &Plan,
+    homes: &[u8; 256],
     digest: &mut Digest,
 ) -> Result<(), SinkError> {
-    match inst.first_fault(&*buffer) {
-        None => buffer.push(inst),
-        Some(fault) => {
+    let mut settled = *inst;
+    settled.settle(homes);
+    if plan.tells_faults {
+        if let Some(fault) = settled.push_or_fault(buffer)? {
             digest_fault(digest, fault);
-            Ok(())
         }
+    } else if !settled.push_if_encodable(buffer)? {
+        digest.word(0);
     }
-}
-
-pub(crate) fn push_if_encodable(
-    buffer: &mut CodeBuffer<Global>,
-    inst: &InstData,
-    digest: &mut Digest,
-) -> Result<(), SinkError> {
-    if inst.is_encodable(&*buffer) {
-        return buffer.push(inst);
-    }
-    digest.word(0);
     Ok(())
 }
 
 /// Pushes the instructions with the homes of their registers, and binds the labels between them and the others behind them.
-fn push_body(
+fn push_body<W: Work>(
     buffer: &mut CodeBuffer<Global>,
-    insts: &[InstData],
+    insts: &[W],
     labels: u32,
     plan: &Plan,
     homes: &[u8; 256],
@@ -143,13 +139,7 @@ fn push_body(
         if let Some(label) = places.step() {
             bind(buffer, label, digest);
         }
-        let mut settled = *inst;
-        settled.rename(homes);
-        if plan.tells_faults {
-            push_or_tell(buffer, &settled, digest)?;
-        } else {
-            push_if_encodable(buffer, &settled, digest)?;
-        }
+        push_settled(buffer, inst, plan, homes, digest)?;
     }
     for label in places.next..labels {
         bind(buffer, Label(label), digest);
@@ -196,15 +186,15 @@ fn constants_at(place: usize) -> u32 {
 }
 
 /// The next instruction. None where a constructor refuses.
-fn next(maker: &mut Maker, places: &Labels, place: usize) -> Option<InstData> {
+fn next<W: Work>(maker: &mut Maker, places: &Labels, place: usize) -> Option<W> {
     maker.label = places.next;
     maker.constants = constants_at(place);
-    make(maker).ok()
+    W::make(maker)
 }
 
 /// Makes those instructions anew that are to be, with virtual registers, and adds those that there are too few. What they
 /// refer to is near.
-fn renew(insts: &mut Vec<InstData>, plan: &Plan, maker: &mut Maker) -> Result<(), SinkError> {
+fn renew<W: Work>(insts: &mut Vec<W>, plan: &Plan, maker: &mut Maker) -> Result<(), SinkError> {
     let mut places = Labels::new();
     let mut place = 0usize;
     for inst in insts.iter_mut().take(plan.length) {
@@ -224,10 +214,10 @@ fn renew(insts: &mut Vec<InstData>, plan: &Plan, maker: &mut Maker) -> Result<()
 }
 
 /// One function, from instructions over virtual registers to patched code. `insts` holds those of the functions before it.
-fn make_function(
+fn make_function<W: Work>(
     alloc: Global,
     plan: &Plan,
-    insts: &mut Vec<InstData>,
+    insts: &mut Vec<W>,
     maker: &mut Maker,
     digest: &mut Digest,
 ) -> Result<(), SinkError> {
@@ -253,7 +243,7 @@ fn make_function(
 
 /// So many functions of 20 to 2,000 instructions, with a label for every five to eight of them and perhaps a jump to a label
 /// for every six, and a digest of all code.
-pub(crate) fn functions_of_data(
+pub(crate) fn functions_of<W: Work>(
     alloc: Global,
     has_jumps: bool,
     count: u32,
@@ -261,7 +251,7 @@ pub(crate) fn functions_of_data(
 ) -> Result<Digest, SinkError> {
     let mut maker = Maker::of_virtual(seed, 1);
     let mut digest = Digest::new();
-    let mut insts = Vec::new(alloc);
+    let mut insts: Vec<W> = Vec::new(alloc);
     for number in 0..count {
         let plan = Plan {
             length: function_length(&mut maker),

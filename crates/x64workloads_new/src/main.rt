@@ -6,16 +6,19 @@
 mod assembled;
 mod data;
 mod kinds;
+mod kinds_of_core;
 mod stubs;
+mod work;
 
-use crate::data::functions_of_data;
+use crate::data::functions_of;
 use crate::stubs::stubs_again;
-use cranelift_assembler_x64::SinkError;
+use cranelift_assembler_x64::{InstData, SinkError};
 use std::alloc::Global;
 use std::process::ExitCode;
 use std::{env, io};
 use workload_source::digest::Digest;
 use workload_source::registers::Regs;
+use x64_core::Core;
 
 /// What is done.
 #[derive(Clone, Copy)]
@@ -23,9 +26,10 @@ enum Job {
     StubsAgain,
     Data,
     Assembled,
+    Core,
 }
 
-const JOBS: [Job; 3] = [Job::StubsAgain, Job::Data, Job::Assembled];
+const JOBS: [Job; 4] = [Job::StubsAgain, Job::Data, Job::Assembled, Job::Core];
 
 impl Job {
     fn name(self) -> &'static str {
@@ -33,14 +37,16 @@ impl Job {
             Job::StubsAgain => "stubs_again",
             Job::Data => "data",
             Job::Assembled => "assembled",
+            Job::Core => "core",
         }
     }
 
     fn do_it(self, alloc: Global, count: u32, seed: u64) -> Result<Digest, SinkError> {
         match self {
             Job::StubsAgain => stubs_again::<Regs>(alloc, count, seed),
-            Job::Data => functions_of_data(alloc, false, count, seed),
-            Job::Assembled => functions_of_data(alloc, true, count, seed),
+            Job::Data => functions_of::<InstData>(alloc, false, count, seed),
+            Job::Assembled => functions_of::<InstData>(alloc, true, count, seed),
+            Job::Core => functions_of::<Core>(alloc, false, count, seed),
         }
     }
 }
