@@ -26,8 +26,8 @@ use cax64_operand::{
 use cax64_sink::CodeSink;
 use cax64_table::numbers;
 
-/// An instruction: a row of the table, and operands by their numbers. Registers of 16 to 255 are virtual, so an
-/// instruction's are among 240 of these at most.
+/// An instruction: a row of the table, and operands by their numbers. Registers of 16 to 255 are virtual, so there are no
+/// more than 240 virtual ones.
 #[derive(Clone, Copy, Debug, PartialEq)]
 pub struct InstData {
     pub(crate) place: DataPlace,

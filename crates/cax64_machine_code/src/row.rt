@@ -353,7 +353,7 @@ impl Row {
         &ALL
     }
 
-    /// The row of this name, as `lock_addb_mi`.
+    /// The row of this name, as `lock_addb_mi`, if there is one.
     pub fn from_name(name: &str) -> Option<Row>
         ensures { (row : Row) → (result ≡ Some row) ↔ (name_of row ≡ name.now) }
     {
