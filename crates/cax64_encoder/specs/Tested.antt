@@ -1,0 +1,23 @@
+use Rattle.std.specs.Prelude.{ℕ, Bool, ◌&&◌, Option, ℤ}
+use Rattle.cax64_address.specs.Offset.{sum_fits}
+use Rattle.cax64_operand.specs.Family.{Family}
+use Rattle.cax64_operand.specs.declared.operand.Operand.{Operand}
+use Rattle.cax64_operand.specs.declared.nop.Nop.{Nop}
+use Rattle.cax64_encoder.specs.Checked.{none_checked, with_checked_operand}
+use Rattle.cax64_encoder.specs.Content.{no_content, nop_content, with_content}
+use Rattle.cax64_encoder.specs.declared.tested.Tested.{Tested}
+
+-- What the code is made of, with what decides whether there can be any.
+
+abbrev pub none_tested : Tested
+none_tested = record { checked = none_checked; content = no_content }
+
+abbrev pub nop_tested : Nop → Tested
+nop_tested nop = record { checked = none_checked; content = nop_content nop }
+
+abbrev pub with_tested : {R A B C D E F : Type 0} → Family A B C D E F → Operand R A B C D E F → Tested → Tested
+with_tested f operand later = record { checked = with_checked_operand f operand later.checked; content = with_content f operand later.content }
+
+-- the registers are as they have to be, and the late offset of the numbers fits
+abbrev pub can_be_put : (ℕ → Option ℤ) → Tested → Bool
+can_be_put offsets tested = tested.checked.met && sum_fits offsets tested.content.form.place.displacement.offset tested.content.form.place.displacement.simm32
