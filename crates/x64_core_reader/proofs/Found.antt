@@ -97,7 +97,7 @@ pub none_reads : (n : ℕ) (bytes : List ℕ) → find_line (core_line n) bytes 
 unfolding read_line
 none_reads n bytes h = rw h refl
 
-so_many_lines : length core_lines ≡ COUNT
+pub so_many_lines : length core_lines ≡ COUNT
 so_many_lines = ap (λ (lines : List Line). length lines) (sym lines_are) ∙ so_many
 
 pub one_reads : (n : ℕ) (bytes : List ℕ) (r : LineReading) → n < COUNT → read_line (core_line n) bytes ≡ Some r → read_of core_lines bytes ≡ Some r

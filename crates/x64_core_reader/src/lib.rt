@@ -3,7 +3,9 @@
 #![tactic(auto)]
 
 mod index;
+pub mod laws;
 pub mod lines;
+mod of_reading;
 pub mod reader;
 pub mod reading;
 
