@@ -1,6 +1,7 @@
 //! Worked rows of reading the core, each by hand.
 #![tactic(auto)]
 
+pub mod put_and_read;
 #[cfg(test)]
 mod read_back;
 #[cfg(test)]

@@ -1,5 +1,6 @@
 //! Bytes of single instructions. Operands in the manual's order: what is written first.
 
+use crate::put_and_read::put_and_read;
 use crate::words::{at, indexed, is_put_again, reading, reads, register};
 use cax64_machine_code::reading::Place;
 use x64_core::ops::arithmetic::{ADDQ_MI_SXB, CMPQ_RM, SUBQ_MI_SXL, TESTL_MR};
@@ -241,4 +242,13 @@ fn a_function(rt: HostRuntime) {
         0x48, 0x83, 0xC0, 0x01, 0xC3, 0x48, 0x8B, 0xC6, 0xC3,
     ];
     assert!(rt; function_is_read(&code) == Some(25));
+}
+
+/// A `movq` that is put and read again.
+#[test]
+fn what_is_put(rt: HostRuntime) {
+    let mut code = Vec::new(rt.alloc());
+    let core = MOVQ_RM.regs(0, 7);
+    assert!(rt; core.is_encodable(&code));
+    assert!(rt; put_and_read(&core, &mut code) == Ok(MOVQ_RM.op()));
 }
