@@ -11,6 +11,7 @@ from pathlib import Path
 
 import classes
 import core_files
+import core_reader
 import enumeration
 import facade
 import fixed
@@ -48,6 +49,7 @@ def sources_of(table, core):
     fixed.write(table, sources)
     facade.write(table, sources)
     core_files.write(table, core, sources)
+    core_reader.write(table, core, sources)
     return sources
 
 

@@ -5,7 +5,7 @@ use Rattle.std.proofs.lemmas.Bool.Decides.{nat_tests}
 use Rattle.cax64_machine_code.specs.Fields.{number_at}
 use Rattle.cax64_machine_code.specs.Line.{after, same_legacy, field_matches, prefix_matches, opcode_bytes, opcode_at}
 use Rattle.cax64_machine_code.specs.Prefix.{no_legacy, is_no_legacy, begins_vex, after_vex, after_legacy, prefix_at, legacy_at, Rex, rex_at, Vex, is_vex_map, vex_at, Prefix, legacy_prefix, vex_prefix, x_of, b_of}
-use Rattle.cax64_machine_code.specs.Reading.{Found, imm_at, operands_of, operands_at, place_at, find}
+use Rattle.cax64_machine_code.specs.Reading.{Found, FoundOf, imm_at, matched_at, operands_of, operands_at, place_at, find}
 use Rattle.cax64_machine_code.specs.Rows.{line_of, all_rows}
 use Rattle.cax64_machine_code.specs.Tail.{read_tail}
 use Rattle.cax64_machine_code.specs.declared.line.LegacySet.{LegacySet}
@@ -23,35 +23,44 @@ use Rattle.cax64_machine_code.proofs.Whole.{steps, row_matches}
 use Rattle.cax64_reader.specs.Lengths.{Within, HasSize}
 use Rattle.cax64_reader.proofs.Lengths.{some_same, mapped_from, chained_from, either_from, number_length, tail_length}
 
-one : Bool → ℕ
+unfoldable pub one : Bool → ℕ
 one true = 1
 one false = 0
 
 -- the number of prefixes in a set
-count : LegacySet → ℕ
+unfoldable pub count : LegacySet → ℕ
 count set = one set.lock + one set.operand_size + one set.repne + one set.rep
 
 -- the most bytes that a row's prefix, its tail and its immediate take
-prefix_most : PrefixField → ℕ
+unfoldable pub prefix_most : PrefixField → ℕ
 prefix_most (LegacyField set rex) = count set + one rex
 prefix_most (VexField pp map l vvvv) = 3
 
-tail_most : TailField → ℕ
+unfoldable pub tail_most : TailField → ℕ
 tail_most NoTail = 0
 tail_most (Modrm reg place) = 6
 
-imm_size : ImmField → ℕ
+unfoldable pub imm_size : ImmField → ℕ
 imm_size NoImm = 0
 imm_size (Imm size) = size
 imm_size (Simm size) = size
 
-line_most : Line → ℕ
+unfoldable pub line_most : Line → ℕ
 line_most line = prefix_most line.prefix + length (opcode_bytes line.opcode) + tail_most line.tail + imm_size line.imm
 
-row_most : (row : Row) → nat_le (line_most (line_of row)) 13 && nat_le 1 (length (opcode_bytes (line_of row).opcode)) ≡ true
-unfolding one count prefix_most tail_most imm_size line_most line_of
-row_most lock_addb_mi = refl
-row_most _ = refl
+unfoldable pub has_size : ImmField → Bool
+has_size NoImm = true
+has_size (Imm size) = nat_le 1 size && nat_le size 4
+has_size (Simm size) = nat_le 1 size && nat_le size 4
+
+-- the instructions of a line have one to thirteen bytes, of which an immediate is one to four
+unfoldable pub is_short : Line → Bool
+is_short line = (nat_le (line_most line) 13 && nat_le 1 (length (opcode_bytes line.opcode))) && has_size line.imm
+
+row_short : (row : Row) → is_short (line_of row) ≡ true
+unfolding one count prefix_most tail_most imm_size line_most has_size is_short line_of
+row_short lock_addb_mi = refl
+row_short _ = refl
 
 -- the legacy prefixes that are read are so many bytes
 
@@ -202,56 +211,51 @@ imm_length (Simm size) bytes i h =
     let e = ap (λ (z : Option ℤ × List ℕ). length z.1) m.2 in
     omega arith
 
-operands_length : (tail : TailField) (row : Row) (line : Line) (p : Prefix) (bytes : List ℕ) (found : Found) → operands_of tail row line p bytes ≡ Some found → Within bytes found.rest (tail_most tail + imm_size line.imm)
+operands_length : {K : Type 0} (tail : TailField) (key : K) (line : Line) (p : Prefix) (bytes : List ℕ) (found : FoundOf K) → operands_of tail key line p bytes ≡ Some found → Within bytes found.rest (tail_most tail + imm_size line.imm)
 unfolding tail_most
-operands_length NoTail row line p bytes found h =
+operands_length {K} NoTail key line p bytes found h =
     let m = mapped_from _ (imm_at line.imm bytes) found h in
     let l = imm_length line.imm bytes m.0 m.1 in
-    let e = ap (λ (z : Found). length z.rest) m.2 in
+    let e = ap (λ (z : FoundOf K). length z.rest) m.2 in
     record { part = omega arith; close = omega arith }
-operands_length (Modrm reg field) row line p bytes found h =
+operands_length {K} (Modrm reg field) key line p bytes found h =
     let t = chained_from _ (read_tail (x_of p) (b_of p) 1 bytes) found h in
     let a = chained_from _ (place_at field p t.0.place) found t.2 in
     let m = mapped_from _ (imm_at line.imm t.0.rest) found a.2 in
     let w = tail_length (x_of p) (b_of p) 1 bytes t.0 t.1 in
     let l = imm_length line.imm t.0.rest m.0 m.1 in
-    let e = ap (λ (z : Found). length z.rest) m.2 in
+    let e = ap (λ (z : FoundOf K). length z.rest) m.2 in
     record { part = omega arith; close = omega arith }
 
 le_of : (a b : ℕ) → nat_le a b ≡ true → a ≤ b
 le_of a b h = grind (arith, nat_tests)
 
-total : (row : Row) → (prefix_most (line_of row).prefix + length (opcode_bytes (line_of row).opcode) + tail_most (line_of row).tail + imm_size (line_of row).imm ≤ 13) × (1 ≤ length (opcode_bytes (line_of row).opcode))
-unfolding line_most
-total row =
-    let p = and_parts (nat_le (line_most (line_of row)) 13) (nat_le 1 (length (opcode_bytes (line_of row).opcode))) (row_most row) in
+total : (line : Line) → is_short line ≡ true → (prefix_most line.prefix + length (opcode_bytes line.opcode) + tail_most line.tail + imm_size line.imm ≤ 13) × (1 ≤ length (opcode_bytes line.opcode))
+unfolding line_most is_short
+total line h =
+    let s = and_parts (nat_le (line_most line) 13 && nat_le 1 (length (opcode_bytes line.opcode))) (has_size line.imm) h in
+    let p = and_parts (nat_le (line_most line) 13) (nat_le 1 (length (opcode_bytes line.opcode))) s.0 in
     (le_of _ 13 p.0, le_of 1 _ p.1)
+
+-- what is found of a line takes one to thirteen bytes
+pub steps_length : {K : Type 0} (key : K) (line : Line) (p : Prefix) (bytes left rest : List ℕ) (found : FoundOf K) → is_short line ≡ true → prefix_at bytes ≡ Some (p, left) → matched_at line p left ≡ Some rest → operands_of line.tail key line p rest ≡ Some found → (1 + length found.rest ≤ length bytes) × (length bytes ≤ 13 + length found.rest)
+steps_length key line p bytes left rest found short hp hm ho =
+    let f = some_if (prefix_matches line p) (opcode_at line left) rest hm in
+    let b = behind line left rest f.1 in
+    let k = and_parts (field_matches line.prefix p) _ f.0 in
+    let w = prefix_length bytes (p, left) hp in
+    let z = prefix_fits line.prefix p k.0 in
+    let a = after_length (opcode_bytes line.opcode) left rest b.opcode in
+    let o = operands_length line.tail key line p rest found ho in
+    let t = total line short in
+    (omega arith, omega arith)
 
 -- no instruction is longer than 13 bytes
 pub find_length : (bytes : List ℕ) (found : Found) → find bytes ≡ Some found → (1 + length found.rest ≤ length bytes) × (length bytes ≤ 13 + length found.rest)
 unfolding operands_at
 find_length bytes found h =
     let s = steps bytes found h in
-    let m = row_matches s.prefix s.behind all_rows s.row s.rest s.row_is in
-    let f = some_if (prefix_matches (line_of s.row) s.prefix) (opcode_at (line_of s.row) s.behind) s.rest m in
-    let b = behind (line_of s.row) s.behind s.rest f.1 in
-    let k = and_parts (field_matches (line_of s.row).prefix s.prefix) _ f.0 in
-    let w = prefix_length bytes (s.prefix, s.behind) s.prefix_is in
-    let z = prefix_fits (line_of s.row).prefix s.prefix k.0 in
-    let a = after_length (opcode_bytes (line_of s.row).opcode) s.behind s.rest b.opcode in
-    let o = operands_length (line_of s.row).tail s.row (line_of s.row) s.prefix s.rest found s.operands_are in
-    let t = total s.row in
-    (omega arith, omega arith)
-
-has_size : ImmField → Bool
-has_size NoImm = true
-has_size (Imm size) = nat_le 1 size && nat_le size 4
-has_size (Simm size) = nat_le 1 size && nat_le size 4
-
-row_has_size : (row : Row) → has_size (line_of row).imm ≡ true
-unfolding has_size line_of
-row_has_size lock_addb_mi = refl
-row_has_size _ = refl
+    steps_length s.row (line_of s.row) s.prefix bytes s.behind s.rest found (row_short s.row) s.prefix_is (row_matches s.prefix s.behind all_rows s.row s.rest s.row_is) s.operands_are
 
 size_of : (field : ImmField) → has_size field ≡ true → HasSize field
 unfolding has_size
@@ -259,6 +263,10 @@ size_of NoImm h = tt
 size_of (Imm size) h = let p = and_parts (nat_le 1 size) (nat_le size 4) h in (le_of 1 size p.0, le_of size 4 p.1)
 size_of (Simm size) h = let p = and_parts (nat_le 1 size) (nat_le size 4) h in (le_of 1 size p.0, le_of size 4 p.1)
 
+pub line_size : (line : Line) → is_short line ≡ true → HasSize line.imm
+unfolding is_short
+line_size line h = size_of line.imm (and_parts (nat_le (line_most line) 13 && nat_le 1 (length (opcode_bytes line.opcode))) (has_size line.imm) h).1
+
 -- the immediates of the table have one to four bytes
 pub row_size : (row : Row) → HasSize (line_of row).imm
-row_size row = size_of (line_of row).imm (row_has_size row)
+row_size row = line_size (line_of row) (row_short row)

@@ -8,10 +8,10 @@ use Rattle.cax64_reader.specs.declared.tail.Tail.{Tail}
 abbrev pub tail_of : Tail → tail.Tail
 tail_of found = record { reg = found.reg; place = found.place; rest = found.rest.now }
 
-abbrev pub found_of : Found → reading.Found
+abbrev pub found_of : {K : Type 0} → Found K → reading.FoundOf K
 found_of found = record {
   parts = record {
-    row = found.row;
+    row = found.key;
     reg = found.reg;
     vvvv = found.vvvv;
     place = found.place;

@@ -1,5 +1,7 @@
--- Steps of the proofs.
-pub mod Found
+-- What the clauses of public functions say.
 pub mod Front
+pub mod Found
 pub mod Lengths
+pub mod ByLine
+-- Steps of the proofs.
 pub mod PrefixWith

@@ -8,7 +8,7 @@ use cax64_table::prefix::PrefixNumbers;
 /// A prefix as plain numbers: those that are compared with a row's, and what the operands need beside them. So little
 /// has to be kept that it stays in registers.
 #[derive(Clone, Copy)]
-pub(crate) struct Front {
+pub struct Front {
     pub numbers: PrefixNumbers,
     pub has_rex: bool,
     pub r: bool,

@@ -1,10 +1,11 @@
 //! Reads one instruction from the front of some bytes.
 #![tactic(auto)]
 
-mod front;
+pub mod by_line;
+pub mod front;
 mod number;
-mod operands;
-mod prefix;
+pub mod operands;
+pub mod prefix;
 mod reader;
 mod tail;
 

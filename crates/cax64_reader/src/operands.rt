@@ -1,4 +1,4 @@
-//! The operands of an instruction, by the fields of its row.
+//! The operands of an instruction, by the fields of its line.
 
 ghost use Rattle.std.specs.Prelude.{◌≡◌, ◌<◌, ◌≤◌, ◌^◌, option_map};
 ghost use Rattle.cax64_machine_code.specs.Fields.{signed_of};
@@ -15,12 +15,11 @@ use cax64_machine_code::line::{
     ImmField, Line, PlaceField, PrefixField, RegField, TailField, VvvvField,
 };
 use cax64_machine_code::reading::{Place, RegView};
-use cax64_machine_code::row::Row;
 
-/// The operands that are found, the number of bytes of the tail, and what follows them.
+/// The operands that are found, what names their line, the number of bytes of the tail, and what follows them.
 #[derive(Clone, Copy)]
-pub(crate) struct Found<'a> {
-    pub row: Row,
+pub struct Found<'a, K> {
+    pub key: K,
     pub reg: Option<RegView>,
     pub vvvv: Option<u8>,
     pub place: Option<Place>,
@@ -127,15 +126,20 @@ fn imm<'a>(field: &ImmField, bytes: &'a [u8]) -> Option<(Option<i64>, &'a [u8])>
     }
 }
 
-/// The operands of a row without a tail.
+/// The operands of a line without a tail.
 #[inline(always)]
-fn bare_operands<'a>(row: Row, line: &Line, front: &Front, bytes: &'a [u8]) -> Option<Found<'a>>
+fn bare_operands<'a, K: Copy>(
+    key: K,
+    line: &Line,
+    front: &Front,
+    bytes: &'a [u8],
+) -> Option<Found<'a, K>>
     requires { HasSize line.now.imm }
-    ensures { option_map found_of result ≡ bare_operands row line.now (prefix_of front.now) bytes.now }
+    ensures { option_map found_of result ≡ bare_operands key line.now (prefix_of front.now) bytes.now }
 {
     let (imm, rest) = imm(&line.imm, bytes)?;
     Some(Found {
-        row,
+        key,
         reg: None,
         vvvv: vvvv(&line.prefix, front),
         place: None,
@@ -145,24 +149,24 @@ fn bare_operands<'a>(row: Row, line: &Line, front: &Front, bytes: &'a [u8]) -> O
     })
 }
 
-/// The operands of a row with a tail of these fields.
+/// The operands of a line with a tail of these fields.
 #[inline(always)]
-fn tail_operands<'a>(
-    row: Row,
+fn tail_operands<'a, K: Copy>(
+    key: K,
     line: &Line,
     reg: &RegField,
     field: &PlaceField,
     front: &Front,
     bytes: &'a [u8],
-) -> Option<Found<'a>>
+) -> Option<Found<'a, K>>
     requires { HasSize line.now.imm }
-    ensures { option_map found_of result ≡ tail_operands row line.now reg.now field.now (prefix_of front.now) bytes.now }
+    ensures { option_map found_of result ≡ tail_operands key line.now reg.now field.now (prefix_of front.now) bytes.now }
 {
     let tail = read_tail(front.x, front.b, bytes)?;
     let place = place(field, front, tail.place)?;
     let (imm, rest) = imm(&line.imm, tail.rest)?;
     Some(Found {
-        row,
+        key,
         reg: register(reg, front, tail.reg),
         vvvv: vvvv(&line.prefix, front),
         place: Some(place),
@@ -172,19 +176,19 @@ fn tail_operands<'a>(
     })
 }
 
-/// The operands behind the opcode of a row.
+/// The operands behind the opcode of a line, which is of whatever table and is named there by this.
 #[inline(always)]
-pub(crate) fn operands<'a>(
-    row: Row,
+pub fn operands<'a, K: Copy>(
+    key: K,
     line: &Line,
     front: &Front,
     bytes: &'a [u8],
-) -> Option<Found<'a>>
+) -> Option<Found<'a, K>>
     requires { HasSize line.now.imm }
-    ensures { option_map found_of result ≡ operands_of line.now.tail row line.now (prefix_of front.now) bytes.now }
+    ensures { option_map found_of result ≡ operands_of line.now.tail key line.now (prefix_of front.now) bytes.now }
 {
     match &line.tail {
-        TailField::NoTail => bare_operands(row, line, front, bytes),
-        TailField::Modrm(reg, field) => tail_operands(row, line, reg, field, front, bytes),
+        TailField::NoTail => bare_operands(key, line, front, bytes),
+        TailField::Modrm(reg, field) => tail_operands(key, line, reg, field, front, bytes),
     }
 }

@@ -126,7 +126,7 @@ fn begins_with_vex(seen: LegacyPrefixes, first: u8) -> bool
 
 /// What stands at the front, and what follows it; VEX only where no legacy prefix stands before it.
 #[inline(always)]
-pub(crate) fn read_front(bytes: &[u8]) -> Option<(Front, &[u8])>
+pub fn read_front(bytes: &[u8]) -> Option<(Front, &[u8])>
     ensures { option_map (λ r. (prefix_of r.0, r.1.now)) result ≡ prefix_at bytes.now }
 {
     let (seen, rest) = LegacyPrefixes::read(bytes);

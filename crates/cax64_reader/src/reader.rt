@@ -7,11 +7,12 @@ ghost use Rattle.cax64_reader.specs.Found.{found_of};
 use crate::operands::{Found, operands};
 use crate::prefix::read_front;
 use cax64_machine_code::reading::Reading;
+use cax64_machine_code::row::Row;
 use cax64_table::line;
 use cax64_table::lookup::row_for;
 
 #[inline(always)]
-fn find(bytes: &[u8]) -> Option<Found<'_>>
+fn find(bytes: &[u8]) -> Option<Found<'_, Row>>
     ensures is { option_map found_of result ≡ find bytes.now }
     ensures length { IfSome result (λ found. (1 + length found.rest.now ≤ length bytes.now) × (length bytes.now ≤ 13 + length found.rest.now)) }
 {
@@ -28,7 +29,7 @@ pub fn read_inst(bytes: &[u8]) -> Option<Reading>
 {
     let found = find(bytes)?;
     Some(Reading {
-        row: found.row,
+        row: found.key,
         length: (bytes.len() - found.rest.len()) as u8,
         tail: found.tail,
         reg: found.reg,

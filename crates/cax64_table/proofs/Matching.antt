@@ -41,7 +41,7 @@ front_stands (byte ∷ bytes) rest o h = first_stands byte bytes rest o (byte ==
 
 -- no row has the opcode 0F alone, so the opcode that stands at the front is the one that is read
 
-is_clean : Bool → ℕ → Bool
+unfoldable pub is_clean : Bool → ℕ → Bool
 is_clean escape byte = escape || not (byte == 0x0F)
 
 row_clean : (row : Row) → is_clean (line_of row).opcode.escape (line_of row).opcode.byte ≡ true
@@ -53,7 +53,7 @@ not_false : (t : Bool) → not t ≡ true → t ≡ false
 not_false true h = cc
 not_false false h = refl
 
-front_read : (escape : Bool) (byte : ℕ) (bytes rest : List ℕ) → is_clean escape byte ≡ true → after (opcode_bytes (record { escape = escape; byte = byte })) bytes ≡ Some rest → ◌≡◌ {A = Option (Opcode × List ℕ)} (front_opcode bytes) (Some (record { escape = escape; byte = byte }, rest))
+pub front_read : (escape : Bool) (byte : ℕ) (bytes rest : List ℕ) → is_clean escape byte ≡ true → after (opcode_bytes (record { escape = escape; byte = byte })) bytes ≡ Some rest → ◌≡◌ {A = Option (Opcode × List ℕ)} (front_opcode bytes) (Some (record { escape = escape; byte = byte }, rest))
 unfolding after is_clean
 front_read true byte [] rest c h = cc
 front_read true byte (first ∷ []) rest c h = let p = some_if (0x0F == first) None rest h in cc

@@ -21,7 +21,7 @@ use cax64_machine_code::row::Row;
 
 /// The opcode at the front, and what follows it. No row has the opcode 0F alone.
 #[inline(always)]
-fn opcode_at(bytes: &[u8]) -> Option<(Opcode, &[u8])>
+pub fn opcode_at(bytes: &[u8]) -> Option<(Opcode, &[u8])>
     ensures { behind result ≡ front_opcode bytes.now }
 {
     let (first, rest) = next(bytes)?;

@@ -1,6 +1,6 @@
 //! What stands before an opcode. (Intel SDM, volume 2, 2.1.1, 2.2.1.2 and 2.3.5.)
 
-ghost use Rattle.std.specs.Prelude.{◌≡◌, ◌<◌, true, option_map, Option};
+ghost use Rattle.std.specs.Prelude.{◌≡◌, ◌<◌, true, if◌then◌else◌, option_map, Option, Some, None};
 ghost use Rattle.std.specs.Int.{from_bool};
 ghost use Rattle.cax64_machine_code.specs.Prefix.{is_vex_map, Rex, Vex, legacy_prefix, vex_prefix};
 ghost use Rattle.cax64_table.specs.Legacy.{set_in};
@@ -52,6 +52,30 @@ impl PrefixNumbers {
             w,
             is_free: vvvv == 0,
         }
+    }
+
+    /// The legacy prefixes F0, 66, F2 and F3 from bit 0 up, or pp, and from bit 4 up the map.
+    #[inline(always)]
+    pub fn low(self) -> u8
+        ensures { result ≡ self.low }
+    {
+        self.low
+    }
+
+    /// The bit W, false where nothing has it.
+    #[inline(always)]
+    pub fn w(self) -> bool
+        ensures { result ≡ self.w }
+    {
+        self.w
+    }
+
+    /// L of VEX, or 1 of a REX byte, where one of them stands.
+    #[inline(always)]
+    pub fn high(self) -> Option<u8>
+        ensures { result ≡ (if self.has_high then Some self.high else None) }
+    {
+        if self.has_high { Some(self.high) } else { None }
     }
 
     /// What a key leaves open of these numbers is as a packed row has it.

@@ -4,6 +4,7 @@ use Rattle.cax64_machine_code.specs.Reading as definitions
 use Rattle.cax64_machine_code.specs.Reading.{find, operands_at}
 use Rattle.cax64_reader.specs.Found.{found_of}
 use Rattle.cax64_reader.specs.Front.{prefix_of}
+use Rattle.cax64_machine_code.specs.declared.row.Row.{Row}
 use Rattle.cax64_reader.specs.declared.operands.Found.{Found}
 use Rattle.cax64_reader.proofs.Longest.{find_length, row_size}
 use Rattle.cax64_reader.proofs.reader.find.Goals as goal
@@ -27,7 +28,7 @@ pub returns-clause-is : goal.returns-clause-is
 returns-clause-is = found
 
 -- what holds of what the definitions find
-of_some : (P : definitions.Found → Type 0) (o : Option Found) → ((f : definitions.Found) → option_map found_of o ≡ Some f → P f) → IfSome o (λ f. P (found_of f))
+of_some : (P : definitions.Found → Type 0) (o : Option (Found Row)) → ((f : definitions.Found) → option_map found_of o ≡ Some f → P f) → IfSome o (λ f. P (found_of f))
 of_some P None h = tt
 of_some P (Some f) h = h (found_of f) refl
 

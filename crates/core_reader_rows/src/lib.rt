@@ -1,0 +1,10 @@
+//! Worked rows of reading the core, each by hand.
+#![tactic(auto)]
+
+pub mod put_and_read;
+#[cfg(test)]
+mod read_back;
+#[cfg(test)]
+mod refused;
+#[cfg(test)]
+mod words;

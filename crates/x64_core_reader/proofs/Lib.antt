@@ -1,0 +1,4 @@
+pub mod Table
+pub mod Stands
+pub mod Found
+pub mod Distinct
