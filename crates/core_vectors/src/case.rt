@@ -4,6 +4,7 @@ use crate::columns::{optional, place_of, value_of};
 use cax64_sink::FixedSink;
 use std::alloc::{AllocError, Global};
 use x64_core::{Core, Op};
+use x64_core_reader::read_core;
 
 /// The instruction of a line, where each column is of its form and the operands are those of the line of the core.
 fn core_of(line: &str) -> Option<Core> {
@@ -21,6 +22,19 @@ pub(crate) fn is_wanted(line: &str, came: &str) -> bool {
     line.split('\t').last() == Some(came)
 }
 
+/// Whether bytes are read as this instruction, and whether none of their fronts is read.
+fn is_read_back(core: Core, bytes: &[u8]) -> bool {
+    let Some(reading) = read_core(bytes) else {
+        return false;
+    };
+    for length in 0..bytes.len() {
+        if read_core(&bytes[..length]).is_some() {
+            return false;
+        }
+    }
+    usize::from(reading.length) == bytes.len() && reading.core() == Some(core)
+}
+
 /// The bytes of the instruction of a line as hexadecimal pairs, or why there are none.
 pub(crate) fn outcome_of(alloc: Global, line: &str) -> Result<String, AllocError> {
     let mut came = String::new(alloc);
@@ -30,11 +44,12 @@ pub(crate) fn outcome_of(alloc: Global, line: &str) -> Result<String, AllocError
     };
     let mut sink = FixedSink::<13>::new();
     match core.encode_checked(&mut sink) {
-        Ok(()) => {
+        Ok(()) if is_read_back(core, sink.bytes()) => {
             for byte in sink.bytes() {
                 write!(came, "{byte:02x}")?;
             }
         }
+        Ok(()) => came.push_str("nothing: it's read otherwise")?,
         Err(_) => came.push_str("nothing: it can't be encoded")?,
     }
     Ok(came)

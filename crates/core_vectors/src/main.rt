@@ -1,4 +1,5 @@
-//! Encodes the instructions of `core.tsv`, which lies in the folder where it runs, and tells how many have the wanted bytes.
+//! Encodes the instructions of `core.tsv`, which lies in the folder where it runs, reads them back, and tells how many have the
+//! wanted bytes.
 //!
 //! GNU as and three disassemblers gave the bytes, by the script that lies beside the file. A line has the number of a line of
 //! the core and its name, the register in reg, what the rest of the tail names, the immediate, and the bytes. Its columns
