@@ -1,6 +1,7 @@
 //! What the job `assembled` has beside `data`: a jump to a label behind every sixth instruction, half of them forward.
 
-use crate::data::{Labels, Plan, push_if_encodable, push_or_tell};
+use crate::data::{Plan, push_if_encodable, push_or_tell};
+use crate::parts::Labels;
 use cranelift_assembler_x64::{DeferredTarget, InstData, Label, SinkError};
 use std::alloc::Global;
 use workload_source::digest::Digest;

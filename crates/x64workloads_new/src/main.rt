@@ -4,10 +4,13 @@
 #![tactic(auto)]
 
 mod assembled;
+mod checked;
 mod data;
 mod kinds;
+mod parts;
 mod stubs;
 
+use crate::checked::functions_checked;
 use crate::data::functions_of_data;
 use crate::stubs::stubs_again;
 use cranelift_assembler_x64::SinkError;
@@ -23,9 +26,15 @@ enum Job {
     StubsAgain,
     Data,
     Assembled,
+    FunctionsChecked,
 }
 
-const JOBS: [Job; 3] = [Job::StubsAgain, Job::Data, Job::Assembled];
+const JOBS: [Job; 4] = [
+    Job::StubsAgain,
+    Job::Data,
+    Job::Assembled,
+    Job::FunctionsChecked,
+];
 
 impl Job {
     fn name(self) -> &'static str {
@@ -33,6 +42,7 @@ impl Job {
             Job::StubsAgain => "stubs_again",
             Job::Data => "data",
             Job::Assembled => "assembled",
+            Job::FunctionsChecked => "functions_checked",
         }
     }
 
@@ -41,6 +51,7 @@ impl Job {
             Job::StubsAgain => stubs_again::<Regs>(alloc, count, seed),
             Job::Data => functions_of_data(alloc, false, count, seed),
             Job::Assembled => functions_of_data(alloc, true, count, seed),
+            Job::FunctionsChecked => functions_checked::<Regs>(alloc, count, seed),
         }
     }
 }
