@@ -9,7 +9,7 @@ use crate::visits::VisitText;
 use cax64_test_support::CallRecorder;
 use cranelift_assembler_x64 as assembler;
 use cranelift_assembler_x64::reader::read_inst;
-use cranelift_assembler_x64::{Instruction, InstructionText, Numbers, Recorder, Row};
+use cranelift_assembler_x64::{EncodeError, Instruction, InstructionText, Numbers, Recorder, Row};
 use named_instructions::fields::{Fault, Fields, parsed};
 use std::alloc::Global;
 
@@ -152,6 +152,8 @@ pub(crate) fn answer_worked(
 struct Faulty {
     sink: Recorder<Global>,
     fault: Option<assembler::Fault>,
+    /// The fault that the call answers which tests and puts, where it puts nothing.
+    checked: Option<assembler::Fault>,
     is_encodable: bool,
     visits: VisitText,
 }
@@ -165,6 +167,9 @@ impl TakesEither for Faulty {
     ) {
         self.fault = inst.first_fault(&self.sink);
         self.is_encodable = inst.is_encodable(&self.sink);
+        if let Err(EncodeError::Fault(fault)) = inst.encode_checked(&mut self.sink) {
+            self.checked = Some(fault);
+        }
         inst.visit(&mut self.visits);
     }
 }
@@ -180,6 +185,7 @@ pub(crate) fn answer_fault(
     let mut faulty = Faulty {
         sink: recorder_of(alloc, fields.text()?)?,
         fault: None,
+        checked: None,
         is_encodable: false,
         visits: VisitText::new(alloc),
     };
@@ -188,6 +194,9 @@ pub(crate) fn answer_fault(
     if faulty.is_encodable != faulty.fault.is_none() {
         let is_encodable = faulty.is_encodable;
         write!(came, " but is_encodable gives {is_encodable}")?;
+    }
+    if faulty.checked != faulty.fault || faulty.fault.is_some() != faulty.sink.bytes().is_empty() {
+        came.push_str(" but encode_checked does otherwise")?;
     }
     came.push('\t')?;
     faulty.visits.write(came)

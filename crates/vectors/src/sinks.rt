@@ -2,7 +2,7 @@
 
 use crate::encoding::recorder_of;
 use cax64_test_support::CallRecorder;
-use cranelift_assembler_x64::{CodeSink, FixedSink, Instruction};
+use cranelift_assembler_x64::{CodeSink, EncodeError, FixedSink, Instruction};
 use named_instructions::fields::Fault;
 use std::alloc::Global;
 
@@ -12,6 +12,15 @@ fn takes<I: Instruction, S: CodeSink>(inst: &I, sink: &mut S) -> Option<bool> {
         return None;
     }
     Some(inst.encode(sink).is_ok())
+}
+
+/// The same by the one call that tests and puts. At a fault nothing is put.
+fn takes_checked<I: Instruction, S: CodeSink>(inst: &I, sink: &mut S) -> Option<bool> {
+    match inst.encode_checked(sink) {
+        Ok(()) => Some(true),
+        Err(EncodeError::Fault(_)) => None,
+        Err(EncodeError::Sink(_)) => Some(false),
+    }
 }
 
 /// Whether a recorder that knows these offsets, a vector and a sink of fixed size keep the same of an instruction as the
@@ -26,10 +35,10 @@ pub(crate) fn keep_the_same<I: Instruction>(
     let mut recorder = recorder_of(alloc, offsets)?;
     let mut vector: Vec<u8> = Vec::new(alloc);
     let mut fixed = FixedSink::<13>::new();
-    let recorded = takes(inst, &mut recorder) == Some(true)
+    let recorded = takes_checked(inst, &mut recorder) == Some(true)
         && recorder.bytes() == bytes
         && recorder.notices() == kept.notices();
-    let as_bytes = match (takes(inst, &mut vector), takes(inst, &mut fixed)) {
+    let as_bytes = match (takes(inst, &mut vector), takes_checked(inst, &mut fixed)) {
         (Some(true), Some(true)) => vector.as_slice() == bytes && fixed.bytes() == bytes,
         // They know no offset.
         (None, None) => offsets != "-",

@@ -3,7 +3,6 @@
 use crate::timing::{ROUNDS, time_if};
 use cranelift_assembler_x64::{
     Amode, InstData, Instruction, Numbers, Operand, Operands, Row, RowAndOperands,
-    encode_each_checked,
 };
 use std::alloc::Global;
 use std::io;
@@ -15,21 +14,15 @@ use std::time::{Duration, Instant};
 pub(crate) enum DataCall {
     Rename,
     RenameTestAndEncode,
-    EncodeChecked,
 }
 
-pub(crate) const DATA_CALLS: [DataCall; 3] = [
-    DataCall::Rename,
-    DataCall::RenameTestAndEncode,
-    DataCall::EncodeChecked,
-];
+pub(crate) const DATA_CALLS: [DataCall; 2] = [DataCall::Rename, DataCall::RenameTestAndEncode];
 
 impl DataCall {
     pub(crate) fn name(self) -> &'static str {
         match self {
             DataCall::Rename => "rename",
             DataCall::RenameTestAndEncode => "rename_test_and_encode",
-            DataCall::EncodeChecked => "encode_checked",
         }
     }
 }
@@ -168,7 +161,6 @@ fn time_of_data(
             true
         }
         DataCall::RenameTestAndEncode => put_renamed(insts, &homes, code),
-        DataCall::EncodeChecked => encode_each_checked(insts, code).is_ok(),
     };
     time_if(rt, start, is_done)
 }

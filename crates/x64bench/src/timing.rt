@@ -6,7 +6,9 @@ ghost use Rattle.cranelift_assembler_x64.specs.Text.{nameable};
 ghost use Rattle.cranelift_assembler_x64.specs.Vec.{vec_state};
 
 use cranelift_assembler_x64::reader::read_inst;
-use cranelift_assembler_x64::{Instruction, InstructionText, all_encodable, encode_each};
+use cranelift_assembler_x64::{
+    Instruction, InstructionText, all_encodable, encode_each, encode_each_checked,
+};
 use std::alloc::{AllocError, Global};
 use std::io;
 use std::io::ErrorKind;
@@ -20,16 +22,20 @@ pub(crate) enum Call {
     EncodeAll,
     IsEncodable,
     IsEncodableAndEncode,
+    EncodeChecked,
+    EncodeEachChecked,
     EncodedLen,
     ToString,
     ReadInst,
 }
 
 /// What is timed of each type of instruction, in an order in which there is code before it is measured.
-pub(crate) const CALLS: [Call; 5] = [
+pub(crate) const CALLS: [Call; 7] = [
     Call::EncodeAll,
     Call::IsEncodable,
     Call::IsEncodableAndEncode,
+    Call::EncodeChecked,
+    Call::EncodeEachChecked,
     Call::EncodedLen,
     Call::ToString,
 ];
@@ -40,6 +46,8 @@ impl Call {
             Call::EncodeAll => "encode_all",
             Call::IsEncodable => "is_encodable",
             Call::IsEncodableAndEncode => "is_encodable_and_encode",
+            Call::EncodeChecked => "encode_checked",
+            Call::EncodeEachChecked => "encode_each_checked",
             Call::EncodedLen => "encoded_len",
             Call::ToString => "to_string",
             Call::ReadInst => "read_inst",
@@ -96,7 +104,7 @@ fn time_is_encodable<I: Instruction>(
 }
 
 /// Encodes each instruction behind the test whether it can be.
-fn encode_checked<I: Instruction>(insts: &[I], code: &mut Vec<u8>) -> bool {
+fn test_and_encode<I: Instruction>(insts: &[I], code: &mut Vec<u8>) -> bool {
     for inst in insts {
         if !inst.is_encodable(&*code) || inst.encode(code).is_err() {
             return false;
@@ -112,7 +120,39 @@ fn time_is_encodable_and_encode<I: Instruction>(
 ) -> io::Result<Duration> {
     code.clear();
     let start = Instant::now(rt)?;
+    let is_done = test_and_encode(insts, code);
+    time_if(rt, start, is_done)
+}
+
+/// Encodes each instruction by the call that tests it first.
+fn encode_checked<I: Instruction>(insts: &[I], code: &mut Vec<u8>) -> bool {
+    for inst in insts {
+        if inst.encode_checked(code).is_err() {
+            return false;
+        }
+    }
+    true
+}
+
+fn time_encode_checked<I: Instruction>(
+    rt: &HostRuntime,
+    insts: &[I],
+    code: &mut Vec<u8>,
+) -> io::Result<Duration> {
+    code.clear();
+    let start = Instant::now(rt)?;
     let is_done = encode_checked(insts, code);
+    time_if(rt, start, is_done)
+}
+
+fn time_encode_each_checked<I: Instruction>(
+    rt: &HostRuntime,
+    insts: &[I],
+    code: &mut Vec<u8>,
+) -> io::Result<Duration> {
+    code.clear();
+    let start = Instant::now(rt)?;
+    let is_done = encode_each_checked(insts, code).is_ok();
     time_if(rt, start, is_done)
 }
 
@@ -200,6 +240,8 @@ fn time_of<I: Instruction + InstructionText>(
         Call::EncodeAll => time_encode_all(rt, insts, code),
         Call::IsEncodable => time_is_encodable(rt, insts, &*code),
         Call::IsEncodableAndEncode => time_is_encodable_and_encode(rt, insts, code),
+        Call::EncodeChecked => time_encode_checked(rt, insts, code),
+        Call::EncodeEachChecked => time_encode_each_checked(rt, insts, code),
         Call::EncodedLen => time_encoded_len(rt, insts, &*code),
         Call::ToString => time_to_string(rt, insts),
         Call::ReadInst => time_read_inst(rt, code.as_slice(), insts.len()),

@@ -1,6 +1,7 @@
 //! What the job `assembled` has beside `data`: a jump to a label behind every sixth instruction, half of them forward.
 
-use crate::data::{Labels, Plan, push_settled};
+use crate::data::{Plan, push_settled};
+use crate::parts::Labels;
 use crate::work::Work;
 use cranelift_assembler_x64::{DeferredTarget, Label, SinkError};
 use std::alloc::Global;

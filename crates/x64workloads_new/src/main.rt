@@ -4,12 +4,15 @@
 #![tactic(auto)]
 
 mod assembled;
+mod checked;
 mod data;
 mod kinds;
 mod kinds_of_core;
+mod parts;
 mod stubs;
 mod work;
 
+use crate::checked::functions_checked;
 use crate::data::functions_of;
 use crate::stubs::stubs_again;
 use cranelift_assembler_x64::{InstData, SinkError};
@@ -27,9 +30,16 @@ enum Job {
     Data,
     Assembled,
     Core,
+    FunctionsChecked,
 }
 
-const JOBS: [Job; 4] = [Job::StubsAgain, Job::Data, Job::Assembled, Job::Core];
+const JOBS: [Job; 5] = [
+    Job::StubsAgain,
+    Job::Data,
+    Job::Assembled,
+    Job::Core,
+    Job::FunctionsChecked,
+];
 
 impl Job {
     fn name(self) -> &'static str {
@@ -38,6 +48,7 @@ impl Job {
             Job::Data => "data",
             Job::Assembled => "assembled",
             Job::Core => "core",
+            Job::FunctionsChecked => "functions_checked",
         }
     }
 
@@ -47,6 +58,7 @@ impl Job {
             Job::Data => functions_of::<InstData>(alloc, false, count, seed),
             Job::Assembled => functions_of::<InstData>(alloc, true, count, seed),
             Job::Core => functions_of::<Core>(alloc, false, count, seed),
+            Job::FunctionsChecked => functions_checked::<Regs>(alloc, count, seed),
         }
     }
 }
