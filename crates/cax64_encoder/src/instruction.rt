@@ -20,7 +20,7 @@ use crate::content::Content;
 use crate::error::EncodeError;
 use crate::fault::{Fault, listed_fault};
 use crate::room::{Counting, Measuring, RoomNeeded};
-use crate::tested::Tested;
+use crate::tested::{Outcome, Tested};
 use cax64_machine_code::row::Row;
 use cax64_operand::{HasOperands, ItsRow, RegisterFamily, RegisterVisitor, RowAndOperands};
 use cax64_register::Registers;
@@ -185,9 +185,11 @@ impl<I: RowAndOperands> Instruction for I {
     #[inline(always)]
     fn encode_checked<S: CodeSink>(&self, sink: &mut S) -> Result<(), EncodeError> {
         match self.hand_to::<Tested, S>(sink) {
-            Some(Ok(())) => Ok(()),
-            Some(Err(error)) => Err(EncodeError::Sink(error)),
-            None => Err(EncodeError::Fault(listed_fault(self, &*sink).unwrap())),
+            Outcome::Put => Ok(()),
+            Outcome::Refused(error) => Err(EncodeError::Sink(error)),
+            Outcome::NotEncodable => {
+                Err(EncodeError::Fault(listed_fault(self, &*sink).unwrap()))
+            }
         }
     }
 }

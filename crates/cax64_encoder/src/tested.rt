@@ -1,8 +1,8 @@
 //! Test and encoding as one task, which is handed an instruction once.
 
-ghost use Rattle.std.specs.Prelude.{◌≡◌, false, IsTrue, MatchOption};
+ghost use Rattle.std.specs.Prelude.{◌≡◌, false, IsTrue};
 ghost use Rattle.cax64_encoder.specs.Task.{Answered, Asked};
-ghost use Rattle.cax64_encoder.specs.Tested.{can_be_put, none_tested, nop_tested, with_tested};
+ghost use Rattle.cax64_encoder.specs.Tested.{ByOutcome, can_be_put, none_tested, nop_tested, with_tested};
 
 use crate::checked::Checked;
 use crate::content::Content;
@@ -16,6 +16,16 @@ use cax64_sink::{CodeSink, SinkError};
 pub struct Tested {
     pub checked: Checked,
     pub content: Content,
+}
+
+/// What comes of an instruction that is tested and put. In one enumeration it goes through registers, as what `encode`
+/// answers does.
+#[derive(Clone, Copy)]
+pub enum Outcome {
+    Put,
+    Refused(SinkError),
+    /// It can't be encoded for the sink, which is as before.
+    NotEncodable,
 }
 
 impl<R: Registers> FromOperands<R> for Tested {
@@ -66,21 +76,24 @@ impl Tested {
     }
 }
 
-/// Puts the instruction into a sink if it can be encoded for it. Otherwise the answer is `None`, and the sink is as before.
+/// Puts the instruction into a sink if it can be encoded for it.
 impl<R: Registers, S: CodeSink> Task<R, S> for Tested {
-    type Answer = Option<Result<(), SinkError>>;
+    type Answer = Outcome;
 
     ghost asks = { λ row tested sink. IsTrue (can_be_put (S.state sink).offsets tested) → Asked R ⟦<R as RegisterFamily>⟧.family (S.state sink).offsets row tested.content };
 
-    ghost answers = { λ row tested old new result. MatchOption result
-        ((can_be_put (S.state old).offsets tested ≡ false) × (new ≡ old))
-        (λ put. IsTrue (can_be_put (S.state old).offsets tested) × (Answered R ⟦<R as RegisterFamily>⟧.family row tested.content (S.state old) (S.state new) put × S.may_become old new)) };
+    ghost answers = { λ row tested old new result. ByOutcome result
+        (λ put. IsTrue (can_be_put (S.state old).offsets tested) × (Answered R ⟦<R as RegisterFamily>⟧.family row tested.content (S.state old) (S.state new) put × S.may_become old new))
+        ((can_be_put (S.state old).offsets tested ≡ false) × (new ≡ old)) };
 
     #[inline(always)]
-    fn take(self, row: Row, sink: &mut S) -> Option<Result<(), SinkError>> {
+    fn take(self, row: Row, sink: &mut S) -> Outcome {
         if !self.can_be_put(&*sink) {
-            return None;
+            return Outcome::NotEncodable;
         }
-        Some(<Content as Task<R, S>>::take(self.content, row, sink))
+        match <Content as Task<R, S>>::take(self.content, row, sink) {
+            Ok(()) => Outcome::Put,
+            Err(error) => Outcome::Refused(error),
+        }
     }
 }

@@ -1,3 +1,4 @@
+use Rattle.std.proofs.Common.{Ok, Err}
 use Rattle.cax64_operand.specs.Family.{family_of, numbering}
 use Rattle.cax64_encoder.proofs.Passed.{can_none, has_fault, tested_asked, tested_put}
 use Rattle.cax64_encoder.proofs.Relatives.{meant_relative}
@@ -15,17 +16,17 @@ unwrap-requires g c =
     let f = family_of (numbering g.I.Family.ReadGpr.AsReg.settled g.I.Family.ReadGpr.AsReg.enc) (numbering g.I.Family.ReadWriteGpr.AsReg.settled g.I.Family.ReadWriteGpr.AsReg.enc) (numbering g.I.Family.WriteGpr.AsReg.settled g.I.Family.WriteGpr.AsReg.enc) (numbering g.I.Family.ReadXmm.AsReg.settled g.I.Family.ReadXmm.AsReg.enc) (numbering g.I.Family.ReadWriteXmm.AsReg.settled g.I.Family.ReadWriteXmm.AsReg.enc) (numbering g.I.Family.WriteXmm.AsReg.settled g.I.Family.WriteXmm.AsReg.enc) g.I.Family.WriteGpr.PartialEq.eq in
     let row = g.I.RowAndOperands.row_of c.args.self.now in
     let o = g.I.RowAndOperands.operands_of c.args.self.now in
-    let a = c.in-None.ensures.answers in
+    let a = c.in-NotEncodable.ensures.answers in
     has_fault f row o (g.S.CodeSink.state c.hand_to.new.to).offsets c.listed_fault.result c.listed_fault.ensures (rw a.1 a.0)
 
-pub returns-in-Some-Ok : goal.returns-in-Some-Ok
-returns-in-Some-Ok g c =
+pub returns-in-Put : goal.returns-in-Put
+returns-in-Put g c =
     let f = family_of (numbering g.I.Family.ReadGpr.AsReg.settled g.I.Family.ReadGpr.AsReg.enc) (numbering g.I.Family.ReadWriteGpr.AsReg.settled g.I.Family.ReadWriteGpr.AsReg.enc) (numbering g.I.Family.WriteGpr.AsReg.settled g.I.Family.WriteGpr.AsReg.enc) (numbering g.I.Family.ReadXmm.AsReg.settled g.I.Family.ReadXmm.AsReg.enc) (numbering g.I.Family.ReadWriteXmm.AsReg.settled g.I.Family.ReadWriteXmm.AsReg.enc) (numbering g.I.Family.WriteXmm.AsReg.settled g.I.Family.WriteXmm.AsReg.enc) g.I.Family.WriteGpr.PartialEq.eq in
     let row = g.I.RowAndOperands.row_of c.args.self.now in
     let o = g.I.RowAndOperands.operands_of c.args.self.now in
     let s = g.S.CodeSink.state c.args.sink.now in
-    let a = c.in-Some-Ok.ensures.answers in
-    let put = rw c.in-Some-Ok.field-0-is at (tested_put f row o s (g.S.CodeSink.state c.hand_to.new.to) c.in-Some-Ok.field-0 c.hand_to.ensures.signature a.0 a.1.0) in
+    let a = c.in-Put.ensures.answers in
+    let put = tested_put f row o s (g.S.CodeSink.state c.hand_to.new.to) (Ok tt) c.hand_to.ensures.signature a.0 a.1.0 in
     record {
       fault = can_none f row o s.offsets a.0;
       unchanged = tt;
@@ -42,14 +43,14 @@ returns-in-Some-Ok g c =
       relative = meant_relative _ _ _ _ c.hand_to.ensures.signature;
     }
 
-pub returns-in-Some-Err : goal.returns-in-Some-Err
-returns-in-Some-Err g c =
+pub returns-in-Refused : goal.returns-in-Refused
+returns-in-Refused g c =
     let f = family_of (numbering g.I.Family.ReadGpr.AsReg.settled g.I.Family.ReadGpr.AsReg.enc) (numbering g.I.Family.ReadWriteGpr.AsReg.settled g.I.Family.ReadWriteGpr.AsReg.enc) (numbering g.I.Family.WriteGpr.AsReg.settled g.I.Family.WriteGpr.AsReg.enc) (numbering g.I.Family.ReadXmm.AsReg.settled g.I.Family.ReadXmm.AsReg.enc) (numbering g.I.Family.ReadWriteXmm.AsReg.settled g.I.Family.ReadWriteXmm.AsReg.enc) (numbering g.I.Family.WriteXmm.AsReg.settled g.I.Family.WriteXmm.AsReg.enc) g.I.Family.WriteGpr.PartialEq.eq in
     let row = g.I.RowAndOperands.row_of c.args.self.now in
     let o = g.I.RowAndOperands.operands_of c.args.self.now in
     let s = g.S.CodeSink.state c.args.sink.now in
-    let a = c.in-Some-Err.ensures.answers in
-    let put = rw c.in-Some-Err.field-0-is at (tested_put f row o s (g.S.CodeSink.state c.hand_to.new.to) c.in-Some-Err.field-0 c.hand_to.ensures.signature a.0 a.1.0) in
+    let a = c.in-Refused.ensures.answers in
+    let put = tested_put f row o s (g.S.CodeSink.state c.hand_to.new.to) (Err c.in-Refused.error) c.hand_to.ensures.signature a.0 a.1.0 in
     record {
       fault = can_none f row o s.offsets a.0;
       unchanged = tt;
