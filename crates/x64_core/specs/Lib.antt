@@ -8,6 +8,7 @@ pub mod Refusal
 pub mod Rename
 pub mod Kinds
 pub mod Extension
+pub mod Value
 -- Steps of the proofs.
 pub mod Shape
 pub mod Fits
