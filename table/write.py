@@ -12,6 +12,7 @@ from pathlib import Path
 import classes
 import core_files
 import core_reader
+import core_text
 import enumeration
 import facade
 import fixed
@@ -50,6 +51,7 @@ def sources_of(table, core):
     facade.write(table, sources)
     core_files.write(table, core, sources)
     core_reader.write(table, core, sources)
+    core_text.write(table, core, sources)
     return sources
 
 

@@ -11,5 +11,6 @@ pub mod Message
 pub mod Rename
 pub mod Kinds
 pub mod Extension
+pub mod Value
 -- Steps of the proofs.
 pub mod Form

@@ -24,6 +24,7 @@ pub mod place;
 pub mod refused;
 pub mod rename;
 pub mod shapes;
+mod value;
 
 pub use extension::Extension;
 pub use instruction::Core;
