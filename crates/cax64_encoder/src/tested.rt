@@ -18,8 +18,8 @@ pub struct Tested {
     pub content: Content,
 }
 
-/// What comes of an instruction that is tested and put. In one enumeration it goes through registers, as what `encode`
-/// answers does.
+/// What comes of an instruction that is tested and put. It holds one thing at most, as what `encode` answers does: an option
+/// of that would hold two.
 #[derive(Clone, Copy)]
 pub enum Outcome {
     Put,
@@ -66,8 +66,8 @@ impl<R: Registers> FromOperands<R> for Tested {
 }
 
 impl Tested {
-    /// Whether the operands can be encoded for this sink. The late offset is tested by the displacement that the code has:
-    /// that of `checked` would be kept beside it.
+    /// Whether the operands can be encoded for this sink. The late offset is tested by the displacement that the code has,
+    /// so that of `checked` isn't kept beside it.
     #[inline(always)]
     fn can_be_put<S: CodeSink>(&self, sink: &S) -> bool
         ensures { result ≡ can_be_put (S.state sink.now).offsets self.now }
