@@ -147,7 +147,7 @@ def place_of(text):
 
 
 def case_of(columns):
-    _, name, reg, place, immediate, code = columns
+    _, name, reg, place, immediate, code, _ = columns
     code = bytes.fromhex(code)
     register = None if reg == "-" else View(int(reg))
     value = None if immediate == "-" else int(immediate)

@@ -9,7 +9,7 @@ code isn't looked at. GNU as encodes the text, and has to give the form of the n
 for suffixes, spellings of numbers, and names that are listed below. The status is 1 where one of them says otherwise.
 
 A line of core.tsv: the number of the line and its name, the register in reg, what the rest of the tail names, the
-immediate, the bytes. Of forms that no assembler gives, since a shorter one or another one means the same, there are
+immediate, the bytes, the text that GNU as was given. Of forms that no assembler gives, since a shorter one or another one means the same, there are
 no cases: registers of mov with an immediate, of push and pop, memory of movq of a vector register.
 """
 
@@ -105,16 +105,24 @@ def random_displacement(rng):
                        rng.randrange(-2**31, 2**31)])
 
 
+def displacement_text(value):
+    """Nothing of 0, one digit as it is, and else in hexadecimal."""
+    if value == 0:
+        return ""
+    return str(value) if abs(value) < 10 else f"{'-' if value < 0 else ''}0x{abs(value):x}"
+
+
 def random_memory(rng):
     """An address: what core.tsv has, and as AT&T text."""
     base, displacement = rng.randrange(16), random_displacement(rng)
-    text = str(displacement) if displacement else ""
+    text = displacement_text(displacement)
     if rng.random() < 0.5:
         return f"{base}:{displacement}", f"{text}(%{NAMES[64][base]})"
     index = rng.choice([number for number in range(16) if number != 4])
     scale = rng.choice([1, 2, 4, 8])
+    factor = f", {scale}" if scale > 1 else ""
     return (f"{base}:{index}:{scale}:{displacement}",
-            f"{text}(%{NAMES[64][base]},%{NAMES[64][index]},{scale})")
+            f"{text}(%{NAMES[64][base]}, %{NAMES[64][index]}{factor})")
 
 
 class Case:
@@ -136,7 +144,7 @@ class Case:
         if operand.what == "imm":
             value, _ = random_immediate(rng, self.name, operand)
             self.imm = str(value)
-            return f"${value}"
+            return f"${value % 2 ** (operand.signed() or 64):#x}"
         if operand.what == "reg":
             number = rng.randrange(16)
             self.reg = str(number)
@@ -151,7 +159,7 @@ class Case:
         return text
 
     def text(self):
-        return f"{self.mnemonic} {','.join(self.operands)}".strip()
+        return f"{self.mnemonic} {', '.join(self.operands)}".strip()
 
     def assembled(self):
         return f"{self.front}{self.text()}"
@@ -221,7 +229,7 @@ def address_of(base, index, scale, displacement):
     return ("m", base, index, int(scale or 1) if index else 0, number_of(displacement or "0"))
 
 
-ATT_MEMORY = re.compile(r"(-?(?:0x)?[0-9a-f]*)\((%\w+)(?:,(%\w+)(?:,([1248]))?)?\)$")
+ATT_MEMORY = re.compile(r"(-?(?:0x)?[0-9a-f]*)\((%\w+)(?:,\s*(%\w+)(?:,\s*([1248]))?)?\)$")
 
 
 def att_operand(text):
@@ -333,9 +341,9 @@ def main(seed=SEED):
     for difference in found[:40]:
         print(difference, file=sys.stderr)
     print(f"{len(cases)} cases, {len(found)} differences", file=sys.stderr)
-    rows = ["#op\tname\treg\tplace\timm\tbytes"]
+    rows = ["#op\tname\treg\tplace\timm\tbytes\ttext"]
     for case, code in zip(cases, codes):
-        rows.append("\t".join((str(case.number), case.name, case.reg, case.place, case.imm, code.hex())))
+        rows.append("\t".join((str(case.number), case.name, case.reg, case.place, case.imm, code.hex(), case.text())))
     (HERE / "core.tsv").write_text("\n".join(rows) + "\n")
     return 1 if found else 0
 

@@ -5,6 +5,7 @@ use cax64_sink::FixedSink;
 use std::alloc::{AllocError, Global};
 use x64_core::{Core, Op};
 use x64_core_reader::read_core;
+use x64_core_text::CoreText;
 
 /// The instruction of a line, where each column is of its form and the operands are those of the line of the core.
 fn core_of(line: &str) -> Option<Core> {
@@ -17,9 +18,12 @@ fn core_of(line: &str) -> Option<Core> {
     Core::new(op, reg, None, place, imm).ok()
 }
 
-/// Whether what came is what the line has in its last column.
+/// Whether what came is what the line has in its last columns.
 pub(crate) fn is_wanted(line: &str, came: &str) -> bool {
-    line.split('\t').last() == Some(came)
+    let mut columns = line.split('\t').skip(5);
+    let (bytes, text) = (columns.next(), columns.next());
+    came.split_once('\t')
+        .is_some_and(|(code, shown)| Some(code) == bytes && Some(shown) == text)
 }
 
 /// Whether bytes are read as this instruction, and whether none of their fronts is read.
@@ -35,7 +39,16 @@ fn is_read_back(core: Core, bytes: &[u8]) -> bool {
     usize::from(reading.length) == bytes.len() && reading.core() == Some(core)
 }
 
-/// The bytes of the instruction of a line as hexadecimal pairs, or why there are none.
+/// The text of an instruction, if its registers have names.
+fn push_text(alloc: Global, core: Core, came: &mut String) -> Result<(), AllocError> {
+    if core.nameable() {
+        let text = core.to_string(alloc)?;
+        came.push_str(text.as_str())?;
+    }
+    Ok(())
+}
+
+/// The bytes of the instruction of a line as hexadecimal pairs and its text, or why there are none.
 pub(crate) fn outcome_of(alloc: Global, line: &str) -> Result<String, AllocError> {
     let mut came = String::new(alloc);
     let Some(core) = core_of(line) else {
@@ -48,6 +61,8 @@ pub(crate) fn outcome_of(alloc: Global, line: &str) -> Result<String, AllocError
             for byte in sink.bytes() {
                 write!(came, "{byte:02x}")?;
             }
+            came.push('\t')?;
+            push_text(alloc, core, &mut came)?;
         }
         Ok(()) => came.push_str("nothing: it's read otherwise")?,
         Err(_) => came.push_str("nothing: it can't be encoded")?,

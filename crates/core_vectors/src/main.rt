@@ -1,8 +1,8 @@
 //! Encodes the instructions of `core.tsv`, which lies in the folder where it runs, reads them back, and tells how many have the
-//! wanted bytes.
+//! wanted bytes and text.
 //!
 //! GNU as and three disassemblers gave the bytes, by the script that lies beside the file. A line has the number of a line of
-//! the core and its name, the register in reg, what the rest of the tail names, the immediate, and the bytes. Its columns
+//! the core and its name, the register in reg, what the rest of the tail names, the immediate, the bytes, and the text. Its columns
 //! are separated by a tab; `-` stands for nothing. Numbers are decimal, bytes hexadecimal pairs. The first line names the
 //! columns.
 #![tactic(auto)]
