@@ -4,8 +4,9 @@ use cax64_table::entry::Entry;
 use cax64_test_support::Virtual;
 use cranelift_assembler_x64::inst::{lock_addl_mr, lock_cmpxchgl_mr};
 use cranelift_assembler_x64::{
-    Amode, AmodeOffset, AmodeOffsetPlusKnownOffset, AsReg, Constant, DeferredTarget, Fixed, Gpr,
-    GprMem, Instruction, Label, NonRspGpr, Numbers, Recorder, Scale, TrapCode, XmmMem,
+    Amode, AmodeOffset, AmodeOffsetPlusKnownOffset, AsReg, BaseAddress, Constant, DeferredTarget,
+    Fixed, Gpr, GprMem, IndexAddress, Instruction, Label, NonRspGpr, Numbers, Recorder, Scale,
+    TrapCode, XmmMem,
 };
 use std::num::NonZeroU8;
 
@@ -66,14 +67,24 @@ fn targets_are_made(rt: HostRuntime) {
     assert!(rt; Amode::<u8>::constant(Constant(5)) == Amode::RipRelative { target: constant });
 }
 
+fn based() -> BaseAddress<u8> {
+    Amode::base(1).displaced(8)
+}
+
+fn indexed() -> IndexAddress<u8> {
+    Amode::indexed(1, 2, Scale::One)
+}
+
 #[test]
 fn they_are_operands_too(rt: HostRuntime) {
-    let base = Amode::base(1).displaced(8);
-    assert!(rt; GprMem::<Virtual, u8>::from(base) == GprMem::Mem(base.into()));
-    assert!(rt; XmmMem::<Virtual, u8>::from(base).is_memory());
-    let index = Amode::indexed(1, 2, Scale::One);
-    assert!(rt; GprMem::<Virtual, u8>::from(index) == GprMem::Mem(index.into()));
-    assert!(rt; XmmMem::<Virtual, u8>::from(index).is_memory());
+    let general: GprMem<Virtual, u8> = based().into();
+    assert!(rt; general == GprMem::Mem(based().into()));
+    let vector: XmmMem<Virtual, u8> = based().into();
+    assert!(rt; vector.is_memory());
+    let general: GprMem<Virtual, u8> = indexed().into();
+    assert!(rt; general == GprMem::Mem(indexed().into()));
+    let vector: XmmMem<Virtual, u8> = indexed().into();
+    assert!(rt; vector.is_memory());
 }
 
 #[test]
