@@ -4,3 +4,4 @@ pub mod Fronts
 pub mod Lengths
 pub mod Longest
 pub mod ByLine
+pub mod Range

@@ -3,5 +3,6 @@ pub mod Front
 pub mod Found
 pub mod Lengths
 pub mod ByLine
+pub mod Range
 -- Steps of the proofs.
 pub mod PrefixWith

@@ -1,6 +1,6 @@
 //! The operands of one line, of whatever table the line is. Who has a table of lines looks up which one to try.
 
-ghost use Rattle.std.specs.Prelude.{◌≡◌, ◌&&◌, ◌∷◌, [], not, if◌then◌else◌, option_map, Some, None};
+ghost use Rattle.std.specs.Prelude.{◌≡◌, ◌&&◌, ◌∷◌, [], not, if◌then◌else◌, option_map, IfSome, Some, None, true};
 ghost use Rattle.std.specs.Int.{from_bool};
 ghost use Rattle.cax64_machine_code.specs.Line.{after, digit_matches, field_matches, opcode_bytes, prefix_matches, same_legacy, vvvv_matches, w_matches};
 ghost use Rattle.cax64_machine_code.specs.Reading.{matched_at};
@@ -8,6 +8,7 @@ ghost use Rattle.cax64_reader.specs.ByLine.{found_behind, rest_of};
 ghost use Rattle.cax64_reader.specs.Found.{found_of};
 ghost use Rattle.cax64_reader.specs.Front.{prefix_of};
 ghost use Rattle.cax64_reader.specs.Lengths.{HasSize};
+ghost use Rattle.cax64_reader.specs.Range.{in_range};
 ghost use Rattle.cax64_table.specs.LegacyNumber.{set_of};
 
 use crate::front::Front;
@@ -140,7 +141,8 @@ fn matched<'a>(line: &Line, front: &Front, bytes: &'a [u8]) -> Option<&'a [u8]>
 #[inline]
 pub fn operands_by_line<'a>(line: &Line, front: &Front, bytes: &'a [u8]) -> Option<Found<'a, Line>>
     requires { HasSize line.now.imm }
-    ensures { option_map found_of result ≡ found_behind line.now (prefix_of front.now) bytes.now }
+    ensures is { option_map found_of result ≡ found_behind line.now (prefix_of front.now) bytes.now }
+    ensures range { IfSome result (λ f. in_range line.now.imm f.imm ≡ true) }
 {
     let rest = matched(line, front, bytes)?;
     operands(*line, line, front, rest)

@@ -1,10 +1,11 @@
 //! The operands of an instruction, by the fields of its line.
 
-ghost use Rattle.std.specs.Prelude.{◌≡◌, ◌<◌, ◌≤◌, ◌^◌, option_map};
+ghost use Rattle.std.specs.Prelude.{◌≡◌, ◌<◌, ◌≤◌, ◌^◌, ◌*◌, ◌-◌, IfSome, option_map, true};
 ghost use Rattle.cax64_machine_code.specs.Fields.{signed_of};
 ghost use Rattle.cax64_machine_code.specs.Reading.{view_of, reg_view, reg_place, place_at, vvvv_at, imm_at, bare_operands, tail_operands, operands_of};
 ghost use Rattle.cax64_table.specs.Cursor.{behind};
 ghost use Rattle.cax64_reader.specs.Lengths.{HasSize};
+ghost use Rattle.cax64_reader.specs.Range.{in_range, signed_below};
 ghost use Rattle.cax64_reader.specs.Found.{found_of};
 ghost use Rattle.cax64_reader.specs.Front.{prefix_of};
 
@@ -96,7 +97,8 @@ fn signed(size: u8, n: u32) -> i64
     requires least { 1 ≤ size }
     requires most { size ≤ 4 }
     requires fits { n < 256 ^ size }
-    ensures { result ≡ signed_of size n }
+    ensures value { result ≡ signed_of size n }
+    ensures range { signed_below (2 ^ (8 * size - 1)) result ≡ true }
 {
     let value = i64::from(n);
     let half = 1 << (8 * size - 1);
@@ -111,7 +113,8 @@ fn signed(size: u8, n: u32) -> i64
 #[inline(always)]
 fn imm<'a>(field: &ImmField, bytes: &'a [u8]) -> Option<(Option<i64>, &'a [u8])>
     requires { HasSize field.now }
-    ensures { behind result ≡ imm_at field.now bytes.now }
+    ensures is { behind result ≡ imm_at field.now bytes.now }
+    ensures range { IfSome result (λ i. in_range field.now i.0 ≡ true) }
 {
     match field {
         ImmField::NoImm => Some((None, bytes)),
@@ -135,7 +138,8 @@ fn bare_operands<'a, K: Copy>(
     bytes: &'a [u8],
 ) -> Option<Found<'a, K>>
     requires { HasSize line.now.imm }
-    ensures { option_map found_of result ≡ bare_operands key line.now (prefix_of front.now) bytes.now }
+    ensures is { option_map found_of result ≡ bare_operands key line.now (prefix_of front.now) bytes.now }
+    ensures range { IfSome result (λ f. in_range line.now.imm f.imm ≡ true) }
 {
     let (imm, rest) = imm(&line.imm, bytes)?;
     Some(Found {
@@ -160,7 +164,8 @@ fn tail_operands<'a, K: Copy>(
     bytes: &'a [u8],
 ) -> Option<Found<'a, K>>
     requires { HasSize line.now.imm }
-    ensures { option_map found_of result ≡ tail_operands key line.now reg.now field.now (prefix_of front.now) bytes.now }
+    ensures is { option_map found_of result ≡ tail_operands key line.now reg.now field.now (prefix_of front.now) bytes.now }
+    ensures range { IfSome result (λ f. in_range line.now.imm f.imm ≡ true) }
 {
     let tail = read_tail(front.x, front.b, bytes)?;
     let place = place(field, front, tail.place)?;
@@ -185,7 +190,8 @@ pub fn operands<'a, K: Copy>(
     bytes: &'a [u8],
 ) -> Option<Found<'a, K>>
     requires { HasSize line.now.imm }
-    ensures { option_map found_of result ≡ operands_of line.now.tail key line.now (prefix_of front.now) bytes.now }
+    ensures is { option_map found_of result ≡ operands_of line.now.tail key line.now (prefix_of front.now) bytes.now }
+    ensures range { IfSome result (λ f. in_range line.now.imm f.imm ≡ true) }
 {
     match &line.tail {
         TailField::NoTail => bare_operands(key, line, front, bytes),

@@ -2,3 +2,4 @@ pub mod Table
 pub mod Stands
 pub mod Found
 pub mod Distinct
+pub mod Taken

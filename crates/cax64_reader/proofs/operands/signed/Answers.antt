@@ -2,6 +2,7 @@ use Rattle.std.proofs.Common.{◌≡◌, ℕ, zero, suc, ◌-◌, ◌*◌, ◌^�
 use Rattle.std.proofs.lemmas.Int.{ints}
 use Rattle.std.specs.Int.Signed.{lt_z}
 use Rattle.cax64_machine_code.specs.Fields.{signed_of}
+use Rattle.cax64_reader.proofs.Range.{signed_in_range}
 use Rattle.cax64_reader.proofs.operands.signed.Goals as goal
 
 -- the upper half of the numbers of so many bytes are the negative ones
@@ -13,5 +14,8 @@ negative (suc (suc (suc zero))) n v l m f e h = grind (arith, ints)
 negative (suc (suc (suc (suc zero)))) n v l m f e h = grind (arith, ints)
 negative (suc (suc (suc (suc (suc size))))) n v l m f e h = absurd (omega arith)
 
-pub returns-else-value-half : goal.returns-else-value-half
-returns-else-value-half c = negative c.args.size c.args.n c.from-value.result c.requires.least c.requires.most c.requires.fits c.from-value.ensures c.if-value-half.false
+pub returns-else-value-half-clause-value : goal.returns-else-value-half-clause-value
+returns-else-value-half-clause-value c = negative c.args.size c.args.n c.from-value.result c.requires.least c.requires.most c.requires.fits c.from-value.ensures c.if-value-half.false
+
+pub returns-else-value-half-clause-range : goal.returns-else-value-half-clause-range
+returns-else-value-half-clause-range c = rw (negative c.args.size c.args.n c.from-value.result c.requires.least c.requires.most c.requires.fits c.from-value.ensures c.if-value-half.false) (signed_in_range c.args.size c.args.n c.requires.least c.requires.most c.requires.fits)

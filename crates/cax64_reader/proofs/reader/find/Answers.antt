@@ -22,7 +22,7 @@ operands-requires c = rw c.line.ensures (row_size c.in_ok-row.row)
 
 found : goal.returns-clause-is
 unfolding find operands_at
-found c = rw (← c.in_ok-front.ensures, ← c.in_ok-row.ensures (prefix_of c.in_ok-front.front) c.in_ok-front.front.meant.numbers_are, ← c.line.ensures) c.operands.ensures
+found c = rw (← c.in_ok-front.ensures, ← c.in_ok-row.ensures (prefix_of c.in_ok-front.front) c.in_ok-front.front.meant.numbers_are, ← c.line.ensures) c.operands.ensures.is
 
 pub returns-clause-is : goal.returns-clause-is
 returns-clause-is = found
