@@ -34,9 +34,12 @@ def mnemonics(lines):
 
 
 def style(line):
-    """A call or a jump by a distance is a branch of so many bytes; one by an operand is indirect."""
+    """A call or a jump by a distance is a branch of so many bytes; one by an operand is indirect. Where memory has a
+    mnemonic of its own, that is the other one and an x."""
     if line.immediate and line.immediate.reading == "distance":
         return f"Branch({len(line.code.opcode_bytes) + line.immediate.size // 8})"
+    if line.memory_mnemonic:
+        return "Wide"
     return "Indirect" if line.style in INDIRECT else "Plain"
 
 

@@ -11,7 +11,9 @@ use x64_core::ops::moves::{
     LEAQ_RM, MOVB_MR, MOVL_MI, MOVL_RM, MOVQ_MR, MOVQ_RM, MOVSLQ_RM, MOVZBL_RM,
 };
 use x64_core::ops::multiplication::{IDIVQ_M, IMULL_RMI, IMULQ_RM, IMULW_RMI_SXB};
-use x64_core::ops::rows::{CALLQ_M, JGE_D32, JMP_D8, JMPQ_M, LOCK_ADDL_MI_SXB, MULXQ_RVM};
+use x64_core::ops::rows::{
+    CALLQ_M, JGE_D32, JMP_D8, JMPQ_M, LOCK_ADDL_MI_SXB, MULXQ_RVM, VCVTPD2PS_A,
+};
 use x64_core::ops::scalar::{ADDSD_A, CVTSI2SDQ_A, MOVSD_C_M};
 use x64_core::ops::shifts::{SARL_MI, SHLQ_MC};
 use x64_core_text::CoreText;
@@ -108,6 +110,15 @@ fn rows(rt: HostRuntime) {
     let locked = LOCK_ADDL_MI_SXB.mem(at(3, 0), -1);
     assert!(rt; prints(alloc, &locked, "lock addl $0xffffffff, (%rbx)"));
     assert!(rt; locked.mnemonic() == "lock addl");
+}
+
+/// A conversion shows how much memory it reads.
+#[test]
+fn conversions(rt: HostRuntime) {
+    let alloc = rt.alloc();
+    assert!(rt; prints(alloc, &VCVTPD2PS_A.regs(6, 11), "vcvtpd2ps %xmm11, %xmm6"));
+    let text = "vcvtpd2psx 0x18(%r12), %xmm6";
+    assert!(rt; prints(alloc, &VCVTPD2PS_A.mem(6, at(12, 24)), text));
 }
 
 /// A virtual register has no name.

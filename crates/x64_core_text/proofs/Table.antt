@@ -13,7 +13,7 @@ use Rattle.x64_core.specs.declared.lines.TheConstants.{COUNT}
 use Rattle.x64_core_text.specs.Fixed.{all_named}
 use Rattle.x64_core_text.specs.Style.{style_of}
 use Rattle.x64_core_text.specs.declared.style.Style.{Style}
-use Rattle.x64_core_text.specs.declared.style.Style.TheVariants.{Plain, Indirect, Branch}
+use Rattle.x64_core_text.specs.declared.style.Style.TheVariants.{Plain, Wide, Indirect, Branch}
 
 -- What the checker computes of the table.
 
@@ -21,6 +21,7 @@ use Rattle.x64_core_text.specs.declared.style.Style.TheVariants.{Plain, Indirect
 
 has_len : Style → Line → Bool
 has_len Plain line = true
+has_len Wide line = true
 has_len Indirect line = true
 has_len (Branch len) line = len == opcode_len line.opcode + imm_bytes line.imm
 

@@ -21,7 +21,7 @@ use Rattle.x64_core.specs.declared.kinds.Kind.{Kind}
 use Rattle.x64_core_text.specs.Mnemonics.{mnemonics}
 use Rattle.x64_core_text.specs.Style.{style_of}
 use Rattle.x64_core_text.specs.declared.style.Style.{Style}
-use Rattle.x64_core_text.specs.declared.style.Style.TheVariants.{Plain, Indirect, Branch}
+use Rattle.x64_core_text.specs.declared.style.Style.TheVariants.{Plain, Wide, Indirect, Branch}
 
 -- Texts of the core's instructions in AT&T's form, from a line's mnemonic and its operands.
 
@@ -83,6 +83,7 @@ number_text size value = codes "$" ++ hexadecimal (unsigned_at size value)
 
 abbrev pub value_text : Style → ℕ → ℤ → List ℕ
 value_text Plain number value = number_text (size_of (width_of (kinds_of number))) value
+value_text Wide number value = number_text (size_of (width_of (kinds_of number))) value
 value_text Indirect number value = number_text (size_of (width_of (kinds_of number))) value
 value_text (Branch len) number value = target_text (value +ℤ pos (opcode_len (core_line number).opcode + imm_bytes (core_line number).imm))
 
@@ -121,11 +122,26 @@ operands_text v (kind ∷ kinds) = operands_text v kinds ++ piece v (none_printe
 abbrev pub space : Style → Bool → List ℕ
 space style true = []
 space Plain false = codes " "
+space Wide false = codes " "
 space Indirect false = codes " *"
 space (Branch len) false = codes " "
 
+-- what stands behind the mnemonic of two conversions of memory, which shows that they read 128 bits
+
+abbrev pub is_memory : PlaceOperand ℕ → Bool
+is_memory operand.NoPlace = false
+is_memory (operand.Register number) = false
+is_memory (operand.Memory amode) = true
+
+abbrev pub suffix : Style → Bool → List ℕ
+suffix style false = []
+suffix Plain true = []
+suffix Wide true = codes "x"
+suffix Indirect true = []
+suffix (Branch len) true = []
+
 abbrev pub text_of : CoreView → List Kind → List ℕ
-text_of v kinds = mnemonic_of v.op ++ space (style_of v.op) (none_printed kinds) ++ operands_text v kinds
+text_of v kinds = mnemonic_of v.op ++ suffix (style_of v.op) (is_memory v.place) ++ space (style_of v.op) (none_printed kinds) ++ operands_text v kinds
 
 -- the text of an instruction
 abbrev pub text : CoreView → List ℕ

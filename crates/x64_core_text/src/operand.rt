@@ -182,7 +182,11 @@ fn push_value<A: Allocator>(out: &mut String<A>, op: Op, value: i64) -> Result<(
     ensures { OnOk result (string_bytes out.new ≡ string_bytes out.old ++ imm_text op.number (Some value)) }
 {
     match line_style(op.number()) {
-        Style::Plain | Style::Indirect => push_number(out, size_of(width(op.kinds())), value),
+        Style::Plain | Style::Wide | Style::Indirect => push_number(
+            out,
+            size_of(width(op.kinds())),
+            value,
+        ),
         Style::Branch(len) => push_target(out, value, len),
     }
 }

@@ -9,6 +9,8 @@ ghost use Rattle.x64_core_text.specs.Style.{style_of};
 pub enum Style {
     /// As most do.
     Plain,
+    /// With an x behind the mnemonic where memory is read, which shows that it's of 128 bits.
+    Wide,
     /// A call or a jump by an operand, before which a star stands.
     Indirect,
     /// A call or a jump by a distance, of which the target is printed, counted from the instruction. It has so many bytes.
@@ -168,8 +170,8 @@ static STYLES: [Style; 584] = [
     Style::Plain, // vcmppd_b
     Style::Plain, // vcmpss_b
     Style::Plain, // vcmpsd_b
-    Style::Plain, // vcvtpd2ps_a
-    Style::Plain, // vcvttpd2dq_a
+    Style::Wide, // vcvtpd2ps_a
+    Style::Wide, // vcvttpd2dq_a
     Style::Plain, // mulxl_rvm
     Style::Plain, // mulxq_rvm
     Style::Plain, // nop_1b

@@ -4,7 +4,7 @@ ghost use Rattle.std.specs.Prelude.{◌≡◌, ◌++◌, ◌&&◌, not, IfOk, Is
 ghost use Rattle.cax64_address.specs.Text.{amode_nameable};
 ghost use Rattle.x64_core.specs.View.{CoreView, core_view, place_operand};
 ghost use Rattle.x64_core_text.specs.Fixed.{all_named, is_named};
-ghost use Rattle.x64_core_text.specs.Text.{given_nameable, mnemonic_of, nameable, none_printed, operands_text, piece, place_nameable, separator, space, text};
+ghost use Rattle.x64_core_text.specs.Text.{given_nameable, is_memory, mnemonic_of, nameable, none_printed, operands_text, piece, place_nameable, separator, space, suffix, text};
 ghost use Rattle.x64_core_text.specs.declared.style.Style.{Style};
 
 use crate::mnemonic::mnemonic;
@@ -59,6 +59,27 @@ fn push_separator<A: Allocator>(out: &mut String<A>, first: bool) -> Result<(), 
     out.push_str(", ")
 }
 
+/// Whether a place is memory.
+fn is_memory(place: &CorePlace) -> bool
+    ensures { result ≡ is_memory (place_operand place.now) }
+{
+    !matches!(place, CorePlace::Absent | CorePlace::Register(_))
+}
+
+/// Adds what stands behind the mnemonic where memory is read.
+fn push_suffix<A: Allocator>(
+    out: &mut String<A>,
+    style: Style,
+    memory: bool,
+) -> Result<(), AllocError>
+    ensures { OnOk result (string_bytes out.new ≡ string_bytes out.old ++ suffix style memory) }
+{
+    match style {
+        Style::Wide if memory => out.push('x'),
+        _ => Ok(()),
+    }
+}
+
 /// Adds what stands between mnemonic and operands, if there are any.
 fn push_space<A: Allocator>(out: &mut String<A>, style: Style, none: bool) -> Result<(), AllocError>
     ensures { OnOk result (string_bytes out.new ≡ string_bytes out.old ++ space style none) }
@@ -67,7 +88,7 @@ fn push_space<A: Allocator>(out: &mut String<A>, style: Style, none: bool) -> Re
         return Ok(());
     }
     out.push_str(match style {
-        Style::Plain | Style::Branch(_) => " ",
+        Style::Plain | Style::Wide | Style::Branch(_) => " ",
         Style::Indirect => " *",
     })
 }
@@ -117,7 +138,7 @@ pub trait CoreText {
     // What it is, in a clause.
     ghost view: { Self → CoreView };
 
-    /// The name as assemblers write it, with `lock ` before it.
+    /// The name as assemblers write it, with `lock ` before it. In a text of two conversions of memory an `x` stands behind it.
     fn mnemonic(&self) -> &'static str
         ensures { result.now ≡ mnemonic_of (view self.now).op };
 
@@ -152,7 +173,9 @@ impl CoreText for Core {
         let kinds = op.kinds();
         let mut out = String::new(alloc);
         out.push_str(self.mnemonic())?;
-        push_space(&mut out, line_style(op.number()), none_printed(kinds))?;
+        let style = line_style(op.number());
+        push_suffix(&mut out, style, is_memory(&self.place()))?;
+        push_space(&mut out, style, none_printed(kinds))?;
         push_operands(&mut out, alloc, self, kinds)?;
         Ok(out)
     }
