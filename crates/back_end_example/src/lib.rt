@@ -17,3 +17,5 @@ mod examples;
 mod makers;
 #[cfg(test)]
 mod reserved;
+#[cfg(test)]
+mod rounds;
