@@ -1,6 +1,8 @@
 //! Worked rows of reading the core, each by hand.
 #![tactic(auto)]
 
+#[cfg(test)]
+mod every_line;
 pub mod put_and_read;
 #[cfg(test)]
 mod read_back;
