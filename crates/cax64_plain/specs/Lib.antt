@@ -1,0 +1,7 @@
+-- What the clauses of public functions say.
+pub mod Plain
+pub mod Reading
+pub mod Status
+pub mod Told
+-- Steps of the proofs.
+pub mod Named
