@@ -1,0 +1,4 @@
+-- What the clauses of the exports say.
+pub mod Given
+pub mod Encodes
+pub mod Outcome

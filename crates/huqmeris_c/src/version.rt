@@ -1,0 +1,11 @@
+//! The version of this interface.
+
+ghost use Rattle.std.specs.Prelude.{◌≡◌};
+
+/// The version of the header that fits this library.
+#[unsafe(no_mangle)]
+pub extern "C" fn hq_version() -> u32
+    ensures { result ≡ 1 }
+{
+    1
+}
