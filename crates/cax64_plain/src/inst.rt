@@ -17,8 +17,7 @@ use x64_core::{Core, Op};
 pub struct HqInst {
     /// The number of its line.
     pub line: u16,
-    /// What the rest of the tail names. 0: nothing, 1: a register, 2: memory at a base, 3: at a base and an index, and
-    /// relative to the end 4: a label, 5: a constant, 6: what isn't told.
+    /// What the rest of the tail names: `HQ_PLACE_NOTHING` and the like.
     pub place: u8,
     /// The register in the reg field of ModR/M.
     pub reg: u8,

@@ -12,14 +12,34 @@ use cax64_sink::{Constant, DeferredTarget, KnownOffset, Label, TrapCode};
 use std::num::NonZeroU8;
 use x64_core::CorePlace;
 
+/// A place: nothing.
+pub const HQ_PLACE_NOTHING: u8 = 0;
+
+/// A place: a register.
+pub const HQ_PLACE_REGISTER: u8 = 1;
+
+/// A place: memory at a base and a displacement.
+pub const HQ_PLACE_BASE: u8 = 2;
+
+/// A place: memory at a base, an index times its scale, and a displacement.
+pub const HQ_PLACE_INDEX: u8 = 3;
+
+/// A place: memory relative to the end of the instruction, at a label.
+pub const HQ_PLACE_LABEL: u8 = 4;
+
+/// A place: memory relative to the end of the instruction, at a constant.
+pub const HQ_PLACE_CONSTANT: u8 = 5;
+
+/// A place: memory relative to the end of the instruction, of which isn't told where.
+pub const HQ_PLACE_UNTOLD: u8 = 6;
+
 /// What the rest of the tail names, in integers: a register, memory, or nothing. What it lacks is 0.
 ///
 /// Any bytes may stand here: [`place`](Self::place) tells whether they are a place.
 #[repr(C)]
 #[derive(Clone, Copy, Debug, PartialEq)]
 pub struct HqPlace {
-    /// 0: nothing, 1: a register, 2: memory at a base, 3: at a base and an index, and relative to the end 4: a label, 5: a
-    /// constant, 6: what isn't told.
+    /// Which place it is: `HQ_PLACE_NOTHING` and the like.
     pub place: u8,
     /// The register, or the base.
     pub base: u8,
@@ -71,7 +91,7 @@ fn offset_of(has_offset: u8, offset: u8) -> Option<KnownOffset>
 impl HqPlace {
     /// No place.
     const NOTHING: HqPlace = HqPlace {
-        place: 0,
+        place: HQ_PLACE_NOTHING,
         base: 0,
         index: 0,
         scale: 0,
@@ -88,9 +108,9 @@ impl HqPlace {
         ensures { result ≡ target_place target }
     {
         let (place, target) = match target {
-            DeferredTarget::Label(label) => (4, label.0),
-            DeferredTarget::Constant(constant) => (5, constant.0),
-            DeferredTarget::None => (6, 0),
+            DeferredTarget::Label(label) => (HQ_PLACE_LABEL, label.0),
+            DeferredTarget::Constant(constant) => (HQ_PLACE_CONSTANT, constant.0),
+            DeferredTarget::None => (HQ_PLACE_UNTOLD, 0),
         };
         HqPlace {
             place,
@@ -106,7 +126,7 @@ impl HqPlace {
         match *place {
             CorePlace::Absent => HqPlace::NOTHING,
             CorePlace::Register(number) => HqPlace {
-                place: 1,
+                place: HQ_PLACE_REGISTER,
                 base: number,
                 ..HqPlace::NOTHING
             },
@@ -116,7 +136,7 @@ impl HqPlace {
                 offset,
                 displacement,
             } => HqPlace {
-                place: 2,
+                place: HQ_PLACE_BASE,
                 base,
                 trap: trap_number(trap),
                 has_offset: u8::from(offset.is_some()),
@@ -131,7 +151,7 @@ impl HqPlace {
                 trap,
                 displacement,
             } => HqPlace {
-                place: 3,
+                place: HQ_PLACE_INDEX,
                 base,
                 index,
                 scale: scale.enc(),

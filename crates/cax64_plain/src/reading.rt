@@ -7,6 +7,21 @@ ghost use Rattle.x64_core_reader.specs.Reading.{line_reading};
 use cax64_machine_code::reading::{Place, RegView};
 use x64_core_reader::CoreReading;
 
+/// An operand that was read: nothing.
+pub const HQ_READ_NOTHING: u8 = 0;
+
+/// An operand that was read: a register.
+pub const HQ_READ_REGISTER: u8 = 1;
+
+/// An operand that was read: the high byte of one of the first four registers.
+pub const HQ_READ_HIGH_BYTE: u8 = 2;
+
+/// An operand that was read: memory.
+pub const HQ_READ_MEMORY: u8 = 3;
+
+/// An operand that was read: memory relative to the end of the instruction.
+pub const HQ_READ_RELATIVE: u8 = 4;
+
 /// An instruction of the core as it is read, in integers. What it lacks is 0.
 #[repr(C)]
 #[derive(Clone, Copy, Debug, PartialEq)]
@@ -21,7 +36,7 @@ pub struct HqReading {
     pub length: u8,
     /// The number of bytes of ModR/M, SIB and displacement.
     pub tail: u8,
-    /// Of the register in the reg field of ModR/M. 0: there is none, 1: a register, 2: the high byte of one.
+    /// What stands in the reg field of ModR/M: `HQ_READ_NOTHING`, `HQ_READ_REGISTER` or `HQ_READ_HIGH_BYTE`.
     pub reg_kind: u8,
     /// Its number: of a high byte 0 to 3.
     pub reg: u8,
@@ -29,8 +44,7 @@ pub struct HqReading {
     pub has_vvvv: u8,
     /// Its number.
     pub vvvv: u8,
-    /// What the rest of the tail names. 0: nothing, 1: a register, 2: the high byte of one, 3: memory, 4: memory relative to
-    /// the end of the instruction.
+    /// What the rest of the tail names: `HQ_READ_NOTHING` and the like.
     pub place_kind: u8,
     /// 1 where memory has a base.
     pub has_base: u8,
@@ -64,8 +78,8 @@ fn view_kind(view: RegView) -> u8
     ensures { result ≡ view_kind view }
 {
     match view {
-        RegView::Low(_) => 1,
-        RegView::High(_) => 2,
+        RegView::Low(_) => HQ_READ_REGISTER,
+        RegView::High(_) => HQ_READ_HIGH_BYTE,
     }
 }
 
@@ -81,7 +95,7 @@ fn view_number(view: RegView) -> u8
 impl PlacePart {
     /// No place.
     const NOTHING: PlacePart = PlacePart {
-        kind: 0,
+        kind: HQ_READ_NOTHING,
         has_base: 0,
         base: 0,
         has_index: 0,
@@ -103,7 +117,7 @@ impl PlacePart {
             Some(Place::Mem { base, index, disp }) => {
                 let (number, factor) = index.unwrap_or((0, 0));
                 PlacePart {
-                    kind: 3,
+                    kind: HQ_READ_MEMORY,
                     has_base: u8::from(base.is_some()),
                     base: base.unwrap_or(0),
                     has_index: u8::from(index.is_some()),
@@ -113,7 +127,7 @@ impl PlacePart {
                 }
             }
             Some(Place::Rip(disp)) => PlacePart {
-                kind: 4,
+                kind: HQ_READ_RELATIVE,
                 disp,
                 ..PlacePart::NOTHING
             },
@@ -128,7 +142,7 @@ impl HqReading {
     {
         let place = PlacePart::of(reading.place);
         let (reg_kind, reg) = match reading.reg {
-            None => (0, 0),
+            None => (HQ_READ_NOTHING, 0),
             Some(view) => (view_kind(view), view_number(view)),
         };
         HqReading {

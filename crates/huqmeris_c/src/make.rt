@@ -14,11 +14,17 @@ use cax64_plain::status::{HQ_BAD_LINE, HQ_BAD_PLACE, HQ_OK, shape_status};
 use cax64_plain::{HqInst, HqPlace};
 use x64_core::{Core, Op};
 
+/// No register is given.
+pub const HQ_NO_REG: u16 = 256;
+
+/// No immediate is given.
+pub const HQ_NO_IMM: i64 = i64::MIN;
+
 /// A register, where one is given.
 fn register(number: u16) -> Option<u8>
     ensures { result ≡ register_given number }
 {
-    if number < 256 {
+    if number < HQ_NO_REG {
         Some(number as u8)
     } else {
         None
@@ -29,7 +35,11 @@ fn register(number: u16) -> Option<u8>
 fn immediate(value: i64) -> Option<i64>
     ensures { result ≡ imm_given value }
 {
-    if value == i64::MIN { None } else { Some(value) }
+    if value == HQ_NO_IMM {
+        None
+    } else {
+        Some(value)
+    }
 }
 
 /// Makes the instruction of a line with these operands, where they are those that it takes: a register in reg and in vvvv
