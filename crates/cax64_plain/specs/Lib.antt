@@ -5,3 +5,4 @@ pub mod Status
 pub mod Told
 -- Steps of the proofs.
 pub mod Named
+pub mod NamedReading

@@ -1,4 +1,4 @@
-use Rattle.std.specs.Prelude.{◌≡◌, ℕ, Option, Some, None, is_some, ℤ, pos, [], ◌∷◌}
+use Rattle.std.specs.Prelude.{◌≡◌, ℕ, Option, Some, None, is_some, ℤ, pos}
 use Rattle.std.specs.Int.{from_bool}
 use Rattle.cax64_machine_code.specs.ReadLine.{LineReading}
 use Rattle.cax64_machine_code.specs.declared.reading.Place.{Place}
@@ -73,7 +73,8 @@ plain_reading number reading = record {
   index = (part_of reading.place).index;
   factor = (part_of reading.place).factor;
   has_imm = from_bool (is_some reading.imm);
-  reserved = 0 ∷ 0 ∷ 0 ∷ 0 ∷ 0 ∷ [];
+  reserved = 0;
+  reserved_word = 0;
 }
 
 -- The integers are those of a reading, and the number among them is that of its line.

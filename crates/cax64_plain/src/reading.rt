@@ -1,10 +1,13 @@
 //! What is read of bytes, in integers.
 
-ghost use Rattle.std.specs.Prelude.{◌≡◌};
+ghost use Rattle.std.specs.Prelude.{◌≡◌, ◌≢◌, IfNone, IfSome, IsTrue};
+ghost use Rattle.cax64_plain.specs.NamedReading.{imm_named, index_named, number_named, part_in, part_named, rest_in, view_named};
 ghost use Rattle.cax64_plain.specs.Reading.{part_of, plain_reading, view_kind, view_number};
 ghost use Rattle.x64_core_reader.specs.Reading.{line_reading};
+ghost use Rattle.x64_core_reader.specs.declared.reading.CoreReading.{CoreReading};
 
 use cax64_machine_code::reading::{Place, RegView};
+use x64_core::Op;
 use x64_core_reader::CoreReading;
 
 /// An operand that was read: nothing.
@@ -59,11 +62,13 @@ pub struct HqReading {
     /// 1 where there is an immediate.
     pub has_imm: u8,
     /// 0.
-    pub reserved: [u8; 5],
+    pub reserved: u8,
+    /// 0.
+    pub reserved_word: u32,
 }
 
 /// The place in integers.
-#[derive(Clone, Copy)]
+#[derive(Clone, Copy, PartialEq)]
 pub struct PlacePart {
     pub kind: u8,
     pub has_base: u8,
@@ -72,6 +77,22 @@ pub struct PlacePart {
     pub index: u8,
     pub factor: u8,
     pub disp: i32,
+}
+
+/// All but the place.
+#[derive(Clone, Copy, PartialEq)]
+pub struct RestPart {
+    pub imm: i64,
+    pub line: u16,
+    pub length: u8,
+    pub tail: u8,
+    pub reg_kind: u8,
+    pub reg: u8,
+    pub has_vvvv: u8,
+    pub vvvv: u8,
+    pub has_imm: u8,
+    pub reserved: u8,
+    pub reserved_word: u32,
 }
 
 fn view_kind(view: RegView) -> u8
@@ -90,6 +111,58 @@ fn view_number(view: RegView) -> u8
         RegView::Low(number) => number,
         RegView::High(number) => number,
     }
+}
+
+/// Whether the places are the same.
+fn same_part(one: &PlacePart, other: &PlacePart) -> bool
+    ensures same { IsTrue result → one.now ≡ other.now }
+    ensures all { one.now ≡ other.now → IsTrue result }
+{
+    one == other
+}
+
+/// Whether all but the place is the same.
+fn same_rest(one: &RestPart, other: &RestPart) -> bool
+    ensures same { IsTrue result → one.now ≡ other.now }
+    ensures all { one.now ≡ other.now → IsTrue result }
+{
+    one == other
+}
+
+/// The register of a kind and a number, where there is one.
+fn view_named(kind: u8, number: u8) -> Option<RegView>
+    ensures { result ≡ view_named kind number }
+{
+    match kind {
+        HQ_READ_REGISTER => Some(RegView::Low(number)),
+        HQ_READ_HIGH_BYTE => Some(RegView::High(number)),
+        _ => None,
+    }
+}
+
+/// A number, where there is one.
+fn number_named(stands: u8, number: u8) -> Option<u8>
+    ensures { result ≡ number_named stands number }
+{
+    if stands == 1 { Some(number) } else { None }
+}
+
+/// An index and its factor, where there are.
+fn index_named(stands: u8, index: u8, factor: u8) -> Option<(u8, u8)>
+    ensures { result ≡ index_named stands index factor }
+{
+    if stands == 1 {
+        Some((index, factor))
+    } else {
+        None
+    }
+}
+
+/// An immediate, where there is one.
+fn imm_named(stands: u8, imm: i64) -> Option<i64>
+    ensures { result ≡ imm_named stands imm }
+{
+    if stands == 1 { Some(imm) } else { None }
 }
 
 impl PlacePart {
@@ -135,7 +208,101 @@ impl PlacePart {
     }
 }
 
+impl PlacePart {
+    /// The place that these integers name, if any does. Of what it lacks nothing is tested.
+    fn named(&self) -> Option<Place>
+        ensures { result ≡ part_named self.now }
+    {
+        match self.kind {
+            HQ_READ_MEMORY => Some(Place::Mem {
+                base: number_named(self.has_base, self.base),
+                index: index_named(self.has_index, self.index, self.factor),
+                disp: self.disp,
+            }),
+            HQ_READ_RELATIVE => Some(Place::Rip(self.disp)),
+            _ => match view_named(self.kind, self.base) {
+                Some(view) => Some(Place::Reg(view)),
+                None => None,
+            },
+        }
+    }
+}
+
 impl HqReading {
+    /// What it has of a place.
+    fn part(&self) -> PlacePart
+        ensures { result ≡ part_in self.now }
+    {
+        PlacePart {
+            kind: self.place_kind,
+            has_base: self.has_base,
+            base: self.base,
+            has_index: self.has_index,
+            index: self.index,
+            factor: self.factor,
+            disp: self.disp,
+        }
+    }
+
+    /// What it has beside a place.
+    fn rest(&self) -> RestPart
+        ensures { result ≡ rest_in self.now }
+    {
+        RestPart {
+            imm: self.imm,
+            line: self.line,
+            length: self.length,
+            tail: self.tail,
+            reg_kind: self.reg_kind,
+            reg: self.reg,
+            has_vvvv: self.has_vvvv,
+            vvvv: self.vvvv,
+            has_imm: self.has_imm,
+            reserved: self.reserved,
+            reserved_word: self.reserved_word,
+        }
+    }
+
+    /// Whether these are the same integers.
+    fn is_same(&self, other: &HqReading) -> bool
+        ensures same { IsTrue result → self.now ≡ other.now }
+        ensures all { self.now ≡ other.now → IsTrue result }
+    {
+        same_part(&self.part(), &other.part()) && same_rest(&self.rest(), &other.rest())
+    }
+
+    /// The reading that these integers would be, of which what it lacks isn't tested.
+    fn named(&self) -> Option<CoreReading>
+        ensures none { IfNone result ((r : CoreReading) → plain_reading r.op.number (line_reading r) ≢ self.now) }
+        ensures some { IfSome result (λ d. (r : CoreReading) → plain_reading r.op.number (line_reading r) ≡ self.now → d ≡ r) }
+    {
+        let op = Op::from_number(self.line)?;
+        Some(CoreReading {
+            op,
+            length: self.length,
+            tail: self.tail,
+            reg: view_named(self.reg_kind, self.reg),
+            vvvv: number_named(self.has_vvvv, self.vvvv),
+            place: self.part().named(),
+            imm: imm_named(self.has_imm, self.imm),
+        })
+    }
+
+    /// The reading whose integers these are. `None` where they are those of none: where the line is none of the core, or
+    /// something that the reading lacks isn't 0.
+    pub fn reading(&self) -> Option<CoreReading>
+        ensures is { IfSome result (λ r. plain_reading r.op.number (line_reading r) ≡ self.now) }
+        ensures none { IfNone result ((r : CoreReading) → plain_reading r.op.number (line_reading r) ≢ self.now) }
+        ensures alone { IfSome result (λ d. (r : CoreReading) → plain_reading r.op.number (line_reading r) ≡ self.now → d ≡ r) }
+    {
+        let reading = self.named()?;
+        if HqReading::of(&reading).is_same(self) {
+            Some(reading)
+        } else {
+            None
+        }
+    }
+
     /// What was read, in integers.
     pub fn of(reading: &CoreReading) -> HqReading
         ensures { result ≡ plain_reading reading.now.op.number (line_reading reading.now) }
@@ -162,7 +329,8 @@ impl HqReading {
             index: place.index,
             factor: place.factor,
             has_imm: u8::from(reading.imm.is_some()),
-            reserved: [0; 5],
+            reserved: 0,
+            reserved_word: 0,
         }
     }
 }

@@ -31,6 +31,12 @@ pub const HQ_FULL: i32 = 6;
 /// What was read is none of an instruction that can be made.
 pub const HQ_NO_INST: i32 = 7;
 
+/// The integers are no reading.
+pub const HQ_BAD_READING: i32 = 8;
+
+/// The sum isn't of 32 bits.
+pub const HQ_OUT_OF_RANGE: i32 = 9;
+
 /// A register isn't below 16. The detail is its place in the order reg, vvvv, base, index, from 0.
 pub const HQ_FAULT_REGISTER: i32 = 16;
 
