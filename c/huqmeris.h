@@ -33,6 +33,10 @@ extern "C" {
 #define HQ_FULL 6
 /* What was read is none of an instruction that can be made. */
 #define HQ_NO_INST 7
+/* The integers are no reading. */
+#define HQ_BAD_READING 8
+/* The sum isn't of 32 bits. */
+#define HQ_OUT_OF_RANGE 9
 /* A register isn't below 16. The detail is its place in the order reg, vvvv, base, index, from 0. */
 #define HQ_FAULT_REGISTER 16
 /* The index is the stack pointer. The detail is its place, as above. */
@@ -792,7 +796,9 @@ typedef struct hq_reading {
     /* 1 where there is an immediate. */
     uint8_t has_imm;
     /* 0. */
-    uint8_t reserved[5];
+    uint8_t reserved;
+    /* 0. */
+    uint32_t reserved_word;
 } hq_reading;
 #if !defined(__cplusplus) && __STDC_VERSION__ >= 201112L
 _Static_assert(sizeof(hq_reading) == 32, "hq_reading");
@@ -813,6 +819,7 @@ _Static_assert(offsetof(hq_reading, index) == 24, "hq_reading.index");
 _Static_assert(offsetof(hq_reading, factor) == 25, "hq_reading.factor");
 _Static_assert(offsetof(hq_reading, has_imm) == 26, "hq_reading.has_imm");
 _Static_assert(offsetof(hq_reading, reserved) == 27, "hq_reading.reserved");
+_Static_assert(offsetof(hq_reading, reserved_word) == 28, "hq_reading.reserved_word");
 #endif
 
 /* What is told beside the bytes of an instruction: the code of its trap, or what a relative place refers to. */
@@ -849,6 +856,15 @@ int32_t hq_decode(const uint8_t *bytes, size_t bytes_len, hq_reading *HQ_RESTRIC
  */
 int32_t hq_encode(const hq_inst *inst, uint8_t *HQ_RESTRICT code, size_t code_len, uint32_t *HQ_RESTRICT len, hq_use *HQ_RESTRICT told);
 
+/*
+ * The instruction that is read as this, where the reading has an operand for each that its line takes and no other, and an
+ * immediate in its range. It has no trap code and no late offset, and can be encoded.
+ *
+ * `HQ_NO_INST` where there is none, as of a high byte, of a place relative to the end and of memory without a base;
+ * `HQ_BAD_READING` where the integers are no reading. The length isn't looked at.
+ */
+int32_t hq_inst_of_reading(const hq_reading *reading, hq_inst *HQ_RESTRICT out);
+
 /* The number of bytes that `hq_encode` writes, 1 to 13. */
 int32_t hq_length(const hq_inst *inst, uint32_t *HQ_RESTRICT len);
 
@@ -863,6 +879,12 @@ int32_t hq_length(const hq_inst *inst, uint32_t *HQ_RESTRICT len);
  */
 int32_t hq_make(uint16_t line, uint16_t reg, uint16_t vvvv, const hq_place *place, int64_t imm, hq_inst *HQ_RESTRICT out);
 
+/*
+ * What a relative field is to hold: what is stored in it, and the distance from the field's end to the target. `place` is the
+ * place of the field's first byte. `HQ_OUT_OF_RANGE` where that isn't of 32 bits.
+ */
+int32_t hq_patched(uint64_t place, uint64_t target, int32_t stored, int32_t *HQ_RESTRICT field);
+
 /* Puts others in the place of all registers of an instruction, each by its number in this table. All else stays. */
 int32_t hq_rename(hq_inst *HQ_RESTRICT inst, const uint8_t homes[256]);
 
@@ -874,12 +896,53 @@ static inline int32_t hq_code(int32_t status) { return status & 0xff; }
 static inline int32_t hq_detail(int32_t status) { return status >> 8; }
 
 /* Places: nothing, a register, memory at a base, at a base and an index times 1 << scale, at a label, at a constant. */
-static inline hq_place hq_nothing(void) { hq_place p = {0}; return p; }
-static inline hq_place hq_reg(uint8_t reg) { hq_place p = {0}; p.place = HQ_PLACE_REGISTER; p.base = reg; return p; }
-static inline hq_place hq_mem(uint8_t base, int32_t disp) { hq_place p = {0}; p.place = HQ_PLACE_BASE; p.base = base; p.disp = disp; return p; }
-static inline hq_place hq_index(uint8_t base, uint8_t index, uint8_t scale, int32_t disp) { hq_place p = {0}; p.place = HQ_PLACE_INDEX; p.base = base; p.index = index; p.scale = scale; p.disp = disp; return p; }
-static inline hq_place hq_label(uint32_t label) { hq_place p = {0}; p.place = HQ_PLACE_LABEL; p.target = label; return p; }
-static inline hq_place hq_constant(uint32_t constant) { hq_place p = {0}; p.place = HQ_PLACE_CONSTANT; p.target = constant; return p; }
+static inline hq_place hq_nothing(void)
+{
+    hq_place p = {0, 0, 0, 0, 0, 0, 0, 0, 0, 0};
+    return p;
+}
+
+static inline hq_place hq_reg(uint8_t reg)
+{
+    hq_place p = hq_nothing();
+    p.place = HQ_PLACE_REGISTER;
+    p.base = reg;
+    return p;
+}
+
+static inline hq_place hq_mem(uint8_t base, int32_t disp)
+{
+    hq_place p = hq_nothing();
+    p.place = HQ_PLACE_BASE;
+    p.base = base;
+    p.disp = disp;
+    return p;
+}
+
+static inline hq_place hq_index(uint8_t base, uint8_t index, uint8_t scale, int32_t disp)
+{
+    hq_place p = hq_mem(base, disp);
+    p.place = HQ_PLACE_INDEX;
+    p.index = index;
+    p.scale = scale;
+    return p;
+}
+
+static inline hq_place hq_label(uint32_t label)
+{
+    hq_place p = hq_nothing();
+    p.place = HQ_PLACE_LABEL;
+    p.target = label;
+    return p;
+}
+
+static inline hq_place hq_constant(uint32_t constant)
+{
+    hq_place p = hq_nothing();
+    p.place = HQ_PLACE_CONSTANT;
+    p.target = constant;
+    return p;
+}
 
 #ifdef __cplusplus
 }

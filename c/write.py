@@ -223,12 +223,53 @@ static inline int32_t hq_code(int32_t status) { return status & 0xff; }
 static inline int32_t hq_detail(int32_t status) { return status >> 8; }
 
 /* Places: nothing, a register, memory at a base, at a base and an index times 1 << scale, at a label, at a constant. */
-static inline hq_place hq_nothing(void) { hq_place p = {0}; return p; }
-static inline hq_place hq_reg(uint8_t reg) { hq_place p = {0}; p.place = HQ_PLACE_REGISTER; p.base = reg; return p; }
-static inline hq_place hq_mem(uint8_t base, int32_t disp) { hq_place p = {0}; p.place = HQ_PLACE_BASE; p.base = base; p.disp = disp; return p; }
-static inline hq_place hq_index(uint8_t base, uint8_t index, uint8_t scale, int32_t disp) { hq_place p = {0}; p.place = HQ_PLACE_INDEX; p.base = base; p.index = index; p.scale = scale; p.disp = disp; return p; }
-static inline hq_place hq_label(uint32_t label) { hq_place p = {0}; p.place = HQ_PLACE_LABEL; p.target = label; return p; }
-static inline hq_place hq_constant(uint32_t constant) { hq_place p = {0}; p.place = HQ_PLACE_CONSTANT; p.target = constant; return p; }
+static inline hq_place hq_nothing(void)
+{
+    hq_place p = {0, 0, 0, 0, 0, 0, 0, 0, 0, 0};
+    return p;
+}
+
+static inline hq_place hq_reg(uint8_t reg)
+{
+    hq_place p = hq_nothing();
+    p.place = HQ_PLACE_REGISTER;
+    p.base = reg;
+    return p;
+}
+
+static inline hq_place hq_mem(uint8_t base, int32_t disp)
+{
+    hq_place p = hq_nothing();
+    p.place = HQ_PLACE_BASE;
+    p.base = base;
+    p.disp = disp;
+    return p;
+}
+
+static inline hq_place hq_index(uint8_t base, uint8_t index, uint8_t scale, int32_t disp)
+{
+    hq_place p = hq_mem(base, disp);
+    p.place = HQ_PLACE_INDEX;
+    p.index = index;
+    p.scale = scale;
+    return p;
+}
+
+static inline hq_place hq_label(uint32_t label)
+{
+    hq_place p = hq_nothing();
+    p.place = HQ_PLACE_LABEL;
+    p.target = label;
+    return p;
+}
+
+static inline hq_place hq_constant(uint32_t constant)
+{
+    hq_place p = hq_nothing();
+    p.place = HQ_PLACE_CONSTANT;
+    p.target = constant;
+    return p;
+}
 """
 
 

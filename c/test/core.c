@@ -68,14 +68,21 @@ static const char *encoded(const hq_inst *inst, const uint8_t *want, size_t size
     return hq_length(inst, &len) == HQ_OK && len == size ? NULL : "the length is another";
 }
 
-static const char *decoded(const uint8_t *want, size_t size, long line)
+static const char *decoded(const uint8_t *want, size_t size, long line, const hq_inst *inst)
 {
+    hq_inst again;
     hq_reading r;
     for (size_t n = 0; n < size; n++)
         if (hq_decode(memcpy(before(n), want, n), n, &r) != HQ_NONE)
             return "a front is read";
     if (hq_decode(memcpy(before(size), want, size), size, &r) != HQ_OK || r.line != line || r.length != size)
         return "it's read otherwise";
+    memset(&again, 0xA5, sizeof again);
+    if (hq_inst_of_reading(&r, &again) != HQ_OK || memcmp(&again, inst, sizeof again))
+        return "what is read is another instruction";
+    r.reserved_word = 1;
+    if (hq_inst_of_reading(&r, &again) != HQ_BAD_READING || memcmp(&again, inst, sizeof again))
+        return "what is no reading isn't refused";
     return NULL;
 }
 
@@ -95,7 +102,7 @@ static const char *outcome(char **column)
         return "it can't be made";
     const char *why = encoded(&inst, want, size);
     if (!why)
-        why = decoded(want, size, line);
+        why = decoded(want, size, line, &inst);
     if (why)
         return why;
     for (int i = 0; i < 256; i++)
@@ -110,6 +117,26 @@ static const char *outcome(char **column)
     return NULL;
 }
 
+/* A field 4 bytes long at 10 that is to lead to 100, and one that can't reach. */
+static int is_patched(void)
+{
+    int32_t field = 7;
+    return hq_patched(10, 1ull << 33, 0, &field) == HQ_OUT_OF_RANGE && field == 7 && hq_patched(10, 100, -1, &field) == HQ_OK && field == 85;
+}
+
+/* A label is told where its four bytes stand, and a null slice of no bytes is read as nothing. */
+static int tells(void)
+{
+    hq_place place = hq_label(9);
+    hq_inst inst;
+    hq_use told;
+    hq_reading r;
+    uint32_t len;
+    uint8_t *code = before(7);
+    return hq_make(HQ_LINE_LEAQ_RM, 0, HQ_NO_REG, &place, HQ_NO_IMM, &inst) == HQ_OK && hq_encode(&inst, code, 7, &len, &told) == HQ_OK
+        && len == 7 && told.at == 3 && told.kind == HQ_TOLD_LABEL && told.number == 9 && hq_decode(NULL, 0, &r) == HQ_NONE;
+}
+
 int main(int argc, char **argv)
 {
     FILE *file = argc == 2 ? fopen(argv[1], "r") : NULL;
@@ -120,6 +147,8 @@ int main(int argc, char **argv)
     if (!file || at == MAP_FAILED || mprotect(at + page, (size_t)page, PROT_NONE) || hq_version() != HQ_VERSION)
         return 2;
     guard = at + page;
+    if (!is_patched() || !tells())
+        return 3;
     while (fgets(text, sizeof text, file)) {
         char *column[7] = {0}, *rest = text;
         number++;

@@ -20,6 +20,10 @@ pub const HQ_NONE: i32 = 5;
 pub const HQ_FULL: i32 = 6;
 /// What was read is none of an instruction that can be made.
 pub const HQ_NO_INST: i32 = 7;
+/// The integers are no reading.
+pub const HQ_BAD_READING: i32 = 8;
+/// The sum isn't of 32 bits.
+pub const HQ_OUT_OF_RANGE: i32 = 9;
 /// A register isn't below 16. The detail is its place in the order reg, vvvv, base, index, from 0.
 pub const HQ_FAULT_REGISTER: i32 = 16;
 /// The index is the stack pointer. The detail is its place, as above.
@@ -757,7 +761,9 @@ pub struct hq_reading {
     /// 1 where there is an immediate.
     pub has_imm: u8,
     /// 0.
-    pub reserved: [u8; 5],
+    pub reserved: u8,
+    /// 0.
+    pub reserved_word: u32,
 }
 
 const _: () = assert!(size_of::<hq_reading>() == 32 && align_of::<hq_reading>() == 8);
@@ -787,6 +793,12 @@ unsafe extern "C" {
     /// Encodes an instruction into the front of some bytes, and says how many it has, 1 to 13, and what it tells beside them.
     /// `HQ_FULL` where they are too few. No late offset is known.
     pub unsafe fn hq_encode(inst: *const hq_inst, code: *mut u8, code_len: usize, len: *mut u32, told: *mut hq_use) -> i32;
+    /// The instruction that is read as this, where the reading has an operand for each that its line takes and no other, and an
+    /// immediate in its range. It has no trap code and no late offset, and can be encoded.
+    ///
+    /// `HQ_NO_INST` where there is none, as of a high byte, of a place relative to the end and of memory without a base;
+    /// `HQ_BAD_READING` where the integers are no reading. The length isn't looked at.
+    pub unsafe fn hq_inst_of_reading(reading: *const hq_reading, out: *mut hq_inst) -> i32;
     /// The number of bytes that `hq_encode` writes, 1 to 13.
     pub unsafe fn hq_length(inst: *const hq_inst, len: *mut u32) -> i32;
     /// Makes the instruction of a line with these operands, where they are those that it takes: a register in reg and in vvvv
@@ -797,6 +809,9 @@ unsafe extern "C" {
     /// `HQ_BAD_LINE` where no line has the number, `HQ_BAD_PLACE` where the place is none, `HQ_BAD_OPERANDS` where the line takes
     /// others.
     pub unsafe fn hq_make(line: u16, reg: u16, vvvv: u16, place: *const hq_place, imm: i64, out: *mut hq_inst) -> i32;
+    /// What a relative field is to hold: what is stored in it, and the distance from the field's end to the target. `place` is the
+    /// place of the field's first byte. `HQ_OUT_OF_RANGE` where that isn't of 32 bits.
+    pub unsafe fn hq_patched(place: u64, target: u64, stored: i32, field: *mut i32) -> i32;
     /// Puts others in the place of all registers of an instruction, each by its number in this table. All else stays.
     pub unsafe fn hq_rename(inst: *mut hq_inst, homes: *const [u8; 256]) -> i32;
     /// The version of the header that fits this library.

@@ -2,3 +2,4 @@
 pub mod Given
 pub mod Encodes
 pub mod Outcome
+pub mod OfReading

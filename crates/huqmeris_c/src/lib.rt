@@ -4,8 +4,10 @@
 //! before.
 #![tactic(auto)]
 
+mod convert;
 mod decode;
 mod encode;
 mod make;
+mod patch;
 mod rename;
 mod version;
