@@ -851,6 +851,12 @@ int32_t hq_check(const hq_inst *inst);
 int32_t hq_decode(const uint8_t *bytes, size_t bytes_len, hq_reading *HQ_RESTRICT out);
 
 /*
+ * Reads instructions one behind the other from the front of some bytes, into as many places as there are or until no line of the
+ * core reads what stands there, and says how many were read and how many bytes they have. The other places are as before.
+ */
+int32_t hq_decode_all(const uint8_t *bytes, size_t bytes_len, hq_reading *HQ_RESTRICT out, size_t out_len, size_t *HQ_RESTRICT count, size_t *HQ_RESTRICT end);
+
+/*
  * Encodes an instruction into the front of some bytes, and says how many it has, 1 to 13, and what it tells beside them.
  * `HQ_FULL` where they are too few. No late offset is known.
  */

@@ -86,6 +86,10 @@ static const char *decoded(const uint8_t *want, size_t size, long line, const hq
     return NULL;
 }
 
+/* All bytes one behind the other, and how many instructions they are. */
+static uint8_t all[16 * 9000];
+static size_t all_len, all_count;
+
 static const char *outcome(char **column)
 {
     uint8_t want[16];
@@ -94,6 +98,11 @@ static const char *outcome(char **column)
     uint8_t homes[256];
     long line = atol(column[0]);
     size_t size = bytes_of(column[5], want);
+    if (all_len + size <= sizeof all && all_count < 9000) {
+        memcpy(all + all_len, want, size);
+        all_len += size;
+        all_count++;
+    }
     uint16_t reg = column[2][0] == '-' ? HQ_NO_REG : (uint16_t)atoi(column[2]);
     int64_t imm = column[4][0] == '-' && !column[4][1] ? HQ_NO_IMM : atoll(column[4]);
     if (!place_of(column[3], &place))
@@ -137,6 +146,26 @@ static int tells(void)
         && len == 7 && told.at == 3 && told.kind == HQ_TOLD_LABEL && told.number == 9 && hq_decode(NULL, 0, &r) == HQ_NONE;
 }
 
+/* All of them are read in one call, and the places behind them are as before; with one place too few the last one isn't. */
+static int are_read(void)
+{
+    static hq_reading readings[9001];
+    hq_reading blank, one;
+    size_t count = 0, end = 0, at = 0;
+    memset(&blank, 0xA5, sizeof blank);
+    readings[all_count] = blank;
+    if (hq_decode_all(all, all_len, readings, all_count + 1, &count, &end) != HQ_OK || count != all_count || end != all_len)
+        return 0;
+    for (size_t i = 0; i < count; at += readings[i++].length)
+        if (hq_decode(all + at, all_len - at, &one) != HQ_OK || memcmp(&one, &readings[i], sizeof one))
+            return 0;
+    if (at != end || memcmp(&readings[count], &blank, sizeof blank))
+        return 0;
+    readings[all_count - 1] = blank;
+    return hq_decode_all(all, all_len, readings, all_count - 1, &count, &end) == HQ_OK && count == all_count - 1 && end < all_len
+        && !memcmp(&readings[count], &blank, sizeof blank) && hq_decode_all(NULL, 0, NULL, 0, &count, &end) == HQ_OK && !count && !end;
+}
+
 int main(int argc, char **argv)
 {
     FILE *file = argc == 2 ? fopen(argv[1], "r") : NULL;
@@ -161,6 +190,10 @@ int main(int argc, char **argv)
         equal += !why;
         if (why)
             printf("line %u, %s: %s\n", number, column[1], why);
+    }
+    if (lines && !are_read()) {
+        printf("they aren't read one behind the other\n");
+        return 1;
     }
     printf("core through C: %u lines, %u as wanted\n", lines, equal);
     return !(lines && lines == equal);

@@ -790,6 +790,9 @@ unsafe extern "C" {
     /// Reads the instruction at the front of some bytes, of which all lines of the core are known; what follows it is not read.
     /// `HQ_NONE` where no line reads what stands there.
     pub unsafe fn hq_decode(bytes: *const u8, bytes_len: usize, out: *mut hq_reading) -> i32;
+    /// Reads instructions one behind the other from the front of some bytes, into as many places as there are or until no line of the
+    /// core reads what stands there, and says how many were read and how many bytes they have. The other places are as before.
+    pub unsafe fn hq_decode_all(bytes: *const u8, bytes_len: usize, out: *mut hq_reading, out_len: usize, count: *mut usize, end: *mut usize) -> i32;
     /// Encodes an instruction into the front of some bytes, and says how many it has, 1 to 13, and what it tells beside them.
     /// `HQ_FULL` where they are too few. No late offset is known.
     pub unsafe fn hq_encode(inst: *const hq_inst, code: *mut u8, code_len: usize, len: *mut u32, told: *mut hq_use) -> i32;

@@ -3,3 +3,4 @@ pub mod Given
 pub mod Encodes
 pub mod Outcome
 pub mod OfReading
+pub mod InTurn

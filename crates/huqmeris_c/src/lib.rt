@@ -6,6 +6,7 @@
 
 mod convert;
 mod decode;
+mod decode_all;
 mod encode;
 mod make;
 mod patch;
