@@ -1,0 +1,7 @@
+//! Lists the instructions of some bytes.
+
+fn main() {
+    for r in huqmeris::Readings(&[0xF0, 0x45, 0x01, 0x4C, 0x24, 0x80, 0x24, 0xAA, 0x48, 0x03, 0x04, 0xCF]) {
+        println!("line {} of {} bytes", r.line, r.length);
+    }
+}

@@ -1,0 +1,77 @@
+use Rattle.std.proofs.Common.{◌≡◌, ◌∙◌, ◌+◌, ◌-◌, ◌<◌, ◌≤◌, ℕ, refl, sym, ap, subst, arith, Option, Some, None, List, [], ◌∷◌, ◌++◌, drop, take, length, set, add-one}
+use Rattle.std.proofs.lemmas.List.{drop-drop, drop-set-lt, length-drop}
+use Rattle.std.proofs.Math.Seq.{take-length, take-suc-set}
+use Rattle.std.specs.Prelude.{option_map}
+use Rattle.cax64_machine_code.specs.Reading.{FoundOf}
+use Rattle.cax64_machine_code.specs.ReadLine.{LineReading, find_line, line_reading_of, read_line, read_of}
+use Rattle.cax64_machine_code.specs.declared.line.Line.{Line}
+use Rattle.cax64_plain.specs.Reading.{IsReading, plain_reading}
+use Rattle.cax64_plain.specs.declared.reading.HqReading.{HqReading}
+use Rattle.huqmeris_c.specs.InTurn.{InTurn, IsRead}
+use Rattle.x64_core.specs.Lines.{core_lines}
+use Rattle.x64_core_reader.specs.Reading.{line_reading}
+use Rattle.x64_core_reader.specs.declared.reading.CoreReading.{CoreReading}
+
+-- Instructions read one behind the other.
+
+one_more : (plains : List HqReading) (bytes rest : List ℕ) (plain : HqReading) → InTurn bytes plains rest → IsRead rest plain → InTurn bytes (plains ++ plain ∷ []) (drop plain.length rest)
+unfolding InTurn
+one_more [] bytes rest plain h r = (subst (λ (b : List ℕ). IsRead b plain) (sym h) r, ap (λ (b : List ℕ). drop plain.length b) h)
+one_more (first ∷ plains) bytes rest plain h r = (h.0, one_more plains (drop first.length bytes) rest plain h.1 r)
+
+pub none_yet : (bytes : List ℕ) → InTurn bytes [] (drop 0 bytes)
+unfolding InTurn
+none_yet bytes = refl
+
+-- a reading has no more bytes than there are
+
+abbrev length_in : Option LineReading → ℕ
+length_in None = 0
+length_in (Some r) = r.length
+
+found_within : (bytes : List ℕ) (o : Option (FoundOf Line)) → length_in (option_map (line_reading_of bytes) o) ≤ length bytes
+found_within bytes None = omega arith
+found_within bytes (Some found) = omega arith
+
+within : (line : Line) (bytes : List ℕ) (reading : LineReading) → read_line line bytes ≡ Some reading → reading.length ≤ length bytes
+unfolding read_line
+within line bytes reading h = subst (λ (o : Option LineReading). length_in o ≤ length bytes) h (found_within bytes (find_line line bytes))
+
+pub is_read : (bytes : List ℕ) (r : CoreReading) (plain : HqReading) → ◌≡◌ {A = Option LineReading} (Some (line_reading r)) (read_of core_lines bytes) → plain ≡ plain_reading r.op.number (line_reading r) → IsRead bytes plain
+is_read bytes r plain h e = record {
+  reading = line_reading r;
+  is = sym h;
+  plain_is = subst (λ (p : HqReading). IsReading (line_reading r) p) (sym e) (record { line = refl; is = refl });
+}
+
+-- all that stands behind so many bytes
+rest_is : (at : ℕ) (bytes : List ℕ) → take (length bytes - at) (drop at bytes) ≡ drop at bytes
+rest_is at bytes = ap (λ (n : ℕ). take n (drop at bytes)) (sym (length-drop at bytes)) ∙ take-length (drop at bytes)
+
+pub read_at : (at : ℕ) (bytes : List ℕ) (r : CoreReading) → ◌≡◌ {A = Option LineReading} (Some (line_reading r)) (read_of core_lines (take (length bytes - at) (drop at bytes))) → ◌≡◌ {A = Option LineReading} (Some (line_reading r)) (read_of core_lines (drop at bytes))
+read_at at bytes r h = subst (λ (b : List ℕ). ◌≡◌ {A = Option LineReading} (Some (line_reading r)) (read_of core_lines b)) (rest_is at bytes) h
+
+pub within_at : (line : Line) (at : ℕ) (bytes : List ℕ) (reading : LineReading) → read_line line (take (length bytes - at) (drop at bytes)) ≡ Some reading → reading.length ≤ length (drop at bytes)
+within_at line at bytes reading h = within line (drop at bytes) reading (subst (λ (b : List ℕ). read_line line b ≡ Some reading) (rest_is at bytes) h)
+
+-- what the loop has done
+pub record ReadSoFar (bytes : List ℕ) (first out : List HqReading) (at i : ℕ) : Type 0 where
+  pub turn : InTurn bytes (take i out) (drop at bytes)
+  pub others : drop i out ≡ drop i first
+  pub end : at ≤ length bytes
+
+further : (i : ℕ) (a b : List HqReading) → drop i a ≡ drop i b → drop (i + 1) a ≡ drop (i + 1) b
+further i a b h = sym (drop-drop 1 i a) ∙ ap (λ (l : List HqReading). drop 1 l) h ∙ drop-drop 1 i b
+
+taken : (i : ℕ) (out : List HqReading) (plain : HqReading) → i < length out → take (i + 1) (set out i plain) ≡ take i out ++ plain ∷ []
+taken i out plain h = rw add-one (take-suc-set out i plain h)
+
+pub next : (bytes : List ℕ) (first out : List HqReading) (at i n : ℕ) (plain : HqReading) → ReadSoFar bytes first out at i → i < length out → IsRead (drop at bytes) plain → n ≡ plain.length → n ≤ length (drop at bytes) → ReadSoFar bytes first (set out i plain) (at + n) (i + 1)
+next bytes first out at i n plain h k r e m = record {
+  turn = subst (λ (l : List HqReading). InTurn bytes l (drop (at + n) bytes)) (sym (taken i out plain k)) (subst (λ (b : List ℕ). InTurn bytes (take i out ++ plain ∷ []) b) rest (one_more (take i out) bytes (drop at bytes) plain h.turn r));
+  others = drop-set-lt (i + 1) out i plain (omega arith) ∙ further i out first h.others;
+  end = let d : length (drop at bytes) ≡ length bytes - at = length-drop at bytes in let w : at ≤ length bytes = h.end in omega (arith, d, m, w);
+}
+  where
+    rest : drop plain.length (drop at bytes) ≡ drop (at + n) bytes
+    rest = drop-drop plain.length at bytes ∙ ap (λ (x : ℕ). drop (at + x) bytes) (sym e)

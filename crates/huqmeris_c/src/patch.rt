@@ -1,0 +1,22 @@
+//! Relative fields.
+
+ghost use Rattle.std.specs.Prelude.{◌≡◌, MatchOption, pos};
+ghost use Rattle.x64_code_buffer.specs.Field.{patched};
+
+use cax64_plain::status::{HQ_OK, HQ_OUT_OF_RANGE};
+use x64_code_buffer::patched_field;
+
+/// What a relative field is to hold: what is stored in it, and the distance from the field's end to the target. `place` is the
+/// place of the field's first byte. `HQ_OUT_OF_RANGE` where that isn't of 32 bits.
+#[unsafe(no_mangle)]
+pub extern "C" fn hq_patched(place: u64, target: u64, stored: i32, field: &mut i32) -> i32
+    ensures { MatchOption (patched place target stored) ((result ≡ pos 9) × (field.new ≡ field.old)) (λ value. (result ≡ pos 0) × (field.new ≡ value)) }
+{
+    match patched_field(place, target, stored) {
+        None => HQ_OUT_OF_RANGE,
+        Some(value) => {
+            *field = value;
+            HQ_OK
+        }
+    }
+}

@@ -1,0 +1,14 @@
+//! The version of this interface.
+
+ghost use Rattle.std.specs.Prelude.{◌≡◌};
+
+/// The version of this interface.
+pub const HQ_VERSION: u32 = 1;
+
+/// The version of the header that fits this library.
+#[unsafe(no_mangle)]
+pub extern "C" fn hq_version() -> u32
+    ensures { result ≡ 1 }
+{
+    HQ_VERSION
+}
