@@ -1,4 +1,4 @@
-//! Addresses made step by step: what is left out of an address is absent.
+//! Addresses made step by step, where what is left out is absent, and operands that are registers.
 
 ghost use Rattle.std.specs.Prelude.{◌≡◌, None, Some, pos};
 
@@ -137,6 +137,24 @@ impl<R: AsReg> IndexAddress<R> {
             simm32: self.simm32,
             trap: Some(code),
         }
+    }
+}
+
+impl<R: AsReg, M: AsReg> GprMem<R, M> {
+    /// A register, which may still be virtual.
+    pub fn reg(reg: R) -> GprMem<R, M>
+        ensures { result ≡ GprMem.Gpr reg }
+    {
+        GprMem::Gpr(reg)
+    }
+}
+
+impl<R: AsReg, M: AsReg> XmmMem<R, M> {
+    /// A register, which may still be virtual.
+    pub fn reg(reg: R) -> XmmMem<R, M>
+        ensures { result ≡ XmmMem.Xmm reg }
+    {
+        XmmMem::Xmm(reg)
     }
 }
 
