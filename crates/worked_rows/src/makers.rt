@@ -126,7 +126,7 @@ fn an_entry_is_made_with_no_test(rt: HostRuntime) {
 #[test]
 fn an_operand_is_a_register(rt: HostRuntime) {
     let general: GprMem<Virtual, Virtual> = GprMem::reg(Virtual(40));
-    assert!(rt; general == GprMem::Gpr(Virtual(40)) && !general.is_memory());
+    assert!(rt; matches!(general, GprMem::Gpr(Virtual(40))) && !general.is_memory());
     let vector: XmmMem<u8, u8> = XmmMem::reg(9);
-    assert!(rt; vector == XmmMem::Xmm(9) && !vector.is_memory());
+    assert!(rt; matches!(vector, XmmMem::Xmm(9)) && !vector.is_memory());
 }
