@@ -11,4 +11,6 @@ mod encode;
 mod make;
 mod patch;
 mod rename;
+#[cfg(test)]
+mod rows;
 mod version;
