@@ -87,6 +87,9 @@ checked_is n (Place (place.TheVariants.Register number) ∷ later) = ap (with_ch
 checked_is n (Place (place.TheVariants.Memory amode) ∷ later) = ap (with_checked n (Place (place.TheVariants.Memory amode))) (checked_is n later) ∙ ap (met_with (offset_of amode)) (met_before n (Place (place.TheVariants.Memory amode)) (Place (place.TheVariants.Memory amode)) later _ _ refl (amode_same n amode) refl)
 checked_is n (Immediate imm ∷ later) = checked_is n later
 
+pub met_is : {M : Type 0} (n : Numbering M) (roles : List (Role M)) → (checked_roles n roles).met ≡ all_met (visits_of n roles)
+met_is n roles = ap (λ (checked : Checked). checked.met) (checked_is n roles)
+
 -- what is checked of operands one by one
 pub checked_fold : {R A B C D E F : Type 0} (f : Family A B C D E F) (o : Operands R A B C D E F) → fold none_checked (with_checked_operand f) (λ _. none_checked) o ≡ checked_of f (list_of o)
 checked_fold f operands.Zero = refl

@@ -3,6 +3,7 @@ use Rattle.std.specs.Prelude.{if◌then◌else◌, OnOk, OnErr, IfErr, IsOk}
 use Rattle.cax64_machine_code.specs.Sequence.{IsFront}
 use Rattle.cax64_machine_code.specs.declared.reading.Reading.{Reading}
 use Rattle.cax64_sink.specs.FixedSink.{fixed_sink_state}
+use Rattle.cax64_sink.specs.Keeps.{Keeps}
 use Rattle.cax64_sink.specs.Room.{HasRoom, FallsBy}
 use Rattle.cax64_sink.specs.Sink.{State}
 use Rattle.cax64_sink.specs.Run.{Ran, all_bytes, all_notices, byte_total, notice_total}
@@ -13,13 +14,14 @@ use Rattle.cax64_sink.specs.declared.Notice.{Notice}
 use Rattle.cax64_sink.proofs.Runs.{ran_bytes, ran_notices, ran_error}
 use Rattle.cax64_sink.proofs.Refusals.{ran_refusal}
 use Rattle.cax64_sink.proofs.Rooms.{less_room, ran_succeeds, ran_byte_room, ran_notice_room, size_is_length, notes_is_length, bytes_fit}
-use Rattle.cax64_sink.proofs.Ends.{refused_bytes, refused_notices}
+use Rattle.cax64_sink.proofs.Ends.{ran_keeps, refused_bytes, refused_notices}
 use Rattle.cax64_address.specs.declared.amode.Amode.{Amode}
 use Rattle.cax64_address.specs.declared.amode.Amode.TheVariants.{ImmReg, ImmRegRegShift, RipRelative}
 use Rattle.cax64_encoder.specs.Encodes.{EncodesAs}
 use Rattle.cax64_encoder.specs.Instruction.{AddsInstruction, LeavesInstruction}
 use Rattle.cax64_encoder.specs.Meant.{Meant, len}
 use Rattle.cax64_encoder.specs.Notices.{notices_of, memory_notices, notice_count}
+use Rattle.cax64_encoder.specs.Task.{Writes}
 
 pub told_same : (records : Bool) (old a b : List Notice) → a ≡ b → (if records then old ++ a else old) ≡ (if records then old ++ b else old)
 told_same records old a b e = rw e refl
@@ -120,6 +122,34 @@ run_bytes_fall {acts = acts} {s} h run k room = ran_byte_room run k (rw (bytes_a
 
 pub run_notices_fall : {M : Type 0} {m : Meant M} {acts : List Action} {s t : State} {r : Result (Unit {0}) SinkError} → EncodesAs m acts → Ran acts s t r → FallsBy s.notice_room t.notice_room (notice_count m)
 run_notices_fall {acts = acts} {s} h run k room = ran_notice_room run k (rw (notices_are h) room)
+
+-- all that a call says that puts an instruction
+pub record Put {M : Type 0} (m : Meant M) (s t : State) (r : Result (Unit {0}) SinkError) : Type 0 where
+  pub adds : OnOk r (AddsInstruction m s t)
+  pub leaves : OnErr r (LeavesInstruction m s t)
+  pub front : IsFront s.bytes t.bytes
+  pub error : IfErr r (λ e. s.answers e ≡ true)
+  pub keeps : Keeps s t
+  pub enough : HasRoom s.byte_room 13 → HasRoom s.notice_room 1 → IsOk r
+  pub room : HasRoom s.byte_room (len m) → HasRoom s.notice_room (notice_count m) → IsOk r
+  pub byte_room : FallsBy s.byte_room t.byte_room (len m)
+  pub notice_room : FallsBy s.notice_room t.notice_room (notice_count m)
+
+pub put_of : {M : Type 0} (m : Meant M) (s t : State) (r : Result (Unit {0}) SinkError) → Writes m s t r → Put m s t r
+put_of m s t r w =
+    let adds : OnOk r (AddsInstruction m s t) = run_adds r w.encodes w.ran in
+    let leaves : OnErr r (LeavesInstruction m s t) = run_leaves r w.encodes w.ran in
+    record {
+      adds = adds;
+      leaves = leaves;
+      front = stays_in_front m s t r adds leaves;
+      error = run_error r w.ran;
+      keeps = ran_keeps w.ran;
+      enough = run_enough w.encodes w.ran;
+      room = run_room w.encodes w.ran;
+      byte_room = run_bytes_fall w.encodes w.ran;
+      notice_room = run_notices_fall w.encodes w.ran;
+    }
 
 -- what a fixed sink took fitted in what was left
 pub taken_fits : {N : ℕ} (s t : FixedSink N) (added : List ℕ) (n : ℕ) → (fixed_sink_state t).bytes ≡ (fixed_sink_state s).bytes ++ added → length added ≡ n → n ≤ N - length (fixed_sink_state s).bytes

@@ -103,7 +103,7 @@ impl Checked {
 
     /// Puts one more operand before the others.
     #[inline(always)]
-    fn add<R: Registers>(&mut self, operand: &Operand<R>)
+    pub(crate) fn add<R: Registers>(&mut self, operand: &Operand<R>)
         ensures { self.new ≡ with_checked_operand ⟦<R as RegisterFamily>⟧.family operand.now self.old }
     {
         match operand {

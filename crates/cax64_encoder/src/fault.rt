@@ -233,6 +233,7 @@ pub fn first_fault<R: Registers, S: CodeSink>(operands: &Operands<R>, sink: &S) 
 
 /// The fault of an instruction that can't be encoded. Its operands are listed for it, which is seldom done, so it stays out
 /// of the code of those who ask.
+#[cold]
 #[inline(never)]
 pub(crate) fn listed_fault<I: RowAndOperands, S: CodeSink>(inst: &I, sink: &S) -> Option<Fault>
     ensures { let roles = roles_of ⟦<I::Family as RegisterFamily>⟧.family (list_of (I.operands_of inst.now)) in

@@ -20,6 +20,7 @@ use crate::content::Content;
 use crate::error::EncodeError;
 use crate::fault::{Fault, listed_fault};
 use crate::room::{Counting, Measuring, RoomNeeded};
+use crate::tested::{Outcome, Tested};
 use cax64_machine_code::row::Row;
 use cax64_operand::{HasOperands, ItsRow, RegisterFamily, RegisterVisitor, RowAndOperands};
 use cax64_register::Registers;
@@ -120,6 +121,7 @@ pub trait Instruction: HasOperands {
         ensures room { HasRoom (S.state sink.old).byte_room (len_in (S.state sink.old) (meant self.now)) → HasRoom (S.state sink.old).notice_room (notices_in (S.state sink.old) (meant self.now)) → NotRefused result }
         ensures byte_room { FallsBy (S.state sink.old).byte_room (S.state sink.new).byte_room (len_in (S.state sink.old) (meant self.now)) }
         ensures notice_room { FallsBy (S.state sink.old).notice_room (S.state sink.new).notice_room (notices_in (S.state sink.old) (meant self.now)) }
+        ensures relative { OnOk result (ReadsRelative (meant self.now (S.state sink.old).offsets)) }
     {
         if let Some(fault) = self.first_fault(&*sink) {
             return Err(EncodeError::Fault(fault));
@@ -176,5 +178,18 @@ impl<I: RowAndOperands> Instruction for I {
     #[inline(always)]
     fn encode<S: CodeSink>(&self, sink: &mut S) -> Result<(), SinkError> {
         self.hand_to::<Content, S>(sink)
+    }
+
+    // The test is made of the numbers that the code is made of, so what holds instructions of several kinds asks once which
+    // it is.
+    #[inline(always)]
+    fn encode_checked<S: CodeSink>(&self, sink: &mut S) -> Result<(), EncodeError> {
+        match self.hand_to::<Tested, S>(sink) {
+            Outcome::Put => Ok(()),
+            Outcome::Refused(error) => Err(EncodeError::Sink(error)),
+            Outcome::NotEncodable => {
+                Err(EncodeError::Fault(listed_fault(self, &*sink).unwrap()))
+            }
+        }
     }
 }

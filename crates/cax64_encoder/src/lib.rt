@@ -22,6 +22,7 @@ pub mod role;
 pub mod room;
 pub mod short;
 mod task;
+mod tested;
 pub mod worked;
 
 pub use error::EncodeError;

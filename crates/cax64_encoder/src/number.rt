@@ -1,6 +1,7 @@
 //! Registers by their hardware numbers.
 
 ghost use Rattle.std.specs.Prelude.{◌≡◌};
+ghost use Rattle.cax64_encoder.specs.Marked.{marked_index, marked_value};
 ghost use Rattle.cax64_encoder.specs.Number.{number_of, number_value, is_real_number, is_number, is_index_number};
 
 use cax64_register::{AsReg, gpr};
@@ -32,6 +33,23 @@ impl Number {
         ensures { result ≡ number_value (number_of R.settled R.enc reg) }
     {
         if reg.settled() { reg.enc() } else { 0 }
+    }
+
+    /// The number of a register, or 255 of a virtual one, so that it is below 16 where an instruction can hold the register.
+    #[inline(always)]
+    pub(crate) fn marked_value_of<R: AsReg>(reg: R) -> u8
+        ensures { result ≡ marked_value (number_of R.settled R.enc reg) }
+    {
+        if reg.settled() { reg.enc() } else { 255 }
+    }
+
+    /// The number of an index, or 255 of a register that can't be one.
+    #[inline(always)]
+    pub(crate) fn marked_index_of<R: AsReg>(reg: R) -> u8
+        ensures { result ≡ marked_index (number_of R.settled R.enc reg) }
+    {
+        let number = Number::marked_value_of(reg);
+        if number == gpr::enc::RSP { 255 } else { number }
     }
 
     /// Whether an instruction can hold the register.

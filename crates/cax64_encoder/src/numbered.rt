@@ -2,6 +2,7 @@
 
 ghost use Rattle.std.specs.Prelude.{◌≡◌};
 ghost use Rattle.cax64_encoder.specs.Numbered.{no_place, register_place, numbered_amode, no_form, with_register, with_role, notice_count};
+ghost use Rattle.cax64_encoder.specs.Marked.{form_met, marked_amode};
 ghost use Rattle.cax64_encoder.specs.Role.{role_of};
 ghost use Rattle.cax64_operand.specs.Family.{numbering};
 
@@ -113,6 +114,39 @@ impl NumberedPlace {
         numbers
     }
 
+    /// The numbers of an address, 255 of a register that it can't hold.
+    #[inline(always)]
+    pub(crate) fn marked<M: AsReg>(amode: &Amode<M>) -> NumberedPlace
+        ensures { result ≡ marked_amode (numbering M.settled M.enc) amode.now }
+    {
+        let mut numbers = NumberedPlace::none();
+        numbers.stands = true;
+        match amode {
+            Amode::ImmReg { base, simm32, trap } => {
+                numbers.base = Number::marked_value_of(*base);
+                numbers.index = gpr::enc::RSP;
+                numbers.displacement = *simm32;
+                numbers.trap = *trap;
+            }
+            Amode::ImmRegRegShift {
+                base,
+                index,
+                scale,
+                simm32,
+                trap,
+            } => {
+                numbers.has_index = true;
+                numbers.base = Number::marked_value_of(*base);
+                numbers.index = Number::marked_index_of(*index.as_ref());
+                numbers.scale = *scale;
+                numbers.displacement.simm32 = *simm32;
+                numbers.trap = *trap;
+            }
+            Amode::RipRelative { target } => numbers.relative = Some(*target),
+        }
+        numbers
+    }
+
     /// How many notices an instruction with this place has: of a trap, or of a target.
     #[inline(always)]
     pub fn notice_count(&self) -> u8
@@ -140,11 +174,23 @@ impl NumberedForm {
 
     /// Puts a register before the others: the first stands in reg, the second in vvvv.
     #[inline(always)]
-    fn add_register(&mut self, number: u8)
+    pub(crate) fn add_register(&mut self, number: u8)
         ensures { self.new ≡ with_register number self.old }
     {
         self.vvvv = self.reg;
         self.reg = Some(number);
+    }
+
+    /// Whether the marked numbers of the register in reg and of the place are of real registers.
+    #[inline(always)]
+    pub(crate) fn is_marked_real(&self) -> bool
+        ensures { result ≡ form_met self.now }
+    {
+        let is_reg_real = match self.reg {
+            Some(number) => number < 16,
+            None => true,
+        };
+        is_reg_real & (self.place.base < 16) & (self.place.index < 16)
     }
 
     /// Puts one more operand before the others.

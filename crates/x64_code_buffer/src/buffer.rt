@@ -228,6 +228,10 @@ impl<A: Allocator> CodeBuffer<A> {
         ensures laid { let meant = (I.meant inst.now (buffer_state self.old).offsets).parts in (pieces : List Piece) → Laid pieces (length (buffer_state self.old).bytes) (buffer_state self.old) (places_of self.old) → OnOk result (LaidOn whole (parts_as (line_of meant.row) meant) pieces (buffer_state self.new) (places_of self.new)) }
         ensures refused { OnErr result (StaysFilled self.old self.new) }
     {
+        // Where there is room already, as mostly, test and code are made at once.
+        if self.recorder.has_room(13, 1) {
+            return inst.encode_checked(&mut self.recorder);
+        }
         if let Some(fault) = inst.first_fault(&self.recorder) {
             return Err(EncodeError::Fault(fault));
         }

@@ -1,0 +1,301 @@
+use Rattle.std.proofs.Common.{◌≡◌, ℕ, Bool, true, false, refl, ◌∙◌, ap, sym, Option, Some, None, Result, List, [], ◌∷◌, ℤ}
+use Rattle.std.specs.Prelude.{◌&&◌, ◌||◌, ◌==◌, if◌then◌else◌, not, nat_lt, is_none, IsSome, IsTrue}
+use Rattle.std.proofs.lemmas.Bool.{and_parts}
+use Rattle.cax64_address.specs.Offset.{sum_fits}
+use Rattle.cax64_address.specs.declared.amode.Amode.{Amode}
+use Rattle.cax64_address.specs.declared.amode.Amode.TheVariants.{ImmReg, ImmRegRegShift, RipRelative}
+use Rattle.cax64_machine_code.specs.declared.row.Row.{Row}
+use Rattle.cax64_operand.specs.Family.{Family, Numbering}
+use Rattle.cax64_operand.specs.Fold.{fold}
+use Rattle.cax64_operand.specs.OperandList.{list_of}
+use Rattle.cax64_operand.specs.Signature.{HasSignature}
+use Rattle.cax64_operand.specs.declared.operand.Operand.{Operand}
+use Rattle.cax64_operand.specs.declared.operand.Operands.{Operands}
+use Rattle.cax64_operand.specs.declared.operand.Operands.TheVariants as operands
+use Rattle.cax64_sink.specs.Sink.{State}
+use Rattle.cax64_sink.specs.declared.SinkError.{SinkError}
+use Rattle.cax64_encoder.specs.Checked.{amode_met, checked_roles}
+use Rattle.cax64_encoder.specs.Content.{content_of}
+use Rattle.cax64_encoder.specs.Fault.{all_met, fault_of_meant, first_fault, is_encodable, late_offset_fits}
+use Rattle.cax64_encoder.specs.Marked.{form_met, marked_amode, marked_index, marked_place, marked_value, others_met, reg_met}
+use Rattle.cax64_encoder.specs.Meant.{meant_of, place_in}
+use Rattle.cax64_encoder.specs.Number.{is_index_number, is_number, is_real_number, number_value}
+use Rattle.cax64_encoder.specs.Numbered.{numbered_amode, numbered_place}
+use Rattle.cax64_encoder.specs.Place.{memory_in}
+use Rattle.cax64_encoder.specs.Role.{number, roles_of}
+use Rattle.cax64_encoder.specs.Task.{Answered, Asked, Kept}
+use Rattle.cax64_encoder.specs.Tested.{can_be_put, none_tested, nop_tested, tested_roles, with_tested}
+use Rattle.cax64_encoder.specs.Visits.{visits_of}
+use Rattle.cax64_encoder.specs.declared.fault.Fault.{Fault}
+use Rattle.cax64_encoder.specs.declared.number.Number.{Number}
+use Rattle.cax64_encoder.specs.declared.number.Number.TheVariants.{Settled, Unsettled}
+use Rattle.cax64_encoder.specs.declared.numbered.NumberedForm.{NumberedForm}
+use Rattle.cax64_encoder.specs.declared.numbered.NumberedPlace.{NumberedPlace}
+use Rattle.cax64_encoder.specs.declared.role.PlaceOperand as place
+use Rattle.cax64_encoder.specs.declared.role.PlaceOperand.{PlaceOperand}
+use Rattle.cax64_encoder.specs.declared.role.Role.{Role}
+use Rattle.cax64_encoder.specs.declared.role.Role.TheVariants as role
+use Rattle.cax64_encoder.specs.declared.tested.Tested.{Tested}
+use Rattle.cax64_encoder.proofs.Checks.{met_is}
+use Rattle.cax64_encoder.proofs.Encodable.{content_is}
+use Rattle.cax64_encoder.proofs.Faults.{fault_same, no_fault}
+use Rattle.cax64_encoder.proofs.Instructions.{Put, put_of}
+use Rattle.cax64_encoder.proofs.Numbers.{with_numbers}
+
+-- Operands that are tested by the numbers of which their code is made.
+
+marked_real : (number : Number) → nat_lt (marked_value number) 16 ≡ is_real_number number
+marked_real (Settled number) = refl
+marked_real Unsettled = refl
+
+marked_is : (number : Number) → nat_lt (marked_value number) 16 ≡ true → marked_value number ≡ number_value number
+marked_is (Settled number) h = refl
+marked_is Unsettled h = cc
+
+index_real : (number : Number) → nat_lt (marked_index number) 16 ≡ is_index_number number
+index_real (Settled number) = by_test (number == 4)
+  where
+    none : (real : Bool) → false ≡ (real && false)
+    none true = refl
+    none false = refl
+
+    all : (real : Bool) → real ≡ (real && true)
+    all true = refl
+    all false = refl
+
+    by_test : (four : Bool) → nat_lt (if four then 255 else number) 16 ≡ (nat_lt number 16 && not four)
+    by_test true = none (nat_lt number 16)
+    by_test false = all (nat_lt number 16)
+index_real Unsettled = refl
+
+index_is : (number : Number) → nat_lt (marked_index number) 16 ≡ true → marked_index number ≡ number_value number
+index_is (Settled number) h = by_test (number == 4) h
+  where
+    by_test : (four : Bool) → nat_lt (if four then 255 else number) 16 ≡ true → (if four then 255 else number) ≡ number
+    by_test true h = cc
+    by_test false h = refl
+index_is Unsettled h = cc
+
+-- Numbers that were tested are tested once more with each operand, which tells nothing new.
+
+kept : {M : Type 0} (n : Numbering M) (roles : List (Role M)) → (tested_roles n roles).met ≡ true → form_met (tested_roles n roles).content.form ≡ true
+kept n [] h = refl
+kept n (r ∷ later) h = (and_parts (form_met (tested_roles n (r ∷ later)).content.form) (others_met r && (tested_roles n later).met) h).0
+
+and_true : (b : Bool) → (b && true) ≡ b
+and_true true = refl
+and_true false = refl
+
+and_false : (b : Bool) → (b && false) ≡ false
+and_false true = refl
+and_false false = refl
+
+and_both : (a b c : Bool) → (a && (b && c)) ≡ ((a && b) && c)
+and_both true b c = refl
+and_both false b c = refl
+
+-- a register beside a place that was tested
+beside : (a r base index b m : Bool) → (m ≡ true → ((r && base) && index) ≡ true) → (((a && base) && index) && (b && m)) ≡ (a && (b && m))
+beside a r base index b true h =
+    let p = and_parts (r && base) index (h refl) in
+    let q = and_parts r base p.0 in
+    rw (q.1, p.1) (ap (λ (x : Bool). x && (b && true)) (and_true (a && true) ∙ and_true a))
+beside a r base index b false h = rw (and_false b) (and_false ((a && base) && index) ∙ sym (and_false a))
+
+-- a place beside a register that was tested
+placed : (r base index base_was index_was m : Bool) → (m ≡ true → ((r && base_was) && index_was) ≡ true) → (((r && base) && index) && m) ≡ ((base && index) && m)
+placed r base index base_was index_was true h =
+    let p = and_parts (r && base_was) index_was (h refl) in
+    rw ((and_parts r base_was p.0).0) refl
+placed r base index base_was index_was false h = and_false ((r && base) && index) ∙ sym (and_false (base && index))
+
+-- what was tested, and nothing beside
+again : (f b m : Bool) → (m ≡ true → f ≡ true) → (f && (b && m)) ≡ (b && m)
+again f b true h = rw (h refl) refl
+again f b false h = rw (and_false b) (and_false f)
+
+amode_same : {M : Type 0} (n : Numbering M) (amode : Amode M) → (nat_lt (marked_amode n amode).base 16 && nat_lt (marked_amode n amode).index 16) ≡ amode_met n amode
+amode_same n (ImmReg base simm32 trap) = and_true (nat_lt (marked_value (number n base)) 16) ∙ marked_real (number n base)
+amode_same n (ImmRegRegShift base index scale simm32 trap) = rw (marked_real (number n base), index_real (number n index)) refl
+amode_same n (RipRelative target) = refl
+
+-- one more operand before others that are tested as they are by themselves
+met_with : {M : Type 0} (n : Numbering M) (later : List (Role M)) (r : Role M) → (tested_roles n later).met ≡ (checked_roles n later).met → (tested_roles n (r ∷ later)).met ≡ (checked_roles n (r ∷ later)).met
+met_with {M = M} n later r before = by_role r
+  where
+    form : NumberedForm
+    form = (tested_roles n later).content.form
+
+    met : Bool
+    met = (tested_roles n later).met
+
+    own : (base index : Bool) → (((reg_met form.reg && base) && index) && met) ≡ ((base && index) && met)
+    own base index = placed (reg_met form.reg) base index (nat_lt form.place.base 16) (nat_lt form.place.index 16) met (kept n later)
+
+    by_role : (r : Role M) → (tested_roles n (r ∷ later)).met ≡ (checked_roles n (r ∷ later)).met
+    by_role (role.Register number) =
+        beside (nat_lt (marked_value number) 16) (reg_met form.reg) (nat_lt form.place.base 16) (nat_lt form.place.index 16) true met (kept n later)
+        ∙ rw (marked_real number, before) refl
+    by_role (role.TwoRegisters first second same) =
+        beside (nat_lt (marked_value first) 16) (reg_met form.reg) (nat_lt form.place.base 16) (nat_lt form.place.index 16) (same || is_real_number second) met (kept n later)
+        ∙ and_both (nat_lt (marked_value first) 16) (same || is_real_number second) met
+        ∙ rw (marked_real first, before) refl
+    by_role (role.FixedRegister fixed) = again (form_met form) (is_number fixed.held fixed.expected) met (kept n later) ∙ rw before refl
+    by_role (role.Place place.TheVariants.NoPlace) = own true true ∙ before
+    by_role (role.Place (place.TheVariants.Register number)) =
+        own (nat_lt (marked_value number) 16) true
+        ∙ rw (and_true (nat_lt (marked_value number) 16), marked_real number, before) refl
+    by_role (role.Place (place.TheVariants.Memory amode)) =
+        own (nat_lt (marked_amode n amode).base 16) (nat_lt (marked_amode n amode).index 16)
+        ∙ rw (amode_same n amode, before) refl
+    by_role (role.Immediate imm) = again (form_met form) true met (kept n later) ∙ before
+
+met_same : {M : Type 0} (n : Numbering M) (roles : List (Role M)) → (tested_roles n roles).met ≡ (checked_roles n roles).met
+met_same n [] = refl
+met_same n (r ∷ later) = met_with n later r (met_same n later)
+
+-- the place is that of the first operand that is one
+place_is : {M : Type 0} (n : Numbering M) (roles : List (Role M)) → (tested_roles n roles).content.form.place ≡ marked_place n (place_in roles)
+place_is n [] = refl
+place_is n (role.Register number ∷ later) = place_is n later
+place_is n (role.TwoRegisters first second same ∷ later) = place_is n later
+place_is n (role.FixedRegister fixed ∷ later) = place_is n later
+place_is n (role.Place operand ∷ later) = refl
+place_is n (role.Immediate imm ∷ later) = place_is n later
+
+late_same : {M : Type 0} (n : Numbering M) (offsets : ℕ → Option ℤ) (p : PlaceOperand M) → sum_fits offsets (marked_place n p).displacement.offset (marked_place n p).displacement.simm32 ≡ late_offset_fits offsets (memory_in p)
+late_same n offsets place.TheVariants.NoPlace = refl
+late_same n offsets (place.TheVariants.Register number) = refl
+late_same n offsets (place.TheVariants.Memory (ImmReg base simm32 trap)) = refl
+late_same n offsets (place.TheVariants.Memory (ImmRegRegShift base index scale simm32 trap)) = refl
+late_same n offsets (place.TheVariants.Memory (RipRelative target)) = refl
+
+-- Where all is as it has to be, the marked numbers are the numbers.
+
+amode_is : {M : Type 0} (n : Numbering M) (amode : Amode M) → nat_lt (marked_amode n amode).base 16 ≡ true → nat_lt (marked_amode n amode).index 16 ≡ true → marked_amode n amode ≡ numbered_amode n amode
+amode_is n (ImmReg base simm32 trap) h k = rw (marked_is (number n base) h) refl
+amode_is n (ImmRegRegShift base index scale simm32 trap) h k = rw (marked_is (number n base) h, index_is (number n index) k) refl
+amode_is n (RipRelative target) h k = refl
+
+place_same : {M : Type 0} (n : Numbering M) (operand : PlaceOperand M) → nat_lt (marked_place n operand).base 16 ≡ true → nat_lt (marked_place n operand).index 16 ≡ true → marked_place n operand ≡ numbered_place n operand
+place_same n place.TheVariants.NoPlace h k = refl
+place_same n (place.TheVariants.Register number) h k = rw (marked_is number h) refl
+place_same n (place.TheVariants.Memory amode) h k = amode_is n amode h k
+
+form_with : {M : Type 0} (n : Numbering M) (later : List (Role M)) (r : Role M) → ((tested_roles n later).met ≡ true → (tested_roles n later).content.form ≡ with_numbers n later) → (tested_roles n (r ∷ later)).met ≡ true → (tested_roles n (r ∷ later)).content.form ≡ with_numbers n (r ∷ later)
+form_with {M = M} n later r before h = by_role r h
+  where
+    form : NumberedForm
+    form = (tested_roles n later).content.form
+
+    met : Bool
+    met = (tested_roles n later).met
+
+    by_role : (r : Role M) → (tested_roles n (r ∷ later)).met ≡ true → (tested_roles n (r ∷ later)).content.form ≡ with_numbers n (r ∷ later)
+    by_role (role.Register number) h =
+        let p = and_parts ((nat_lt (marked_value number) 16 && nat_lt form.place.base 16) && nat_lt form.place.index 16) met h in
+        let q = and_parts (nat_lt (marked_value number) 16 && nat_lt form.place.base 16) (nat_lt form.place.index 16) p.0 in
+        let t = and_parts (nat_lt (marked_value number) 16) (nat_lt form.place.base 16) q.0 in
+        rw (marked_is number t.0, before p.1) refl
+    by_role (role.TwoRegisters first second same) h =
+        let p = and_parts ((nat_lt (marked_value first) 16 && nat_lt form.place.base 16) && nat_lt form.place.index 16) ((same || is_real_number second) && met) h in
+        let q = and_parts (nat_lt (marked_value first) 16 && nat_lt form.place.base 16) (nat_lt form.place.index 16) p.0 in
+        let t = and_parts (nat_lt (marked_value first) 16) (nat_lt form.place.base 16) q.0 in
+        let l = and_parts (same || is_real_number second) met p.1 in
+        rw (marked_is first t.0, before l.1) refl
+    by_role (role.FixedRegister fixed) h =
+        let p = and_parts (form_met form) (is_number fixed.held fixed.expected && met) h in
+        before (and_parts (is_number fixed.held fixed.expected) met p.1).1
+    by_role (role.Place operand) h =
+        let marked = marked_place n operand in
+        let p = and_parts ((reg_met form.reg && nat_lt marked.base 16) && nat_lt marked.index 16) met h in
+        let q = and_parts (reg_met form.reg && nat_lt marked.base 16) (nat_lt marked.index 16) p.0 in
+        let t = and_parts (reg_met form.reg) (nat_lt marked.base 16) q.0 in
+        rw (place_same n operand t.1 q.1, before p.1) refl
+    by_role (role.Immediate imm) h = rw (before (and_parts (form_met form) met h).1) refl
+
+form_is : {M : Type 0} (n : Numbering M) (roles : List (Role M)) → (tested_roles n roles).met ≡ true → (tested_roles n roles).content.form ≡ with_numbers n roles
+form_is n [] h = refl
+form_is n (r ∷ later) h = form_with n later r (form_is n later) h
+
+no_nop : {M : Type 0} (n : Numbering M) (roles : List (Role M)) → (tested_roles n roles).content.nop ≡ None
+no_nop n [] = refl
+no_nop n (r ∷ later) = no_nop n later
+
+-- The same of operands.
+
+abbrev tested_of : {R A B C D E F : Type 0} → Family A B C D E F → Operands R A B C D E F → Tested
+tested_of f o = fold none_tested (with_tested f) nop_tested o
+
+-- the test is the condition of encoding
+pub test_is : {R A B C D E F : Type 0} (f : Family A B C D E F) (row : Row) (o : Operands R A B C D E F) (offsets : ℕ → Option ℤ) → can_be_put offsets (fold none_tested (with_tested f) nop_tested o) ≡ is_encodable offsets (meant_of f row o offsets)
+test_is {R = R} {A = A} {B = B} {C = C} {D = D} {E = E} {F = F} f row o offsets = by_number o
+  where
+    listed : (list : List (Operand R A B C D E F)) → can_be_put offsets (tested_roles f.read_gpr (roles_of f list)) ≡ (all_met (visits_of f.read_gpr (roles_of f list)) && late_offset_fits offsets (memory_in (place_in (roles_of f list))))
+    listed list =
+        let roles = roles_of f list in
+        let tested = tested_roles f.read_gpr roles in
+        ap (λ (met : Bool). met && sum_fits offsets tested.content.form.place.displacement.offset tested.content.form.place.displacement.simm32) (met_same f.read_gpr roles ∙ met_is f.read_gpr roles)
+        ∙ ap (λ (late : Bool). all_met (visits_of f.read_gpr roles) && late) (ap (λ (p : NumberedPlace). sum_fits offsets p.displacement.offset p.displacement.simm32) (place_is f.read_gpr roles) ∙ late_same f.read_gpr offsets (place_in roles))
+
+    by_number : (o : Operands R A B C D E F) → can_be_put offsets (fold none_tested (with_tested f) nop_tested o) ≡ is_encodable offsets (meant_of f row o offsets)
+    by_number operands.Zero = listed (list_of operands.Zero)
+    by_number (operands.One a) = listed (list_of (operands.One a))
+    by_number (operands.Two a b) = listed (list_of (operands.Two a b))
+    by_number (operands.Three a b c) = listed (list_of (operands.Three a b c))
+    by_number (operands.Four a b c d) = listed (list_of (operands.Four a b c d))
+    by_number (operands.Five a b c d e) = listed (list_of (operands.Five a b c d e))
+    by_number (operands.Nop nop) = refl
+
+-- what is made of operands that pass it is what is kept of them
+tested_content : {R A B C D E F : Type 0} (f : Family A B C D E F) (o : Operands R A B C D E F) → (fold none_tested (with_tested f) nop_tested o).met ≡ true → (fold none_tested (with_tested f) nop_tested o).content ≡ content_of f o
+tested_content {R = R} {A = A} {B = B} {C = C} {D = D} {E = E} {F = F} f o h = by_number o h
+  where
+    listed : (list : List (Operand R A B C D E F)) → (tested_roles f.read_gpr (roles_of f list)).met ≡ true → (tested_roles f.read_gpr (roles_of f list)).content ≡ record { nop = None; form = with_numbers f.read_gpr (roles_of f list) }
+    listed list h = rw (sym (form_is f.read_gpr (roles_of f list) h), sym (no_nop f.read_gpr (roles_of f list))) refl
+
+    by_number : (o : Operands R A B C D E F) → (fold none_tested (with_tested f) nop_tested o).met ≡ true → (fold none_tested (with_tested f) nop_tested o).content ≡ content_of f o
+    by_number operands.Zero h = refl
+    by_number (operands.One a) h = listed (list_of (operands.One a)) h ∙ content_is f (operands.One a)
+    by_number (operands.Two a b) h = listed (list_of (operands.Two a b)) h ∙ content_is f (operands.Two a b)
+    by_number (operands.Three a b c) h = listed (list_of (operands.Three a b c)) h ∙ content_is f (operands.Three a b c)
+    by_number (operands.Four a b c d) h = listed (list_of (operands.Four a b c d)) h ∙ content_is f (operands.Four a b c d)
+    by_number (operands.Five a b c d e) h = listed (list_of (operands.Five a b c d e)) h ∙ content_is f (operands.Five a b c d e)
+    by_number (operands.Nop nop) h = refl
+
+-- what was kept of operands that passed it
+tested_kept : {R A B C D E F : Type 0} (f : Family A B C D E F) (row : Row) (o : Operands R A B C D E F) (offsets : ℕ → Option ℤ) → HasSignature row o → IsTrue (can_be_put offsets (fold none_tested (with_tested f) nop_tested o)) → Kept f offsets row o (fold none_tested (with_tested f) nop_tested o).content
+tested_kept f row o offsets signature can =
+    let tested = tested_of f o in
+    record {
+      kept = tested_content f o (and_parts tested.met (sum_fits offsets tested.content.form.place.displacement.offset tested.content.form.place.displacement.simm32) can).0;
+      signature = signature;
+      can = sym (test_is f row o offsets) ∙ can;
+    }
+
+pub tested_asked : {R A B C D E F : Type 0} (f : Family A B C D E F) (row : Row) (o : Operands R A B C D E F) (offsets : ℕ → Option ℤ) → HasSignature row o → IsTrue (can_be_put offsets (fold none_tested (with_tested f) nop_tested o)) → Asked R f offsets row (fold none_tested (with_tested f) nop_tested o).content
+tested_asked f row o offsets signature can = (o, tested_kept f row o offsets signature can)
+
+-- what has a fault where it can't be encoded
+pub has_fault : {R A B C D E F : Type 0} (f : Family A B C D E F) (row : Row) (o : Operands R A B C D E F) (offsets : ℕ → Option ℤ) (r : Option Fault) → r ≡ first_fault offsets (visits_of f.read_gpr (roles_of f (list_of o))) (memory_in (place_in (roles_of f (list_of o)))) → can_be_put offsets (fold none_tested (with_tested f) nop_tested o) ≡ false → IsSome r
+has_fault f row o offsets r h can =
+    let m = meant_of f row o offsets in
+    some_of r (ap is_none (h ∙ fault_same f row o offsets) ∙ no_fault offsets m.visited m.memory ∙ sym (test_is f row o offsets) ∙ can)
+  where
+    some_of : {A : Type 0} (a : Option A) → is_none a ≡ false → IsSome a
+    some_of None h = cc
+    some_of (Some a) h = refl
+
+pub can_none : {R A B C D E F : Type 0} (f : Family A B C D E F) (row : Row) (o : Operands R A B C D E F) (offsets : ℕ → Option ℤ) → IsTrue (can_be_put offsets (fold none_tested (with_tested f) nop_tested o)) → None ≡ fault_of_meant offsets (meant_of f row o offsets)
+can_none f row o offsets can =
+    let m = meant_of f row o offsets in
+    none_of (fault_of_meant offsets m) (no_fault offsets m.visited m.memory ∙ sym (test_is f row o offsets) ∙ can)
+  where
+    none_of : {A : Type 0} (a : Option A) → is_none a ≡ true → None ≡ a
+    none_of None h = refl
+    none_of (Some a) h = cc
+
+-- all that a call says of operands that passed the test
+pub tested_put : {R A B C D E F : Type 0} (f : Family A B C D E F) (row : Row) (o : Operands R A B C D E F) (s t : State) (r : Result (Unit {0}) SinkError) → HasSignature row o → IsTrue (can_be_put s.offsets (fold none_tested (with_tested f) nop_tested o)) → Answered R f row (fold none_tested (with_tested f) nop_tested o).content s t r → Put (meant_of f row o s.offsets) s t r
+tested_put f row o s t r signature can answered =
+    put_of (meant_of f row o s.offsets) s t r (answered o (tested_kept f row o s.offsets signature can))
