@@ -2,11 +2,13 @@
 
 use crate::making::{IF_EQUAL, IF_NOT_EQUAL, Piece, items_of, with_labels};
 use cax64_address::amode::Amode;
+use cax64_address::offset::AmodeOffsetPlusKnownOffset;
 use cax64_operand::{Nop, Numbers};
 use cax64_register::Gpr;
-use cax64_sink::{DeferredTarget, Label, Notice};
+use cax64_sink::{DeferredTarget, Label, Notice, TrapCode};
 use lock_a::lock_addl_mr;
 use std::alloc::Global;
+use std::num::NonZeroU8;
 use x64_assemble::{Item, Layout};
 use x64_code_buffer::{CodeBuffer, Condition, Jump};
 
@@ -229,6 +231,42 @@ fn an_instruction_tells_of_its_target(rt: HostRuntime) {
     let code = buffer.finish().ok().expect(&rt, "code");
     let end = [0xF0, 0x01, 0x0D, 2, 0, 0, 0, 0x75, 0xF7];
     assert!(rt; code.as_slice() == end.as_slice());
+}
+
+const TRAP: TrapCode = TrapCode(NonZeroU8::MIN);
+
+/// A trap, a target and an open jump are told in the order of the list, and a jump within it isn't.
+#[test]
+fn all_is_told_in_order(rt: HostRuntime) {
+    let mut layout = Layout::new(rt.alloc());
+    let mut buffer = with_labels(rt.alloc()).expect(&rt, "memory");
+    let label = Label(2);
+    let target = DeferredTarget::Label(label);
+    let trapping = Amode::ImmReg {
+        base: 1,
+        simm32: AmodeOffsetPlusKnownOffset::ZERO,
+        trap: Some(TRAP),
+    };
+    let first = lock_addl_mr::<Numbers>::new(trapping, Gpr::new(1));
+    let relative = lock_addl_mr::<Numbers>::new(Amode::RipRelative { target }, Gpr::new(1));
+    let items = [
+        Item::Bind(Label(0)),
+        Item::Jump(Jump::Call, label),
+        Item::Inst(first),
+        Item::Jump(Jump::Always, Label(0)),
+        Item::Inst(relative),
+        Item::Inst(first),
+        Item::Jump(IF_EQUAL, label),
+    ];
+    assert!(rt; layout.assemble(&items, &mut buffer) == Ok(()));
+    let told = [
+        Notice::Target(1, target),
+        Notice::Trap(5, TRAP),
+        Notice::Target(13, target),
+        Notice::Trap(17, TRAP),
+        Notice::Target(22, target),
+    ];
+    assert!(rt; buffer.notices() == told.as_slice());
 }
 
 /// What jumps to a label that the list doesn't bind is open until all is finished.

@@ -1,13 +1,14 @@
-use Rattle.std.proofs.Common.{◌≡◌, ℕ, ◌+◌, arith, ◌∙◌, ap, sym, subst, true, Option, Some, List, length, sum, Result, Ok, Err}
+use Rattle.std.proofs.Common.{◌≡◌, ℕ, ◌+◌, arith, ◌∙◌, ap, sym, subst, true, Option, Some, List, ◌++◌, length, sum, Result, Ok, Err}
 use Rattle.std.specs.Prelude.{OnOk, is_ok}
 use Rattle.std.proofs.lemmas.List.{take_all}
 use Rattle.cax64_encoder.specs.Meant.{Meant, len}
 use Rattle.cax64_sink.specs.Sink.{State}
 use Rattle.cax64_sink.specs.declared.DeferredTarget.{DeferredTarget}
+use Rattle.cax64_sink.specs.declared.Notice.{Notice}
 use Rattle.x64_code_buffer.specs.Binding.{SamePlaces}
 use Rattle.x64_code_buffer.specs.Laid.{Laid, Piece}
 use Rattle.x64_layout.specs.Layout.{IsLeast, place_in}
-use Rattle.x64_assemble.specs.Assembled.{Assembled, entries, spans_of}
+use Rattle.x64_assemble.specs.Assembled.{Assembled, all_told, entries, spans_of}
 use Rattle.x64_assemble.specs.Putting.{Put}
 use Rattle.x64_assemble.specs.declared.item.Item.{Item}
 use Rattle.x64_assemble.proofs.Entries.{spans_few}
@@ -22,8 +23,8 @@ ok_given (Err e) is h = cc
 pub all_bytes : (lens : List ℕ) (n : ℕ) → length lens ≡ n → place_in lens n ≡ sum lens
 all_bytes lens n e = ap sum (take_all n lens (omega arith))
 
-pub assembled : {I M : Type 0} (meant : I → Meant M) (items : List (Item I)) (lens : List ℕ) (pieces : List Piece) (s u t : State) (old mid new : DeferredTarget → Option ℕ) → IsLeast (spans_of (λ i. len (meant i)) items items) lens → u.bytes ≡ s.bytes → SamePlaces old mid → Laid pieces (length s.bytes) u mid → Put meant lens items items u t mid new → Assembled meant items pieces (length s.bytes) old new t
-assembled meant items lens pieces s u t old mid new least bytes same h put =
+pub assembled : {I M : Type 0} (meant : I → Meant M) (items : List (Item I)) (lens : List ℕ) (pieces : List Piece) (s u t : State) (old mid new : DeferredTarget → Option ℕ) → IsLeast (spans_of (λ i. len (meant i)) items items) lens → u.bytes ≡ s.bytes → u.notices ≡ s.notices → SamePlaces old mid → Laid pieces (length s.bytes) u mid → Put meant lens items items u t mid new → Assembled meant items pieces s t old new
+assembled meant items lens pieces s u t old mid new least bytes notices same h put =
     let before : length s.bytes ≡ length u.bytes = ap length (sym bytes) in
     let here : Laid pieces (length u.bytes) u mid = subst (λ (n : ℕ). Laid pieces n u mid) before h in
     let got = put.laid pieces here in
@@ -35,6 +36,7 @@ assembled meant items lens pieces s u t old mid new least bytes same h put =
       more = got.0;
       reads = got.1;
       laid = got.2;
+      told = got.3 ∙ ap (λ (z : List Notice). z ++ all_told meant items (length u.bytes) items got.0) notices ∙ ap (λ (n : ℕ). s.notices ++ all_told meant items n items got.0) (sym before);
       length = size;
       bound = λ label spot is. put.bound label spot is ∙ ap (λ (n : ℕ). Some (n + place_in lens spot)) (sym before);
       others = λ goes_to none. put.others goes_to none ∙ same goes_to;

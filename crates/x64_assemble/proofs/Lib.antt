@@ -1,4 +1,5 @@
 pub mod Items
+pub mod Told
 pub mod Pieces
 pub mod Entries
 pub mod Steps

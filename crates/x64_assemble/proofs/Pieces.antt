@@ -1,9 +1,8 @@
 use Rattle.std.proofs.Common.{◌≡◌, ℕ, ◌+◌, ◌-◌, ◌<◌, ◌≤◌, ◌⊎◌, inl, inr, arith, refl, ◌∙◌, ap, sym, subst, Option, Some, None, List, [], ◌∷◌, ◌++◌, length, drop, sum, get_or, append_assoc, append-nil, Bool, true, false}
 use Rattle.std.specs.Prelude.{◌==◌, if◌then◌else◌, slice_index}
 use Rattle.std.specs.Option.{option_or}
-use Rattle.std.proofs.Math.Seq.{take-length}
 use Rattle.std.proofs.lemmas.Bool.{cases_eq, eq-eqb, ne_eqb}
-use Rattle.std.proofs.lemmas.List.{length-drop, length_push}
+use Rattle.std.proofs.lemmas.List.{length_push}
 use Rattle.std.proofs.lemmas.List.Sums.{sum_by-drop_more}
 use Rattle.cax64_encoder.specs.Meant.{Meant}
 use Rattle.cax64_sink.specs.Keeps.{Keeps}
@@ -12,35 +11,19 @@ use Rattle.cax64_sink.specs.Sink.{State}
 use Rattle.cax64_sink.specs.declared.DeferredTarget.{DeferredTarget}
 use Rattle.cax64_sink.specs.declared.DeferredTarget.TheVariants as target
 use Rattle.cax64_sink.specs.declared.Label.{Label}
+use Rattle.cax64_sink.specs.declared.Notice.{Notice}
 use Rattle.x64_code_buffer.specs.Binding.{AddsBinding}
-use Rattle.x64_code_buffer.specs.Laid.{Laid, LinesRead, Piece, reading_in, readings_in}
+use Rattle.x64_code_buffer.specs.Laid.{Laid, Piece, reading_in}
 use Rattle.x64_layout.specs.Layout.{place_in}
 use Rattle.x64_layout.proofs.Places.{place_more}
-use Rattle.x64_assemble.specs.Assembled.{EachReads, InstReads, IsNoLabelOf, JumpReads, entries, spot_of}
+use Rattle.x64_assemble.specs.Assembled.{EachReads, InstReads, IsNoLabelOf, JumpReads, all_told, entries, spot_of}
 use Rattle.x64_assemble.specs.Putting.{GotEntry, Put}
 use Rattle.x64_assemble.specs.declared.item.Item.{Item}
 use Rattle.x64_assemble.specs.declared.item.Item.TheVariants as item
 use Rattle.x64_assemble.proofs.Items.{counted, entries_push, spot_push}
+use Rattle.x64_assemble.proofs.Told.{item_told, laid_total, pieces_append, pieces_length, pieces_push, told_bind, told_push}
 
 -- A list on its way into a buffer, one item longer.
-
--- how many bytes some pieces have
-abbrev pieces_length : List Piece → ℕ
-pieces_length [] = 0
-pieces_length (p ∷ ps) = (reading_in p).length + pieces_length ps
-
-pieces_total : (ps : List Piece) (a : List ℕ) → LinesRead (readings_in ps) a → length a ≡ pieces_length ps
-pieces_total [] a h = ap length h
-pieces_total (q ∷ ps) a h = omega (arith, h.2, length-drop (reading_in q).length a, pieces_total ps (drop (reading_in q).length a) h.3)
-
-pieces_push : (ps : List Piece) (p : Piece) → pieces_length (ps ++ p ∷ []) ≡ pieces_length ps + (reading_in p).length
-pieces_push [] p = omega arith
-pieces_push (q ∷ ps) p = omega (arith, pieces_push ps p)
-
-laid_total : (ps : List Piece) (s : State) (places : DeferredTarget → Option ℕ) → Laid ps (length s.bytes) s places → length s.bytes ≡ pieces_length ps
-laid_total ps s places h =
-    let reads : LinesRead (readings_in ps) s.bytes = rw (take-length s.bytes) at h.reads in
-    pieces_total ps s.bytes reads
 
 last_length : (ps : List Piece) (p : Piece) (s t : State) (old new : DeferredTarget → Option ℕ) (n : ℕ) → Laid ps (length s.bytes) s old → Laid (ps ++ p ∷ []) (length t.bytes) t new → length t.bytes ≡ length s.bytes + n → (reading_in p).length ≡ n
 last_length ps p s t old new n h k more = omega (arith, laid_total ps s old h, laid_total (ps ++ p ∷ []) t new k, pieces_push ps p)
@@ -99,7 +82,7 @@ no_label xs x target.None one h = tt
 -- Nothing is put yet.
 pub put_none : {I M : Type 0} (meant : I → Meant M) (lens : List ℕ) (all : List (Item I)) (s : State) (places : DeferredTarget → Option ℕ) → HasRoom s.byte_room (13 + sum lens) → HasRoom s.notice_room (1 + length all) → Put meant lens all [] s s places places
 put_none meant lens all s places bytes notices = record {
-  laid = λ pieces h. ([], refl, subst (λ (z : List Piece). Laid z (length s.bytes) s places) (sym (append-nil pieces)) h);
+  laid = λ pieces h. ([], refl, subst (λ (z : List Piece). Laid z (length s.bytes) s places) (sym (append-nil pieces)) h, sym (append-nil s.notices));
   size = omega arith;
   bound = λ label spot is. cc;
   others = λ goes_to none. refl;
@@ -109,7 +92,7 @@ put_none meant lens all s places bytes notices = record {
 }
 
 -- An entry more.
-pub put_entry : {I M : Type 0} (meant : I → Meant M) (lens : List ℕ) (all xs : List (Item I)) (x : Item I) (s u t : State) (old mid new : DeferredTarget → Option ℕ) → counted x ≡ 1 → entries xs < length lens → length xs < length all → Put meant lens all xs s u old mid → GotEntry (ItemReads meant lens all (entries xs) x) (slice_index lens (entries xs)) u t mid new → Put meant lens all (xs ++ x ∷ []) s t old new
+pub put_entry : {I M : Type 0} (meant : I → Meant M) (lens : List ℕ) (all xs : List (Item I)) (x : Item I) (s u t : State) (old mid new : DeferredTarget → Option ℕ) → counted x ≡ 1 → entries xs < length lens → length xs < length all → Put meant lens all xs s u old mid → GotEntry (ItemReads meant lens all (entries xs) x) (item_told meant all x) (slice_index lens (entries xs)) u t mid new → Put meant lens all (xs ++ x ∷ []) s t old new
 put_entry {I = I} meant lens all xs x s u t old mid new one within few held got =
     let e : entries (xs ++ x ∷ []) ≡ entries xs + 1 = omega (arith, entries_push xs x, one) in
     let left : sum (drop (entries xs) lens) ≡ get_or lens (entries xs) 0 + sum (drop (entries xs + 1) lens) = sum_by-drop_more (λ (n : ℕ). n) lens (entries xs) 0 within in
@@ -123,7 +106,12 @@ put_entry {I = I} meant lens all xs x s u t old mid new one within few held got 
           let next = got.laid (pieces ++ before.0) before.2 in
           let len : (reading_in next.0).length ≡ slice_index lens (entries xs) = last_length (pieces ++ before.0) next.0 u t mid new (slice_index lens (entries xs)) before.2 next.2 got.more in
           let all_reads : EachReads meant lens all 0 (xs ++ x ∷ []) (before.0 ++ next.0 ∷ []) = reads_push meant lens all 0 (entries xs) xs before.0 x next.0 (omega arith) before.1 next.1 len in
-          (before.0 ++ next.0 ∷ [], all_reads, subst (λ (z : List Piece). Laid z (length t.bytes) t new) (append_assoc pieces before.0 (next.0 ∷ [])) next.2);
+          let here : length u.bytes ≡ length s.bytes + pieces_length before.0 = omega (arith, laid_total (pieces ++ before.0) u mid before.2, pieces_append pieces before.0, laid_total pieces s old h) in
+          let told : t.notices ≡ s.notices ++ all_told meant all (length s.bytes) (xs ++ x ∷ []) (before.0 ++ next.0 ∷ []) =
+          next.3 ∙ ap (λ (z : List Notice). z ++ item_told meant all x (length u.bytes) next.0) before.3 ∙ append_assoc s.notices (all_told meant all (length s.bytes) xs before.0) (item_told meant all x (length u.bytes) next.0)
+          ∙ ap (λ (n : ℕ). s.notices ++ (all_told meant all (length s.bytes) xs before.0 ++ item_told meant all x n next.0)) here
+          ∙ ap (λ (z : List Notice). s.notices ++ z) (sym (told_push meant lens all 0 (length s.bytes) xs before.0 x next.0 before.1)) in
+          (before.0 ++ next.0 ∷ [], all_reads, subst (λ (z : List Piece). Laid z (length t.bytes) t new) (append_assoc pieces before.0 (next.0 ∷ [])) next.2, told);
       size = subst (λ (n : ℕ). length t.bytes ≡ length s.bytes + place_in lens n) (sym e) at;
       bound = λ label spot is. got.places (target.Label (record { 0 = label })) ∙ held.bound label spot (sym (spot_same label xs x one) ∙ is);
       others = λ goes_to none. got.places goes_to ∙ held.others goes_to (no_label xs x goes_to one none);
@@ -178,7 +166,7 @@ put_bind meant lens all xs bound s u t old mid new free adds same stays held =
     (record {
       laid = λ pieces h.
           let before = held.laid pieces h in
-          (before.0, reads_bind meant lens all 0 xs before.0 bound before.1, subst (λ (z : State). Laid (pieces ++ before.0) (length u.bytes) z new) same (stays (pieces ++ before.0) (length u.bytes) before.2));
+          (before.0, reads_bind meant lens all 0 xs before.0 bound before.1, subst (λ (z : State). Laid (pieces ++ before.0) (length u.bytes) z new) same (stays (pieces ++ before.0) (length u.bytes) before.2), before.3 ∙ ap (λ (z : List Notice). s.notices ++ z) (sym (told_bind meant lens all 0 (length s.bytes) xs before.0 bound before.1)));
       size = subst (λ (n : ℕ). length u.bytes ≡ length s.bytes + place_in lens n) e held.size;
       bound = λ label spot is. bound_by meant lens all xs bound s u old mid new label spot free adds held is (cases_eq label bound.0);
       others = λ goes_to none. others_bind meant lens all xs bound s u old mid new goes_to free adds held none;

@@ -1,4 +1,4 @@
-use Rattle.std.proofs.Common.{◌≡◌, ℕ, ◌+◌, ◌<◌, ◌≤◌, arith, refl, ◌∙◌, ap, sym, subst, Option, Some, None, List, ◌++◌, length, ◌^◌, ℤ, pos, ◌-ℤ◌, length-append, Result, Ok, Err, FitsSigned, to_z, of_z}
+use Rattle.std.proofs.Common.{◌≡◌, ℕ, ◌+◌, ◌<◌, ◌≤◌, arith, refl, ◌∙◌, ap, sym, subst, Option, Some, None, List, [], ◌∷◌, ◌++◌, ◌-◌, true, length, ◌^◌, ℤ, pos, ◌-ℤ◌, length-append, Result, Ok, Err, FitsSigned, to_z, of_z}
 use Rattle.std.proofs.lemmas.Int.{ints, to_z-of_z}
 use Rattle.std.specs.Int.{w8, w32, w64}
 use Rattle.std.specs.Prelude.{IfSome, IsSome, OnOk, unwrap_or, slice_index}
@@ -14,6 +14,9 @@ use Rattle.cax64_sink.specs.Keeps.{Keeps}
 use Rattle.cax64_sink.specs.Room.{Room, FallsBy}
 use Rattle.cax64_sink.specs.Sink.{State}
 use Rattle.cax64_sink.specs.declared.DeferredTarget.{DeferredTarget}
+use Rattle.cax64_sink.specs.declared.DeferredTarget.TheVariants as target
+use Rattle.cax64_sink.specs.declared.Label.{Label}
+use Rattle.cax64_sink.specs.declared.Notice.{Notice}
 use Rattle.x64_code_buffer.proofs.Jumped.{len_same, of_some}
 use Rattle.x64_code_buffer.proofs.Jumping.{short_len}
 use Rattle.x64_code_buffer.specs.Binding.{SamePlaces}
@@ -22,9 +25,10 @@ use Rattle.x64_code_buffer.specs.Laid.{Laid, LaidOn, Piece, open_jump, parts_in,
 use Rattle.x64_code_buffer.specs.declared.jump.Condition.TheVariants as cond
 use Rattle.x64_code_buffer.specs.declared.jump.Jump.{Jump}
 use Rattle.x64_code_buffer.specs.declared.jump.Jump.TheVariants.{Always, Call, If}
-use Rattle.x64_assemble.specs.Assembled.{InstReads, JumpReads, distance_in, long_len, row_of_len}
+use Rattle.x64_assemble.specs.Assembled.{InstReads, JumpReads, distance_in, inst_told, jump_told, long_len, row_of_len}
 use Rattle.x64_assemble.specs.Putting.{GotEntry}
 use Rattle.x64_assemble.proofs.Pieces.{fewer}
+use Rattle.x64_assemble.proofs.Told.{tells_inst, tells_nothing, tells_use}
 
 -- One entry that is put.
 
@@ -35,9 +39,9 @@ given_ok (Err e) v is h = cc
 falls_more : (s t : Room) (n m : ℕ) → n ≤ m → FallsBy s t n → FallsBy s t m
 falls_more s t n m le h = λ k room. h k (fewer s (k + n) (k + m) (omega arith) room)
 
-got_from : (kind : LineReading → Piece) (meant : PartsOf Line) (reads : Piece → Type 0) (size told : ℕ) (s t : State) (old new : DeferredTarget → Option ℕ) (added : List ℕ) → ((r : LineReading) → ◌≡◌ {A = PartsOf Line} (parts_in r) meant → reads (kind r)) → t.bytes ≡ s.bytes ++ added → length added ≡ size → SamePlaces old new → Keeps s t → FallsBy s.byte_room t.byte_room size → FallsBy s.notice_room t.notice_room told → told ≤ 1 → ((pieces : List Piece) → Laid pieces (length s.bytes) s old → LaidOn kind meant pieces t new) → GotEntry reads size s t old new
-got_from kind meant reads size told s t old new added as_meant bytes len places keeps room notices one laid = record {
-  laid = λ pieces h. let on = laid pieces h in (kind on.reading, as_meant on.reading on.same, on.laid);
+got_from : (kind : LineReading → Piece) (meant : PartsOf Line) (reads : Piece → Type 0) (tells : ℕ → Piece → List Notice) (size told : ℕ) (s t : State) (old new : DeferredTarget → Option ℕ) (added : List ℕ) → ((r : LineReading) → ◌≡◌ {A = PartsOf Line} (parts_in r) meant → reads (kind r)) → t.bytes ≡ s.bytes ++ added → length added ≡ size → SamePlaces old new → Keeps s t → FallsBy s.byte_room t.byte_room size → FallsBy s.notice_room t.notice_room told → told ≤ 1 → ((pieces : List Piece) → Laid pieces (length s.bytes) s old → LaidOn kind meant pieces t new) → ((pieces : List Piece) (p : Piece) → Laid pieces (length s.bytes) s old → Laid (pieces ++ p ∷ []) (length t.bytes) t new → t.notices ≡ s.notices ++ tells (length s.bytes) p) → GotEntry reads tells size s t old new
+got_from kind meant reads tells size told s t old new added as_meant bytes len places keeps room notices one laid are_told = record {
+  laid = λ pieces h. let on = laid pieces h in (kind on.reading, as_meant on.reading on.same, on.laid, are_told pieces (kind on.reading) h on.laid);
   more = ap length bytes ∙ length-append s.bytes added ∙ ap (λ (n : ℕ). length s.bytes + n) len;
   places = places;
   keeps = keeps;
@@ -45,10 +49,10 @@ got_from kind meant reads size told s t old new added as_meant bytes len places 
   notice_room = falls_more s.notice_room t.notice_room told 1 one notices;
 }
 
-pub got_inst : {M : Type 0} (m : Meant M) (n told : ℕ) (s t : State) (old new : DeferredTarget → Option ℕ) → n ≡ len m → AddsInstruction m s t → SamePlaces old new → Keeps s t → FallsBy s.byte_room t.byte_room (len m) → FallsBy s.notice_room t.notice_room told → told ≤ 1 → ((pieces : List Piece) → Laid pieces (length s.bytes) s old → LaidOn whole (parts_as (line_of m.parts.row) m.parts) pieces t new) → GotEntry (InstReads m.parts) n s t old new
-got_inst m n told s t old new size adds places keeps room notices one laid =
-    subst (λ (k : ℕ). GotEntry (InstReads m.parts) k s t old new) (sym size)
-    (got_from whole (parts_as (line_of m.parts.row) m.parts) (InstReads m.parts) (len m) told s t old new adds.added (λ r e. e) adds.bytes adds.length places keeps room notices one laid)
+pub got_inst : {M : Type 0} (m : Meant M) (n told : ℕ) (s t : State) (old new : DeferredTarget → Option ℕ) → n ≡ len m → s.records ≡ true → AddsInstruction m s t → SamePlaces old new → Keeps s t → FallsBy s.byte_room t.byte_room (len m) → FallsBy s.notice_room t.notice_room told → told ≤ 1 → ((pieces : List Piece) → Laid pieces (length s.bytes) s old → LaidOn whole (parts_as (line_of m.parts.row) m.parts) pieces t new) → GotEntry (InstReads m.parts) (inst_told m.memory) n s t old new
+got_inst m n told s t old new size records adds places keeps room notices one laid =
+    subst (λ (k : ℕ). GotEntry (InstReads m.parts) (inst_told m.memory) k s t old new) (sym size)
+    (got_from whole (parts_as (line_of m.parts.row) m.parts) (InstReads m.parts) (inst_told m.memory) (len m) told s t old new adds.added (λ r e. e) adds.bytes adds.length places keeps room notices one laid (tells_inst m s t old new records adds))
 
 -- how many bytes a longer form has
 long_line_len : (jump : Jump) (z : ℤ) → line_len (line_of (long_row jump)) (jump_parts (line_of (long_row jump)) z) ≡ long_len jump
@@ -83,24 +87,24 @@ far_row (If condition) = refl
 meant_is : (row other : Row) (z d : ℤ) → row ≡ other → z ≡ d → ◌≡◌ {A = PartsOf Line} (jump_parts (line_of row) z) (jump_parts (line_of other) d)
 meant_is row other z d rows same = ap (λ (w : Row). jump_parts {K = Line} (line_of w) z) rows ∙ ap (λ (y : ℤ). jump_parts {K = Line} (line_of other) y) same
 
-pub got_far : (jump : Jump) (lens : List ℕ) (n spot : ℕ) (z : ℤ) (s t : State) (old new : DeferredTarget → Option ℕ) → slice_index lens n ≡ long_len jump → z ≡ distance_in lens n spot → AddsAt (long_row jump) z s t → SamePlaces old new → Keeps s t → FallsBy s.byte_room t.byte_room (len_of (jump_parts (long_row jump) z)) → FallsBy s.notice_room t.notice_room 0 → ((pieces : List Piece) → Laid pieces (length s.bytes) s old → LaidOn whole (jump_parts (line_of (long_row jump)) z) pieces t new) → GotEntry (JumpReads lens n jump (Some spot)) (slice_index lens n) s t old new
-got_far jump lens n spot z s t old new size same adds places keeps room notices laid =
+pub got_far : (jump : Jump) (label : Label) (lens : List ℕ) (n spot : ℕ) (z : ℤ) (s t : State) (old new : DeferredTarget → Option ℕ) → slice_index lens n ≡ long_len jump → z ≡ distance_in lens n spot → AddsAt (long_row jump) z s t → SamePlaces old new → Keeps s t → FallsBy s.byte_room t.byte_room (len_of (jump_parts (long_row jump) z)) → FallsBy s.notice_room t.notice_room 0 → ((pieces : List Piece) → Laid pieces (length s.bytes) s old → LaidOn whole (jump_parts (line_of (long_row jump)) z) pieces t new) → GotEntry (JumpReads lens n jump (Some spot)) (jump_told (Some spot) label) (slice_index lens n) s t old new
+got_far jump label lens n spot z s t old new size same adds places keeps room notices laid =
     let all : len_of (jump_parts (long_row jump) z) ≡ slice_index lens n = long_is jump z ∙ sym size in
     let row : row_of_len jump (slice_index lens n) ≡ long_row jump = ap (row_of_len jump) size ∙ far_row jump in
     let meant : ◌≡◌ {A = PartsOf Line} (jump_parts (line_of (long_row jump)) z) (jump_parts (line_of (row_of_len jump (slice_index lens n))) (distance_in lens n spot)) = meant_is (long_row jump) (row_of_len jump (slice_index lens n)) z (distance_in lens n spot) (sym row) same in
-    got_from whole (jump_parts (line_of (long_row jump)) z) (JumpReads lens n jump (Some spot)) (slice_index lens n) 0 s t old new adds.added (λ r e. e ∙ meant) adds.bytes (adds.length ∙ all) places keeps (subst (FallsBy s.byte_room t.byte_room) all room) notices (omega arith) laid
+    got_from whole (jump_parts (line_of (long_row jump)) z) (JumpReads lens n jump (Some spot)) (jump_told (Some spot) label) (slice_index lens n) 0 s t old new adds.added (λ r e. e ∙ meant) adds.bytes (adds.length ∙ all) places keeps (subst (FallsBy s.byte_room t.byte_room) all room) notices (omega arith) laid (λ pieces p h k. tells_nothing s t adds.notices)
 
-pub got_open : (jump : Jump) (goes_to : DeferredTarget) (lens : List ℕ) (n : ℕ) (s t : State) (old new : DeferredTarget → Option ℕ) → slice_index lens n ≡ long_len jump → AddsJump jump goes_to s t → SamePlaces old new → Keeps s t → FallsBy s.byte_room t.byte_room (len_of (jump_parts (long_row jump) (pos 0))) → FallsBy s.notice_room t.notice_room 1 → ((pieces : List Piece) → Laid pieces (length s.bytes) s old → LaidOn open_jump (jump_parts (line_of (long_row jump)) (pos 0)) pieces t new) → GotEntry (JumpReads lens n jump None) (slice_index lens n) s t old new
-got_open jump goes_to lens n s t old new size adds places keeps room notices laid =
+pub got_open : (jump : Jump) (label : Label) (lens : List ℕ) (n : ℕ) (s t : State) (old new : DeferredTarget → Option ℕ) → slice_index lens n ≡ long_len jump → AddsJump jump (target.Label label) s t → SamePlaces old new → Keeps s t → FallsBy s.byte_room t.byte_room (len_of (jump_parts (long_row jump) (pos 0))) → FallsBy s.notice_room t.notice_room 1 → ((pieces : List Piece) → Laid pieces (length s.bytes) s old → LaidOn open_jump (jump_parts (line_of (long_row jump)) (pos 0)) pieces t new) → GotEntry (JumpReads lens n jump None) (jump_told None label) (slice_index lens n) s t old new
+got_open jump label lens n s t old new size adds places keeps room notices laid =
     let all : len_of (jump_parts (long_row jump) (pos 0)) ≡ slice_index lens n = long_is jump (pos 0) ∙ sym size in
-    got_from open_jump (jump_parts (line_of (long_row jump)) (pos 0)) (JumpReads lens n jump None) (slice_index lens n) 1 s t old new adds.added (λ r e. e) adds.bytes (adds.length ∙ all) places keeps (subst (FallsBy s.byte_room t.byte_room) all room) notices (omega arith) laid
+    got_from open_jump (jump_parts (line_of (long_row jump)) (pos 0)) (JumpReads lens n jump None) (jump_told None label) (slice_index lens n) 1 s t old new adds.added (λ r e. e) adds.bytes (adds.length ∙ all) places keeps (subst (FallsBy s.byte_room t.byte_room) all room) notices (omega arith) laid (tells_use (length s.bytes + length adds.added - 4) (target.Label label) s t old new adds.notices)
 
 some_row : (o : Option Row) → IsSome o → (row : Row) × (o ≡ Some row)
 some_row None h = cc
 some_row (Some row) h = (row, refl)
 
-pub got_near : (jump : Jump) (lens : List ℕ) (n spot : ℕ) (z : ℤ) (s t : State) (old new : DeferredTarget → Option ℕ) → IsSome (short_row jump) → slice_index lens n ≡ 2 → z ≡ distance_in lens n spot → AddsNear jump z s t → SamePlaces old new → Keeps s t → FallsBy s.byte_room t.byte_room 2 → FallsBy s.notice_room t.notice_room 0 → ((pieces : List Piece) → Laid pieces (length s.bytes) s old → IfSome (short_row jump) (λ row. LaidOn whole (jump_parts (line_of row) z) pieces t new)) → GotEntry (JumpReads lens n jump (Some spot)) (slice_index lens n) s t old new
-got_near jump lens n spot z s t old new there size same near places keeps room notices laid =
+pub got_near : (jump : Jump) (label : Label) (lens : List ℕ) (n spot : ℕ) (z : ℤ) (s t : State) (old new : DeferredTarget → Option ℕ) → IsSome (short_row jump) → slice_index lens n ≡ 2 → z ≡ distance_in lens n spot → AddsNear jump z s t → SamePlaces old new → Keeps s t → FallsBy s.byte_room t.byte_room 2 → FallsBy s.notice_room t.notice_room 0 → ((pieces : List Piece) → Laid pieces (length s.bytes) s old → IfSome (short_row jump) (λ row. LaidOn whole (jump_parts (line_of row) z) pieces t new)) → GotEntry (JumpReads lens n jump (Some spot)) (jump_told (Some spot) label) (slice_index lens n) s t old new
+got_near jump label lens n spot z s t old new there size same near places keeps room notices laid =
     let found : (row : Row) × (short_row jump ≡ Some row) = some_row (short_row jump) there in
     let row : Row = found.0 in
     let is : short_row jump ≡ Some row = found.1 in
@@ -109,8 +113,8 @@ got_near jump lens n spot z s t old new there size same near places keeps room n
     let all : length adds.added ≡ slice_index lens n = adds.length ∙ sym (len_same row z) ∙ two ∙ sym size in
     let rows : row_of_len jump (slice_index lens n) ≡ row = ap (row_of_len jump) size ∙ ap (λ (o : Option Row). unwrap_or o (long_row jump)) is in
     let meant : ◌≡◌ {A = PartsOf Line} (jump_parts (line_of row) z) (jump_parts (line_of (row_of_len jump (slice_index lens n))) (distance_in lens n spot)) = meant_is row (row_of_len jump (slice_index lens n)) z (distance_in lens n spot) (sym rows) same in
-    got_from whole (jump_parts (line_of row) z) (JumpReads lens n jump (Some spot)) (slice_index lens n) 0 s t old new adds.added (λ r e. e ∙ meant) adds.bytes all places keeps (subst (FallsBy s.byte_room t.byte_room) (sym size) room) notices (omega arith)
-    (λ pieces h. of_some (λ (w : Row). LaidOn whole (jump_parts (line_of w) z) pieces t new) (short_row jump) row is (laid pieces h))
+    got_from whole (jump_parts (line_of row) z) (JumpReads lens n jump (Some spot)) (jump_told (Some spot) label) (slice_index lens n) 0 s t old new adds.added (λ r e. e ∙ meant) adds.bytes all places keeps (subst (FallsBy s.byte_room t.byte_room) (sym size) room) notices (omega arith)
+    (λ pieces h. of_some (λ (w : Row). LaidOn whole (jump_parts (line_of w) z) pieces t new) (short_row jump) row is (laid pieces h)) (λ pieces p h k. tells_nothing s t adds.notices)
 
 -- What is computed of two places is their distance.
 

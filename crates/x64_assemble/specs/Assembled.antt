@@ -1,6 +1,9 @@
 -- What a list of instructions, jumps to labels and places of labels becomes in a buffer.
-use Rattle.std.specs.Prelude.{◌≡◌, ℕ, suc, ◌+◌, ℤ, pos, ◌-ℤ◌, ◌==◌, if◌then◌else◌, Option, Some, None, option_map, unwrap_or, List, [], ◌∷◌, ◌++◌, length, sum, slice_index}
+use Rattle.std.specs.Prelude.{◌≡◌, ℕ, suc, ◌+◌, ℤ, pos, ◌-ℤ◌, ◌==◌, if◌then◌else◌, Option, Some, None, option_map, unwrap_or, List, [], ◌∷◌, ◌++◌, map, length, sum, slice_index}
+use Rattle.cax64_address.specs.declared.amode.Amode.{Amode}
+use Rattle.cax64_address.specs.declared.amode.Amode.TheVariants.{ImmReg, ImmRegRegShift, RipRelative}
 use Rattle.cax64_encoder.specs.Meant.{Meant, len}
+use Rattle.cax64_encoder.specs.Notices.{trap_notice}
 use Rattle.cax64_machine_code.specs.ReadLine.{parts_as}
 use Rattle.cax64_machine_code.specs.Reading.{Parts, PartsOf}
 use Rattle.cax64_machine_code.specs.Rows.{line_of}
@@ -9,8 +12,11 @@ use Rattle.cax64_machine_code.specs.declared.row.Row.{Row}
 use Rattle.cax64_sink.specs.Sink.{State}
 use Rattle.cax64_sink.specs.declared.DeferredTarget.{DeferredTarget}
 use Rattle.cax64_sink.specs.declared.DeferredTarget.TheVariants as target
+use Rattle.cax64_sink.specs.declared.Label.{Label}
+use Rattle.cax64_sink.specs.declared.Notice.{Notice}
+use Rattle.cax64_sink.specs.declared.Notice.TheVariants.{Target}
 use Rattle.x64_code_buffer.specs.Jump.{jump_parts, long_row, short_row}
-use Rattle.x64_code_buffer.specs.Laid.{Laid, Piece, open_jump, parts_in, reading_in, whole}
+use Rattle.x64_code_buffer.specs.Laid.{Laid, Piece, open_jump, parts_in, piece_field, reading_in, whole}
 use Rattle.x64_code_buffer.specs.declared.jump.Jump.{Jump}
 use Rattle.x64_code_buffer.specs.declared.jump.Jump.TheVariants.{Always, Call, If}
 use Rattle.x64_layout.specs.Layout.{IsLeast, place_in}
@@ -89,20 +95,47 @@ EachReads meant lens all n (item.Inst inst ∷ later) (p ∷ pieces) = InstReads
 EachReads meant lens all n (item.Jump jump to ∷ later) [] = ⊥
 EachReads meant lens all n (item.Jump jump to ∷ later) (p ∷ pieces) = JumpReads lens n jump (spot_of to.0 all) p × ((reading_in p).length ≡ slice_index lens n) × EachReads meant lens all (n + 1) later pieces
 
+-- the use of a target at the field of a piece that begins after so many bytes
+abbrev pub use_told : DeferredTarget → ℕ → Piece → List Notice
+use_told goes_to at p = map (λ field. Target field goes_to) (piece_field at p)
+
+-- what an instruction tells, by its memory operand: the trap where it begins, or the use of its target
+abbrev pub inst_told : {M : Type 0} → Option (Amode M) → ℕ → Piece → List Notice
+inst_told None at p = []
+inst_told (Some (ImmReg base simm32 trap)) at p = trap_notice trap at
+inst_told (Some (ImmRegRegShift base index scale simm32 trap)) at p = trap_notice trap at
+inst_told (Some (RipRelative goes_to)) at p = use_told goes_to at p
+
+-- what a jump tells: the use of its label, if the list doesn't bind it
+abbrev pub jump_told : Option ℕ → Label → ℕ → Piece → List Notice
+jump_told None to at p = use_told (target.Label to) at p
+jump_told (Some spot) to at p = []
+
+-- what all of them tell, in order, where the first begins after so many bytes
+abbrev pub all_told : {I M : Type 0} → (I → Meant M) → List (Item I) → ℕ → List (Item I) → List Piece → List Notice
+all_told meant all at [] pieces = []
+all_told meant all at (item.Bind bound ∷ later) pieces = all_told meant all at later pieces
+all_told meant all at (item.Inst inst ∷ later) [] = []
+all_told meant all at (item.Inst inst ∷ later) (p ∷ pieces) = inst_told (meant inst).memory at p ++ all_told meant all (at + (reading_in p).length) later pieces
+all_told meant all at (item.Jump jump to ∷ later) [] = []
+all_told meant all at (item.Jump jump to ∷ later) (p ∷ pieces) = jump_told (spot_of to.0 all) to at p ++ all_told meant all (at + (reading_in p).length) later pieces
+
 -- a target that the list doesn't bind
 abbrev pub IsNoLabelOf : {I : Type 0} → List (Item I) → DeferredTarget → Type 0
 IsNoLabelOf items (target.Label label) = spot_of label.0 items ≡ None
 IsNoLabelOf items (target.Constant constant) = Unit {0}
 IsNoLabelOf items target.None = Unit {0}
 
--- A buffer that had so many bytes has got a list: behind the pieces that were there one for each instruction and jump; each
--- label of the list is bound to the place of its spot, and no other binding changes; the lengths are the least.
-pub record Assembled {I M : Type 0} (meant : I → Meant M) (items : List (Item I)) (pieces : List Piece) (base : ℕ) (old new : DeferredTarget → Option ℕ) (s : State) : Type 0 where
+-- A buffer has got a list: behind the pieces that were there one for each instruction and jump; behind what was told of them
+-- what each of these tells, in order; each label of the list is bound to the place of its spot, and no other binding
+-- changes; the lengths are the least.
+pub record Assembled {I M : Type 0} (meant : I → Meant M) (items : List (Item I)) (pieces : List Piece) (before after : State) (old new : DeferredTarget → Option ℕ) : Type 0 where
   pub lens : List ℕ
   pub least : IsLeast (spans_of (λ i. len (meant i)) items items) lens
   pub more : List Piece
   pub reads : EachReads meant lens items 0 items more
-  pub laid : Laid (pieces ++ more) (length s.bytes) s new
-  pub length : length s.bytes ≡ base + sum lens
-  pub bound : (label spot : ℕ) → spot_of label items ≡ Some spot → new (target.Label (record { 0 = label })) ≡ Some (base + place_in lens spot)
+  pub laid : Laid (pieces ++ more) (length after.bytes) after new
+  pub told : after.notices ≡ before.notices ++ all_told meant items (length before.bytes) items more
+  pub length : length after.bytes ≡ length before.bytes + sum lens
+  pub bound : (label spot : ℕ) → spot_of label items ≡ Some spot → new (target.Label (record { 0 = label })) ≡ Some (length before.bytes + place_in lens spot)
   pub others : (target : DeferredTarget) → IsNoLabelOf items target → new target ≡ old target

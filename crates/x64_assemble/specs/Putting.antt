@@ -8,10 +8,11 @@ use Rattle.cax64_sink.specs.Sink.{State}
 use Rattle.cax64_sink.specs.declared.Label.{Label}
 use Rattle.cax64_sink.specs.declared.DeferredTarget.{DeferredTarget}
 use Rattle.cax64_sink.specs.declared.DeferredTarget.TheVariants as target
+use Rattle.cax64_sink.specs.declared.Notice.{Notice}
 use Rattle.x64_code_buffer.specs.Binding.{SamePlaces}
 use Rattle.x64_code_buffer.specs.Laid.{Laid, Piece}
 use Rattle.x64_layout.specs.Layout.{place_in}
-use Rattle.x64_assemble.specs.Assembled.{EachReads, IsNoLabelOf, entries, spot_of}
+use Rattle.x64_assemble.specs.Assembled.{EachReads, IsNoLabelOf, all_told, entries, spot_of}
 use Rattle.x64_assemble.specs.declared.binders.Binder.{Binder}
 use Rattle.x64_assemble.specs.declared.item.Item.{Item}
 use Rattle.x64_assemble.specs.declared.item.Item.TheVariants as item
@@ -38,9 +39,9 @@ CanEncode {I = I} meant state items = (k : ℕ) (i : I) → slice_get items k �
 abbrev pub AreFree : {I : Type 0} → ℕ → (DeferredTarget → Option ℕ) → List (Item I) → Type 0
 AreFree given places items = (k : ℕ) (label : Label) → slice_get items k ≡ Some (item.Bind label) → (label.0 < given) × (places (target.Label label) ≡ None) × (spot_of label.0 (take k items) ≡ None)
 
--- A buffer has got an entry: a piece that reads so, of so many bytes.
-pub record GotEntry (reads : Piece → Type 0) (size : ℕ) (s t : State) (old new : DeferredTarget → Option ℕ) : Type 0 where
-  pub laid : (pieces : List Piece) → Laid pieces (length s.bytes) s old → (p : Piece) × reads p × Laid (pieces ++ p ∷ []) (length t.bytes) t new
+-- A buffer has got an entry: a piece that reads so, of so many bytes, that tells this where it begins.
+pub record GotEntry (reads : Piece → Type 0) (tells : ℕ → Piece → List Notice) (size : ℕ) (s t : State) (old new : DeferredTarget → Option ℕ) : Type 0 where
+  pub laid : (pieces : List Piece) → Laid pieces (length s.bytes) s old → (p : Piece) × reads p × Laid (pieces ++ p ∷ []) (length t.bytes) t new × (t.notices ≡ s.notices ++ tells (length s.bytes) p)
   pub more : length t.bytes ≡ length s.bytes + size
   pub places : SamePlaces old new
   pub keeps : Keeps s t
@@ -49,7 +50,7 @@ pub record GotEntry (reads : Piece → Type 0) (size : ℕ) (s t : State) (old n
 
 -- It has got the first items of a list, and has room for the others, and 13 bytes and a notice more.
 pub record Put {I M : Type 0} (meant : I → Meant M) (lens : List ℕ) (all done : List (Item I)) (s t : State) (old new : DeferredTarget → Option ℕ) : Type 0 where
-  pub laid : (pieces : List Piece) → Laid pieces (length s.bytes) s old → (more : List Piece) × EachReads meant lens all 0 done more × Laid (pieces ++ more) (length t.bytes) t new
+  pub laid : (pieces : List Piece) → Laid pieces (length s.bytes) s old → (more : List Piece) × EachReads meant lens all 0 done more × Laid (pieces ++ more) (length t.bytes) t new × (t.notices ≡ s.notices ++ all_told meant all (length s.bytes) done more)
   pub size : length t.bytes ≡ length s.bytes + place_in lens (entries done)
   pub bound : (label spot : ℕ) → spot_of label done ≡ Some spot → new (target.Label (record { 0 = label })) ≡ Some (length s.bytes + place_in lens spot)
   pub others : (target : DeferredTarget) → IsNoLabelOf done target → new target ≡ old target

@@ -66,7 +66,7 @@ fn put_least<I: Instruction, B: Allocator>(
     requires lens { length lens.old ≡ length spans.now }
     requires places { length places.old ≡ length spans.now + 1 }
     requires rooms { length rooms.old ≡ length spans.now }
-    ensures assembled { (pieces : List Piece) → Laid pieces (length (buffer_state buffer.old).bytes) (buffer_state buffer.old) (places_of buffer.old) → OnOk result (Assembled (λ i. I.meant i (buffer_state buffer.old).offsets) items.now pieces (length (buffer_state buffer.old).bytes) (places_of buffer.old) (places_of buffer.new) (buffer_state buffer.new)) }
+    ensures assembled { (pieces : List Piece) → Laid pieces (length (buffer_state buffer.old).bytes) (buffer_state buffer.old) (places_of buffer.old) → OnOk result (Assembled (λ i. I.meant i (buffer_state buffer.old).offsets) items.now pieces (buffer_state buffer.old) (buffer_state buffer.new) (places_of buffer.old) (places_of buffer.new)) }
     ensures error { IfErr result (λ e. e ≡ LayoutError.NoMemory) }
     ensures unchanged { OnErr result (AsBefore (buffer_state buffer.old) (buffer_state buffer.new)) }
     ensures unbound { OnErr result (SamePlaces (places_of buffer.old) (places_of buffer.new)) }
@@ -134,7 +134,7 @@ impl<A: Allocator> Layout<A> {
         items: &[Item<I>],
         buffer: &mut CodeBuffer<B>,
     ) -> Result<(), LayoutError>
-        ensures assembled { (pieces : List Piece) → Laid pieces (length (buffer_state buffer.old).bytes) (buffer_state buffer.old) (places_of buffer.old) → OnOk result (Assembled (λ i. I.meant i (buffer_state buffer.old).offsets) items.now pieces (length (buffer_state buffer.old).bytes) (places_of buffer.old) (places_of buffer.new) (buffer_state buffer.new)) }
+        ensures assembled { (pieces : List Piece) → Laid pieces (length (buffer_state buffer.old).bytes) (buffer_state buffer.old) (places_of buffer.old) → OnOk result (Assembled (λ i. I.meant i (buffer_state buffer.old).offsets) items.now pieces (buffer_state buffer.old) (buffer_state buffer.new) (places_of buffer.old) (places_of buffer.new)) }
         ensures many { (result ≡ Err LayoutError.TooMany) ↔ (165191049 < length items.now) }
         ensures first { IfErr result (λ e. IfSome (number_in e) (λ n. IsFirstRefusal (λ i. fault_in (buffer_state buffer.old) (I.meant i)) (label_count buffer.old) (places_of buffer.old) items.now n e)) }
         ensures tested { OnOk result ((n : ℕ) → refusal_at (λ i. fault_in (buffer_state buffer.old) (I.meant i)) (label_count buffer.old) (places_of buffer.old) items.now n ≡ None) }

@@ -1,6 +1,6 @@
 //! Laws of lists that were put.
 
-ghost use Rattle.std.specs.Prelude.{◌≡◌, ◌+◌, ℕ, pos, List, Some, option_map};
+ghost use Rattle.std.specs.Prelude.{◌≡◌, ◌+◌, ℕ, pos, List, Some, length, option_map};
 ghost use Rattle.cax64_machine_code.specs.Address.{modulo_64_bits};
 ghost use Rattle.cax64_sink.specs.Sink.{State};
 ghost use Rattle.cax64_sink.specs.declared.DeferredTarget.{DeferredTarget};
@@ -15,5 +15,5 @@ use cax64_encoder::instruction::Instruction;
 /// A jump of a list to a label of the list leads to the place that the label is bound to: where the n-th entry ends, its
 /// distance added. It does nothing: its clause is the law.
 pub fn a_jump_leads_to_its_label<I: Instruction>()
-    ensures { (offsets : ℕ → Option ℤ) (items : List (Item I)) (pieces : List Piece) (base : ℕ) (old new : DeferredTarget → Option ℕ) (s : State) (put : Assembled (λ i. I.meant i offsets) items pieces base old new s) (n label spot : ℕ) → spot_of label items ≡ Some spot → led_to (Some (distance_in put.lens n spot)) (base + place_in put.lens (n + 1)) ≡ option_map (λ place. modulo_64_bits (pos place)) (new (DeferredTarget.Label (record { 0 = label }))) }
+    ensures { (offsets : ℕ → Option ℤ) (items : List (Item I)) (pieces : List Piece) (before after : State) (old new : DeferredTarget → Option ℕ) (put : Assembled (λ i. I.meant i offsets) items pieces before after old new) (n label spot : ℕ) → spot_of label items ≡ Some spot → led_to (Some (distance_in put.lens n spot)) (length before.bytes + place_in put.lens (n + 1)) ≡ option_map (λ place. modulo_64_bits (pos place)) (new (DeferredTarget.Label (record { 0 = label }))) }
 {}

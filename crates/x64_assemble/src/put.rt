@@ -5,7 +5,7 @@ ghost use Rattle.cax64_encoder.specs.Instruction.{len_in};
 ghost use Rattle.cax64_sink.specs.Room.{HasRoom};
 ghost use Rattle.x64_code_buffer.specs.Buffer.{buffer_state, label_count, places_of};
 ghost use Rattle.x64_layout.specs.Layout.{AreSpans, ArePlaces, IsLayout, Stands};
-ghost use Rattle.x64_assemble.specs.Assembled.{JumpReads, span_of, spans_of};
+ghost use Rattle.x64_assemble.specs.Assembled.{JumpReads, jump_told, span_of, spans_of};
 ghost use Rattle.x64_assemble.specs.Putting.{AreBinders, AreFree, CanEncode, GotEntry, Put};
 
 use crate::binders::{Binder, spot_in};
@@ -33,7 +33,7 @@ fn put_jump<B: Allocator>(
     requires spot { IfSome spot (λ spot. spot ≤ length lens.now) }
     requires byte_room { HasRoom (buffer_state buffer.old).byte_room 13 }
     requires notice_room { HasRoom (buffer_state buffer.old).notice_room 1 }
-    ensures got { GotEntry (JumpReads lens.now n jump spot) (slice_index lens.now n) (buffer_state buffer.old) (buffer_state buffer.new) (places_of buffer.old) (places_of buffer.new) }
+    ensures got { GotEntry (JumpReads lens.now n jump spot) (jump_told spot label) (slice_index lens.now n) (buffer_state buffer.old) (buffer_state buffer.new) (places_of buffer.old) (places_of buffer.new) }
     ensures labels { label_count buffer.new ≡ label_count buffer.old }
 {
     let Some(spot) = spot else {

@@ -62,4 +62,4 @@ returns-clause-assembled g c = λ pieces h.
     let offsets : u.offsets ≡ s.offsets = c.reserve.ensures.as_before.offsets in
     let least : IsLeast (spans_of (λ i. len (g.I.Instruction.meant i s.offsets)) items items) lens = subst (λ (z : List Span). IsLeast z lens) c.requires.spans c.least_layout.ensures.least in
     let put : Put (λ i. g.I.Instruction.meant i s.offsets) lens items items u t mid new = subst (λ (o : ℕ → Option ℤ). Put (λ i. g.I.Instruction.meant i o) lens items items u t mid new) offsets c.put_items.ensures.put in
-    assembled (λ i. g.I.Instruction.meant i s.offsets) items lens pieces s u t old mid new least c.reserve.ensures.as_before.bytes c.reserve.ensures.places (c.reserve.ensures.filled.laid pieces (length s.bytes) h) put
+    assembled (λ i. g.I.Instruction.meant i s.offsets) items lens pieces s u t old mid new least c.reserve.ensures.as_before.bytes c.reserve.ensures.as_before.notices c.reserve.ensures.places (c.reserve.ensures.filled.laid pieces (length s.bytes) h) put

@@ -9,7 +9,7 @@ use Rattle.cax64_sink.specs.declared.DeferredTarget.TheVariants as target
 use Rattle.x64_code_buffer.specs.Buffer.{buffer_state, label_count, places_of}
 use Rattle.x64_layout.proofs.Growth.{layout_bytes}
 use Rattle.x64_layout.specs.Layout.{Stands}
-use Rattle.x64_assemble.specs.Assembled.{InstReads, JumpReads, entries, span_of, spot_of}
+use Rattle.x64_assemble.specs.Assembled.{InstReads, JumpReads, entries, inst_told, jump_told, span_of, spot_of}
 use Rattle.x64_assemble.specs.Putting.{GotEntry, Put}
 use Rattle.x64_assemble.specs.declared.item.Item.{Item}
 use Rattle.x64_assemble.specs.declared.item.Item.TheVariants as item
@@ -121,10 +121,10 @@ loop-item-preserved g c =
           let r = w.push.result in
           let offsets : u.offsets ≡ s.offsets = held.put.keeps.offsets in
           let long : slice_index lens n ≡ len (g.I.Instruction.meant inst u.offsets) = subst (λ (o : ℕ → Option ℤ). slice_index lens n ≡ len (g.I.Instruction.meant inst o)) (sym offsets) at.1 in
-          let got : GotEntry (InstReads (g.I.Instruction.meant inst u.offsets).parts) (slice_index lens n) u t mid new =
-          got_inst (g.I.Instruction.meant inst u.offsets) (slice_index lens n) (notices_in u (g.I.Instruction.meant inst)) u t mid new long (given_ok r _ ok put.adds) put.places put.keeps put.byte_room put.notice_room put.most_notices
+          let got : GotEntry (InstReads (g.I.Instruction.meant inst u.offsets).parts) (inst_told (g.I.Instruction.meant inst u.offsets).memory) (slice_index lens n) u t mid new =
+          got_inst (g.I.Instruction.meant inst u.offsets) (slice_index lens n) (notices_in u (g.I.Instruction.meant inst)) u t mid new long refl (given_ok r _ ok put.adds) put.places put.keeps put.byte_room put.notice_room put.most_notices
           (λ pieces h. given_ok r _ ok (put.laid pieces h)) in
-          let here : GotEntry (InstReads (meant inst).parts) (slice_index lens n) u t mid new = subst (λ (o : ℕ → Option ℤ). GotEntry (InstReads (g.I.Instruction.meant inst o).parts) (slice_index lens n) u t mid new) offsets got in
+          let here : GotEntry (InstReads (meant inst).parts) (inst_told (meant inst).memory) (slice_index lens n) u t mid new = subst (λ (o : ℕ → Option ℤ). GotEntry (InstReads (g.I.Instruction.meant inst o).parts) (inst_told (g.I.Instruction.meant inst o).memory) (slice_index lens n) u t mid new) offsets got in
           let next : Put meant lens items (take k items ++ y ∷ []) s t old new = put_entry meant lens items (take k items) y s u t old mid new refl at.0 few held.put here in
           let all : Put meant lens items (take (k + 1) items) s t old new = subst (λ (z : List (Item g.row.I.Denot)). Put meant lens items z s t old new) (sym (take_next items k x y within c.item-item.is e)) next in
           record {
@@ -142,8 +142,8 @@ loop-item-preserved g c =
           let t : State = buffer_state w.put_jump.new.buffer in
           let new : DeferredTarget → Option ℕ = places_of w.put_jump.new.buffer in
           let spot : w.spot_in-spot.result ≡ spot_of label.0 items = w.spot_in-spot.ensures ∙ c.requires.binders label.0 in
-          let got : GotEntry (JumpReads lens c.loop-item.n jump (spot_of label.0 items)) (slice_index lens c.loop-item.n) u t mid new = subst (λ (o : Option ℕ). GotEntry (JumpReads lens c.loop-item.n jump o) (slice_index lens c.loop-item.n) u t mid new) spot w.put_jump.ensures.got in
-          let here : GotEntry (JumpReads lens n jump (spot_of label.0 items)) (slice_index lens n) u t mid new = subst (λ (m : ℕ). GotEntry (JumpReads lens m jump (spot_of label.0 items)) (slice_index lens m) u t mid new) held.n got in
+          let got : GotEntry (JumpReads lens c.loop-item.n jump (spot_of label.0 items)) (jump_told (spot_of label.0 items) label) (slice_index lens c.loop-item.n) u t mid new = subst (λ (o : Option ℕ). GotEntry (JumpReads lens c.loop-item.n jump o) (jump_told o label) (slice_index lens c.loop-item.n) u t mid new) spot w.put_jump.ensures.got in
+          let here : GotEntry (JumpReads lens n jump (spot_of label.0 items)) (jump_told (spot_of label.0 items) label) (slice_index lens n) u t mid new = subst (λ (m : ℕ). GotEntry (JumpReads lens m jump (spot_of label.0 items)) (jump_told (spot_of label.0 items) label) (slice_index lens m) u t mid new) held.n got in
           let next : Put meant lens items (take k items ++ y ∷ []) s t old new = put_entry meant lens items (take k items) y s u t old mid new refl at.0 few held.put here in
           let all : Put meant lens items (take (k + 1) items) s t old new = subst (λ (z : List (Item g.row.I.Denot)). Put meant lens items z s t old new) (sym (take_next items k x y within c.item-item.is e)) next in
           record {

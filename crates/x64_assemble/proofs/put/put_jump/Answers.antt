@@ -3,10 +3,9 @@ use Rattle.std.specs.Int.{w8, w32, w64}
 use Rattle.std.proofs.lemmas.List.Sums.{sum_by-take-le}
 use Rattle.std.specs.Prelude.{IfSome, slice_index}
 use Rattle.cax64_sink.specs.Sink.{State}
-use Rattle.cax64_sink.specs.declared.DeferredTarget.TheVariants as target
 use Rattle.x64_code_buffer.specs.Buffer.{buffer_state, places_of}
 use Rattle.x64_layout.specs.Layout.{Stands, place_in}
-use Rattle.x64_assemble.specs.Assembled.{JumpReads, distance_in, span_of}
+use Rattle.x64_assemble.specs.Assembled.{JumpReads, distance_in, jump_told, span_of}
 use Rattle.x64_assemble.specs.Putting.{GotEntry}
 use Rattle.x64_assemble.proofs.Entries.{far_stands, near_stands, open_len}
 use Rattle.x64_assemble.proofs.Steps.{far_is, given_ok, got_far, got_near, got_open, near_is}
@@ -22,8 +21,8 @@ returns-in_default-clause-got g c =
     let stands : Stands lens n (span_of c.args.jump None) (slice_index lens n) = subst (λ (o : Option ℕ). Stands lens n (span_of c.args.jump o) (slice_index lens n)) none c.requires.stands in
     let put = c.push_long_jump.ensures in
     let ok = c.unwrap.ensures in
-    subst (λ (o : Option ℕ). GotEntry (JumpReads lens n c.args.jump o) (slice_index lens n) s t (places_of c.args.buffer.now) (places_of c.push_long_jump.new.self)) (sym none)
-    (got_open c.args.jump (target.Label c.args.label) lens n s t (places_of c.args.buffer.now) (places_of c.push_long_jump.new.self) (open_len c.args.jump lens n stands)
+    subst (λ (o : Option ℕ). GotEntry (JumpReads lens n c.args.jump o) (jump_told o c.args.label) (slice_index lens n) s t (places_of c.args.buffer.now) (places_of c.push_long_jump.new.self)) (sym none)
+    (got_open c.args.jump c.args.label lens n s t (places_of c.args.buffer.now) (places_of c.push_long_jump.new.self) (open_len c.args.jump lens n stands)
     (given_ok c.push_long_jump.result _ ok put.adds) put.places put.keeps put.byte_room put.notice_room
     (λ pieces h. given_ok c.push_long_jump.result _ ok (put.laid pieces h)))
 
@@ -48,8 +47,8 @@ returns-then-lens-n-eq2-clause-got g c =
     let same : z ≡ distance_in lens n spot = near_is (place_in lens spot) (place_in lens (n + 1)) c.from.result c.from-2.result first second to_small from_small (near_stands c.args.jump lens n spot stands two).1 in
     let put = c.push_near.ensures in
     let ok = c.unwrap-then-lens-n-eq2.ensures in
-    subst (λ (o : Option ℕ). GotEntry (JumpReads lens n c.args.jump o) (slice_index lens n) s t (places_of c.args.buffer.now) (places_of c.push_near.new.self)) (sym e)
-    (got_near c.args.jump lens n spot z s t (places_of c.args.buffer.now) (places_of c.push_near.new.self) (near_stands c.args.jump lens n spot stands two).0 two same
+    subst (λ (o : Option ℕ). GotEntry (JumpReads lens n c.args.jump o) (jump_told o c.args.label) (slice_index lens n) s t (places_of c.args.buffer.now) (places_of c.push_near.new.self)) (sym e)
+    (got_near c.args.jump c.args.label lens n spot z s t (places_of c.args.buffer.now) (places_of c.push_near.new.self) (near_stands c.args.jump lens n spot stands two).0 two same
     (given_ok c.push_near.result _ ok put.adds) put.places put.keeps put.byte_room put.notice_room
     (λ pieces h. given_ok c.push_near.result _ ok (put.laid pieces h)))
 
@@ -74,7 +73,7 @@ returns-else-lens-n-eq2-clause-got g c =
     let same : z ≡ distance_in lens n spot = far_is (place_in lens spot) (place_in lens (n + 1)) c.from.result c.from-2.result first second to_small from_small in
     let put = c.push_far.ensures in
     let ok = c.unwrap-else-lens-n-eq2.ensures in
-    subst (λ (o : Option ℕ). GotEntry (JumpReads lens n c.args.jump o) (slice_index lens n) s t (places_of c.args.buffer.now) (places_of c.push_far.new.self)) (sym e)
-    (got_far c.args.jump lens n spot z s t (places_of c.args.buffer.now) (places_of c.push_far.new.self) (far_stands c.args.jump lens n spot stands not_two) same
+    subst (λ (o : Option ℕ). GotEntry (JumpReads lens n c.args.jump o) (jump_told o c.args.label) (slice_index lens n) s t (places_of c.args.buffer.now) (places_of c.push_far.new.self)) (sym e)
+    (got_far c.args.jump c.args.label lens n spot z s t (places_of c.args.buffer.now) (places_of c.push_far.new.self) (far_stands c.args.jump lens n spot stands not_two) same
     (given_ok c.push_far.result _ ok put.adds) put.places put.keeps put.byte_room put.notice_room
     (λ pieces h. given_ok c.push_far.result _ ok (put.laid pieces h)))
