@@ -1,10 +1,10 @@
-use Rattle.std.proofs.Common.{◌≡◌, ℕ, ◌+◌, ◌-◌, ◌≤◌, arith, refl, ◌∙◌, ap, sym, subst, ℤ, List, [], ◌∷◌, ◌++◌, Bool, true, Option, Some, None, length}
-use Rattle.std.specs.Prelude.{if◌then◌else◌}
+use Rattle.std.proofs.Common.{◌≡◌, ℕ, ◌+◌, ◌-◌, ◌≤◌, arith, refl, ◌∙◌, ap, sym, subst, ℤ, List, [], ◌∷◌, ◌++◌, Bool, true, Option, Some, None, length, Ok, Err}
+use Rattle.std.specs.Prelude.{if◌then◌else◌, OnOk, Result}
 use Rattle.cax64_address.specs.declared.amode.Amode.{Amode}
 use Rattle.cax64_address.specs.declared.amode.Amode.TheVariants.{ImmReg, ImmRegRegShift, RipRelative}
 use Rattle.cax64_encoder.specs.AddsLine.{AddsLine}
 use Rattle.cax64_encoder.specs.EncodesLine.{line_notices_of}
-use Rattle.cax64_encoder.specs.Notices.{trap_notice}
+use Rattle.cax64_encoder.specs.Notices.{memory_notices, trap_notice}
 use Rattle.cax64_encoder.specs.Place.{memory_in, place_read}
 use Rattle.cax64_encoder.specs.Relative.{relative_in, unsettled}
 use Rattle.cax64_encoder.specs.declared.role.PlaceOperand.{PlaceOperand}
@@ -21,6 +21,7 @@ use Rattle.cax64_shortest.specs.LineParts.{line_parts}
 use Rattle.cax64_sink.specs.Sink.{State}
 use Rattle.cax64_sink.specs.declared.DeferredTarget.{DeferredTarget}
 use Rattle.cax64_sink.specs.declared.Notice.{Notice}
+use Rattle.cax64_sink.specs.declared.SinkError.{SinkError}
 use Rattle.cax64_sink.specs.declared.TrapCode.{TrapCode}
 use Rattle.x64_code_buffer.proofs.Laying.{laid_whole}
 use Rattle.x64_code_buffer.specs.Buffer.{AsBefore}
@@ -28,7 +29,7 @@ use Rattle.x64_code_buffer.specs.Filled.{Unpatched, places_told}
 use Rattle.x64_code_buffer.specs.Laid.{Piece, whole, line_field_at, line_field_place, line_imm_behind, Laid, LaidOn}
 use Rattle.x64_code_buffer.specs.Use.{uses_of}
 use Rattle.x64_core.specs.Adds.{AddsCore}
-use Rattle.x64_core.specs.Core.{LineMeant, core_meant}
+use Rattle.x64_core.specs.Core.{LineMeant, core_len, core_meant}
 use Rattle.x64_core.specs.Line.{core_line}
 use Rattle.x64_core.specs.Lines.{core_lines}
 use Rattle.x64_core.specs.View.{CoreView}
@@ -132,3 +133,17 @@ core_laid v pieces s t old new records same h adds =
     laid_whole m.parts pieces s t old new adds.line.added told reads adds.line.bytes notices
     (told_by m.memory r.line.imm r.place (length s.bytes) r is)
     (unpatched_by m.memory r.line.imm r.place is) same h
+
+-- An instruction has a notice at most.
+pub few_notices : {M : Type 0} (memory : Option (Amode M)) → memory_notices memory ≤ 1
+few_notices None = omega arith
+few_notices (Some (ImmReg base simm32 None)) = omega arith
+few_notices (Some (ImmReg base simm32 (Some code))) = omega arith
+few_notices (Some (ImmRegRegShift base index scale simm32 None)) = omega arith
+few_notices (Some (ImmRegRegShift base index scale simm32 (Some code))) = omega arith
+few_notices (Some (RipRelative target)) = omega arith
+
+-- and thirteen bytes, for the offsets that were set before there was room too
+pub few_bytes : (v : CoreView) (s u : State) (r : Result (Unit {0}) SinkError) → u.offsets ≡ s.offsets → core_len u.offsets v ≤ 13 → OnOk r (core_len s.offsets v ≤ 13)
+few_bytes v s u (Ok tt) e h = subst (λ (o : ℕ → Option ℤ). core_len o v ≤ 13) e h
+few_bytes v s u (Err error) e h = tt

@@ -1,6 +1,6 @@
 //! The two calls that put an instruction of the core into a code buffer.
 
-ghost use Rattle.std.specs.Prelude.{◌≡◌, List, IsTrue, IsOk, IfErr, OnOk, OnErr, length};
+ghost use Rattle.std.specs.Prelude.{◌≡◌, ◌≤◌, List, IsTrue, IsOk, IfErr, OnOk, OnErr, length};
 ghost use Rattle.cax64_encoder.specs.EncodeError.{fault_found, IfRefused, NotRefused, OnFault};
 ghost use Rattle.cax64_sink.specs.Keeps.{Keeps};
 ghost use Rattle.cax64_sink.specs.Room.{HasRoom, FallsBy};
@@ -22,7 +22,8 @@ pub trait PushCore: CodeSink {
     /// Puts an instruction, and tells of its trap or target.
     ///
     /// It makes room for thirteen bytes and a notice first, so a refusal leaves all as it was but the rooms. A buffer asks for
-    /// them as [`reserve`](CodeBuffer::reserve) does, so it takes constant time, over many instructions.
+    /// them as [`reserve`](CodeBuffer::reserve) does: for twice its room, and where that is refused for exactly what is
+    /// missing. So it takes constant time, over many instructions.
     ///
     /// The instruction has to be encodable for the offsets that are set, as [`is_encodable`](Core::is_encodable) tells. Where
     /// it isn't, a build that wasn't proved may put a wrong instruction and answer Ok, or abort.
@@ -35,6 +36,8 @@ pub trait PushCore: CodeSink {
         ensures enough { HasRoom (Self.state self.old).byte_room 13 → HasRoom (Self.state self.old).notice_room 1 → IsOk result }
         ensures byte_room { FallsBy (Self.state self.old).byte_room (Self.state self.new).byte_room (core_len (Self.state self.old).offsets (core_view inst.now)) }
         ensures notice_room { FallsBy (Self.state self.old).notice_room (Self.state self.new).notice_room (core_notices (core_view inst.now)) }
+        ensures most_bytes { OnOk result (core_len (Self.state self.old).offsets (core_view inst.now) ≤ 13) }
+        ensures most_notices { core_notices (core_view inst.now) ≤ 1 }
         ensures keeps { Keeps (Self.state self.old) (Self.state self.new) };
 
     /// Tests an instruction, for the offsets that are set, and puts it as [`push_core`](Self::push_core) does.
@@ -50,6 +53,8 @@ pub trait PushCore: CodeSink {
         ensures enough { HasRoom (Self.state self.old).byte_room 13 → HasRoom (Self.state self.old).notice_room 1 → NotRefused result }
         ensures byte_room { FallsBy (Self.state self.old).byte_room (Self.state self.new).byte_room (core_len (Self.state self.old).offsets (core_view inst.now)) }
         ensures notice_room { FallsBy (Self.state self.old).notice_room (Self.state self.new).notice_room (core_notices (core_view inst.now)) }
+        ensures most_bytes { OnOk result (core_len (Self.state self.old).offsets (core_view inst.now) ≤ 13) }
+        ensures most_notices { core_notices (core_view inst.now) ≤ 1 }
         ensures keeps { Keeps (Self.state self.old) (Self.state self.new) };
 }
 
@@ -66,6 +71,8 @@ impl<A: Allocator> PushCore for CodeBuffer<A> {
         ensures enough { HasRoom (buffer_state self.old).byte_room 13 → HasRoom (buffer_state self.old).notice_room 1 → IsOk result }
         ensures byte_room { FallsBy (buffer_state self.old).byte_room (buffer_state self.new).byte_room (core_len (buffer_state self.old).offsets (core_view inst.now)) }
         ensures notice_room { FallsBy (buffer_state self.old).notice_room (buffer_state self.new).notice_room (core_notices (core_view inst.now)) }
+        ensures most_bytes { OnOk result (core_len (buffer_state self.old).offsets (core_view inst.now) ≤ 13) }
+        ensures most_notices { core_notices (core_view inst.now) ≤ 1 }
         ensures keeps { Keeps (buffer_state self.old) (buffer_state self.new) }
         ensures labels { label_count self.new ≡ label_count self.old }
         ensures label_room { label_room self.new ≡ label_room self.old }
@@ -86,6 +93,8 @@ impl<A: Allocator> PushCore for CodeBuffer<A> {
         ensures enough { HasRoom (buffer_state self.old).byte_room 13 → HasRoom (buffer_state self.old).notice_room 1 → NotRefused result }
         ensures byte_room { FallsBy (buffer_state self.old).byte_room (buffer_state self.new).byte_room (core_len (buffer_state self.old).offsets (core_view inst.now)) }
         ensures notice_room { FallsBy (buffer_state self.old).notice_room (buffer_state self.new).notice_room (core_notices (core_view inst.now)) }
+        ensures most_bytes { OnOk result (core_len (buffer_state self.old).offsets (core_view inst.now) ≤ 13) }
+        ensures most_notices { core_notices (core_view inst.now) ≤ 1 }
         ensures keeps { Keeps (buffer_state self.old) (buffer_state self.new) }
         ensures labels { label_count self.new ≡ label_count self.old }
         ensures label_room { label_room self.new ≡ label_room self.old }

@@ -133,6 +133,9 @@ fn push_operands<A: Allocator + Copy>(
     Ok(())
 }
 
+/// Room for the text of any instruction with the hardware's registers.
+const ROOM: usize = 80;
+
 /// What an instruction of the core says of itself, in AT&T's form.
 pub trait CoreText {
     // What it is, in a clause.
@@ -171,7 +174,7 @@ impl CoreText for Core {
     fn to_string<A: Allocator + Copy>(&self, alloc: A) -> Result<String<A>, AllocError> {
         let op = self.op();
         let kinds = op.kinds();
-        let mut out = String::new(alloc);
+        let mut out = String::with_capacity(alloc, ROOM)?;
         out.push_str(self.mnemonic())?;
         let style = line_style(op.number());
         push_suffix(&mut out, style, is_memory(&self.place()))?;

@@ -2,10 +2,11 @@ use Rattle.std.proofs.Common.{arith, ◌∙◌, refl, subst, ℕ, ℤ, Option}
 use Rattle.cax64_sink.specs.Room.{FallsBy}
 use Rattle.x64_code_buffer.proofs.Filling.{falls_after_none, if_ok}
 use Rattle.x64_code_buffer.specs.Buffer.{buffer_state, places_of}
+use Rattle.cax64_encoder.specs.Place.{memory_in}
 use Rattle.x64_core.specs.Adds.{AddsCore}
 use Rattle.x64_core.specs.Core.{core_len, core_notices}
 use Rattle.x64_core.specs.View.{core_view}
-use Rattle.x64_core_buffer.proofs.Pushing.{core_from, core_laid}
+use Rattle.x64_core_buffer.proofs.Pushing.{core_from, core_laid, few_bytes, few_notices}
 use Rattle.x64_core_buffer.proofs.push.CodeBufferPushCore.push_core.Goals as goal
 
 pub returns-in_err-reserve-clause-byte_room : goal.returns-in_err-reserve-clause-byte_room
@@ -47,3 +48,13 @@ returns-clause-laid g c pieces h =
     let u = buffer_state c.reserve.new.self in
     let t = buffer_state c.encode.new.sink in
     if_ok c.encode.result (λ (a : AddsCore v u t). core_laid v pieces s t (places_of c.args.self.now) (places_of c.encode.new.sink) refl (λ target. c.encode.ensures.beside.places target ∙ c.reserve.ensures.places target) h (core_from v s u t c.reserve.ensures.as_before refl a)) c.encode.ensures.adds
+
+pub returns-in_err-reserve-clause-most_notices : goal.returns-in_err-reserve-clause-most_notices
+returns-in_err-reserve-clause-most_notices g c = few_notices (memory_in (core_view c.args.inst.now).place)
+
+pub returns-clause-most_notices : goal.returns-clause-most_notices
+returns-clause-most_notices g c = few_notices (memory_in (core_view c.args.inst.now).place)
+
+pub returns-clause-most_bytes : goal.returns-clause-most_bytes
+returns-clause-most_bytes g c =
+    few_bytes (core_view c.args.inst.now) (buffer_state c.args.self.now) (buffer_state c.reserve.new.self) c.encode.result c.reserve.ensures.as_before.offsets c.encode.ensures.most
