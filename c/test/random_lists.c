@@ -7,7 +7,7 @@
 #include <stdio.h>
 #include <string.h>
 
-enum { ROUNDS = 60000, MOST = 12, ROOM = 13 * MOST };
+enum { ROUNDS = 20000, MOST = 12, ROOM = 13 * MOST };
 
 static uint64_t state = 88172645463325252u, sum = 14695981039346656037u;
 

@@ -130,7 +130,8 @@ static int is_told(const char *text, const hq_use *told)
     return told->kind == HQ_TOLD_PLACE && told->at == (uint32_t)at;
 }
 
-/* NULL where an instruction is as wanted, or why not. A no-operation of several bytes isn't of the core. */
+/* NULL where an instruction is as wanted, or why not. Of three rows the port puts a prefix that nothing asks for: the second bytes of
+ * a line are those without it. */
 static const char *instruction(char **column, int *skipped)
 {
     uint8_t want[16];
@@ -138,7 +139,7 @@ static const char *instruction(char **column, int *skipped)
     hq_inst inst;
     hq_use told;
     uint32_t len = 77;
-    size_t size = bytes_of(column[3], want);
+    size_t size = bytes_of(column[7], want);
     int line = line_of(column[0]);
     operands_of(column[1], &o);
     if (line < 0 || strcmp(column[2], "-") != 0 || make(line, &o, &inst) != HQ_OK) {
@@ -150,7 +151,7 @@ static const char *instruction(char **column, int *skipped)
     uint8_t *code = before(size);
     if (hq_encode(&inst, code, size, &len, &told) != HQ_OK || len != size || memcmp(code, want, size))
         return "the bytes are others";
-    return is_told(column[5], &told) ? NULL : "something else is told";
+    return is_told(column[9], &told) ? NULL : "something else is told";
 }
 
 /* The same of a fault. Those of registers are counted in another order here, and those of fixed registers don't cross. */
@@ -259,5 +260,5 @@ int main(int argc, char **argv)
     if (argc != 4 || at == MAP_FAILED || mprotect(at + page, (size_t)page, PROT_NONE))
         return 2;
     guard = at + page;
-    return run(argv[1], instruction, 6) | run(argv[2], fault, 4) | run(argv[3], reading, 9);
+    return run(argv[1], instruction, 10) | run(argv[2], fault, 4) | run(argv[3], reading, 9);
 }
