@@ -1,5 +1,6 @@
 #!/usr/bin/env python3
-"""Builds the archive, out/libhuqmeris.a, and beside it the one that Rattle's own compiler makes, out/libhuqmeris_rattle.a.
+"""Builds the archive, out/libhuqmeris.a, and beside it the one that Rattle's own compiler makes, out/libhuqmeris_rattle.a. Each
+has heap.c as a second member, which a program with three functions of its own leaves out; and writes out/huqmeris.pc.
 
 It takes the libraries below as `rt ci` or `rt check` left them in crates/NAME/out/rlib, proves the crate of the exports over
 them, and compiles what was proved twice. `rt lib` in crates/huqmeris_c does the same from the start: after `rt ci` it would
@@ -66,6 +67,23 @@ def run(at, verb, words):
     return ran.returncode
 
 
+def with_heap(at, archives, room):
+    """Adds heap.c to archives, as a member of its own."""
+    heap = os.path.join(room, "heap.o")
+    compiler = os.environ.get("CC", "cc")
+    if subprocess.run([compiler, "-std=c99", "-O2", "-fPIC", "-c", HERE / "heap.c", "-o", heap], check=False).returncode:
+        return 1
+    words = [[f"{at}/toolchain/bin/llvm-ar", "rs", archive, heap] for archive in archives]
+    return max(subprocess.run(word, stdout=subprocess.DEVNULL, stderr=subprocess.DEVNULL, check=False).returncode for word in words)
+
+
+def write_pc(out):
+    """For pkg-config: where the header and the archive lie."""
+    text = (HERE / "huqmeris.pc.in").read_text(encoding="utf-8")
+    version = re.search(r"HQ_VERSION: u32 = (\d+);", (FOLDER / "src/version.rt").read_text(encoding="utf-8"))[1]
+    (out / "huqmeris.pc").write_text(text.replace("@include@", str(HERE)).replace("@lib@", str(out)).replace("@version@", version), encoding="utf-8")
+
+
 def main():
     at = kit()
     if not at:
@@ -86,6 +104,10 @@ def main():
         for backend, name in (("llvm", "libhuqmeris.a"), ("rattle", "libhuqmeris_rattle.a")):
             if run(at, "build", [*words, "--crate-checked", checked, "--toolchain", f"{at}/toolchain", "--backend", backend, "-o", str(out / name)]):
                 return 1
+        if with_heap(at, [str(out / "libhuqmeris.a"), str(out / "libhuqmeris_rattle.a")], room):
+            print("build.py: heap.c isn't added", file=sys.stderr)
+            return 1
+    write_pc(out)
     return 0
 
 

@@ -47,6 +47,20 @@ extern "C" {
 #define HQ_FAULT_UNKNOWN 19
 /* The displacement and its late offset have a sum that isn't of 32 bits. */
 #define HQ_FAULT_RANGE 20
+/* There are more than 165,191,049 instructions. */
+#define HQ_TOO_MANY 10
+/* The allocator gave no memory. */
+#define HQ_NO_MEMORY 11
+/* The integers are no item. */
+#define HQ_BAD_ITEM 12
+/* The label's number isn't below that of all items. */
+#define HQ_BAD_LABEL 13
+/* The label has a place already. */
+#define HQ_BOUND_TWICE 14
+/* A label or a constant that is referred to has no place. */
+#define HQ_UNBOUND 15
+/* A register has no name: it isn't below 16. */
+#define HQ_NO_NAME 21
 /* A place: nothing. */
 #define HQ_PLACE_NOTHING 0u
 /* A place: a register. */
@@ -81,6 +95,46 @@ extern "C" {
 #define HQ_TOLD_CONSTANT 3u
 /* What is told: a relative place, and not what it refers to. */
 #define HQ_TOLD_PLACE 4u
+/* An item: an instruction. */
+#define HQ_ITEM_INST 0u
+/* An item: the place of a label, which is that of what comes next. */
+#define HQ_ITEM_LABEL 1u
+/* An item: a jump to a label, which is always taken. */
+#define HQ_ITEM_JMP 2u
+/* An item: a call of a label. */
+#define HQ_ITEM_CALL 3u
+/* An item: a jump to a label at overflow. */
+#define HQ_ITEM_JO 4u
+/* An item: a jump to a label at no overflow. */
+#define HQ_ITEM_JNO 5u
+/* An item: a jump to a label at below, of unsigned numbers. */
+#define HQ_ITEM_JB 6u
+/* An item: a jump to a label at above or equal, of unsigned numbers. */
+#define HQ_ITEM_JAE 7u
+/* An item: a jump to a label at equal. */
+#define HQ_ITEM_JE 8u
+/* An item: a jump to a label at not equal. */
+#define HQ_ITEM_JNE 9u
+/* An item: a jump to a label at below or equal, of unsigned numbers. */
+#define HQ_ITEM_JBE 10u
+/* An item: a jump to a label at above, of unsigned numbers. */
+#define HQ_ITEM_JA 11u
+/* An item: a jump to a label at sign. */
+#define HQ_ITEM_JS 12u
+/* An item: a jump to a label at no sign. */
+#define HQ_ITEM_JNS 13u
+/* An item: a jump to a label at parity even. */
+#define HQ_ITEM_JP 14u
+/* An item: a jump to a label at parity odd. */
+#define HQ_ITEM_JNP 15u
+/* An item: a jump to a label at less, of signed numbers. */
+#define HQ_ITEM_JL 16u
+/* An item: a jump to a label at greater or equal, of signed numbers. */
+#define HQ_ITEM_JGE 17u
+/* An item: a jump to a label at less or equal, of signed numbers. */
+#define HQ_ITEM_JLE 18u
+/* An item: a jump to a label at greater, of signed numbers. */
+#define HQ_ITEM_JG 19u
 /* No register is given. */
 #define HQ_NO_REG 256u
 /* No immediate is given. */
@@ -838,6 +892,50 @@ _Static_assert(offsetof(hq_use, kind) == 4, "hq_use.kind");
 _Static_assert(offsetof(hq_use, number) == 8, "hq_use.number");
 #endif
 
+/* How far a list of instructions or items was gone through, and what they have. */
+typedef struct hq_done {
+    /* How many instructions or items there are, or those before the first that is refused, which has this number. */
+    size_t items;
+    /* How many bytes they have. */
+    size_t bytes;
+    /* How many traps and targets they tell. */
+    size_t uses;
+} hq_done;
+#if !defined(__cplusplus) && __STDC_VERSION__ >= 201112L
+_Static_assert(sizeof(hq_done) == 24, "hq_done");
+_Static_assert(offsetof(hq_done, items) == 0, "hq_done.items");
+_Static_assert(offsetof(hq_done, bytes) == 8, "hq_done.bytes");
+_Static_assert(offsetof(hq_done, uses) == 16, "hq_done.uses");
+#endif
+
+/* What is assembled: an instruction, the place of a label, or a jump to one. */
+typedef struct hq_item {
+    /* Which it is: `HQ_ITEM_INST` and the like. */
+    uint32_t kind;
+    /* The number of the label, below that of all items. Of an instruction it isn't looked at. */
+    uint32_t number;
+    /* The instruction. Of other items it isn't looked at. */
+    hq_inst inst;
+} hq_item;
+#if !defined(__cplusplus) && __STDC_VERSION__ >= 201112L
+_Static_assert(sizeof(hq_item) == 32, "hq_item");
+_Static_assert(offsetof(hq_item, kind) == 0, "hq_item.kind");
+_Static_assert(offsetof(hq_item, number) == 4, "hq_item.number");
+_Static_assert(offsetof(hq_item, inst) == 8, "hq_item.inst");
+#endif
+
+/*
+ * Assembles items: instructions, places of labels, and jumps to them, into the front of some bytes, all of them or none.
+ *
+ * A label's number is below that of all items. A jump to a label whose place comes before it, and that it reaches so, has one
+ * byte of distance, any other has four. An instruction may refer to a label too. At `HQ_OK` `done` has how many items and bytes
+ * there are, at `HQ_FULL` how many there would be; at another status `items` is the number of the item that is refused, from 0,
+ * or how many were put. What instructions tell of traps isn't told. No late offset is known.
+ *
+ * It asks for memory, and has given all of it back when it answers.
+ */
+int32_t hq_assemble(const hq_item *items, size_t items_len, uint8_t *HQ_RESTRICT code, size_t code_len, hq_done *HQ_RESTRICT done);
+
 /*
  * Why an instruction can't be encoded by `hq_encode`, which knows no late offsets: the first register that isn't below 16, or
  * an index that is the stack pointer, or else a late offset. 0 where it can.
@@ -863,6 +961,32 @@ int32_t hq_decode_all(const uint8_t *bytes, size_t bytes_len, hq_reading *HQ_RES
 int32_t hq_encode(const hq_inst *inst, uint8_t *HQ_RESTRICT code, size_t code_len, uint32_t *HQ_RESTRICT len, hq_use *HQ_RESTRICT told);
 
 /*
+ * Encodes instructions one behind the other into the front of some bytes, and says how many they have, and what they tell
+ * beside them: all of them, or none.
+ *
+ * A use's `at` counts from the beginning of `code`. At `HQ_OK` `done` has how many instructions, bytes and uses were put, at
+ * `HQ_FULL` how many there would be. Where an instruction is refused, `items` is its number, from 0, and the rest of `done` is
+ * of those before it; the status is that of `hq_check`. `HQ_TOO_MANY` above 165,191,049 instructions. No late offset is known.
+ */
+int32_t hq_encode_all(const hq_inst *insts, size_t insts_len, uint8_t *HQ_RESTRICT code, size_t code_len, hq_use *HQ_RESTRICT uses, size_t uses_len, hq_done *HQ_RESTRICT done);
+
+/*
+ * Puts the name of the extension that a line asks for at the front of some bytes, as `hq_format` does with a text, but without
+ * memory: `sse`, `sse2`, `bmi1`, `bmi2`, `lzcnt`, `popcnt`, `avx` or `cmpxchg16b`, or nothing. `HQ_BAD_LINE` where no line has
+ * the number.
+ */
+int32_t hq_extension(uint16_t line, uint8_t *HQ_RESTRICT text, size_t text_len, size_t *HQ_RESTRICT len);
+
+/*
+ * Puts the text of an instruction in AT&T's form at the front of some bytes, without a zero behind it, and says how many bytes
+ * it has. `HQ_FULL` where they are too few: `len` is how many are needed, and the bytes are as before. `HQ_NO_NAME` where a
+ * register isn't below 16.
+ *
+ * It asks for memory, and has given all of it back when it answers.
+ */
+int32_t hq_format(const hq_inst *inst, uint8_t *HQ_RESTRICT text, size_t text_len, size_t *HQ_RESTRICT len);
+
+/*
  * The instruction that is read as this, where the reading has an operand for each that its line takes and no other, and an
  * immediate in its range. It has no trap code and no late offset, and can be encoded.
  *
@@ -884,6 +1008,9 @@ int32_t hq_length(const hq_inst *inst, uint32_t *HQ_RESTRICT len);
  * others.
  */
 int32_t hq_make(uint16_t line, uint16_t reg, uint16_t vvvv, const hq_place *place, int64_t imm, hq_inst *HQ_RESTRICT out);
+
+/* Puts the mnemonic of an instruction at the front of some bytes, as `hq_format` does with its text, but without memory. */
+int32_t hq_mnemonic(const hq_inst *inst, uint8_t *HQ_RESTRICT text, size_t text_len, size_t *HQ_RESTRICT len);
 
 /*
  * What a relative field is to hold: what is stored in it, and the distance from the field's end to the target. `place` is the
@@ -948,6 +1075,22 @@ static inline hq_place hq_constant(uint32_t constant)
     p.place = HQ_PLACE_CONSTANT;
     p.target = constant;
     return p;
+}
+
+/* Items: an instruction; the place of a label, `HQ_ITEM_LABEL`, or a jump to it, `HQ_ITEM_JMP` and the like. */
+static inline hq_item hq_item_of(const hq_inst *inst)
+{
+    hq_item i = {HQ_ITEM_INST, 0, {0, 0, 0, 0, 0, 0, 0, 0, 0, 0, 0, 0, 0, 0}};
+    i.inst = *inst;
+    return i;
+}
+
+static inline hq_item hq_item_at(uint32_t kind, uint32_t label)
+{
+    hq_item i = {0, 0, {0, 0, 0, 0, 0, 0, 0, 0, 0, 0, 0, 0, 0, 0}};
+    i.kind = kind;
+    i.number = label;
+    return i;
 }
 
 #ifdef __cplusplus

@@ -1,7 +1,7 @@
 #!/usr/bin/env python3
-"""Writes huqmeris.h, the Rust declarations and abi.txt from the sources, or with --check tells which of them differ.
+"""Writes huqmeris.h, huqmeris_names.h, the Rust declarations and abi.txt from the sources, or with --check tells which of them differ.
 
-The structs and constants are those of `cax64_plain`, the calls and their constants those of `huqmeris_c`, and the numbers of
+The structs and constants are those of `cax64_plain` and of `huqmeris_c`, the calls those of `huqmeris_c`, and the numbers of
 lines those of the two tables in `table`, in their order. A call is refused that has no clause, that requires something of its
 caller, or in whose signature stands what isn't an integer, a slice or a reference of integers, or a struct of these without
 padding and without a ghost field. abi.txt has all names, numbers and offsets: where one that stands in it changes or goes,
@@ -25,7 +25,9 @@ from core_lines import CORE, core_of  # noqa: E402
 from judging import table_of  # noqa: E402
 
 STRUCT_FILES = [f"crates/cax64_plain/src/{name}.rt" for name in ("place", "inst", "reading", "told")]
-CONSTANT_FILES = ["crates/huqmeris_c/src/version.rt", "crates/cax64_plain/src/status.rt", *STRUCT_FILES, "crates/huqmeris_c/src/make.rt"]
+STRUCT_FILES += ["crates/huqmeris_c/src/progress.rt", "crates/huqmeris_c/src/item.rt"]
+STATUS_FILES = ["crates/cax64_plain/src/status.rt", "crates/huqmeris_c/src/status.rt"]
+CONSTANT_FILES = ["crates/huqmeris_c/src/version.rt", *STATUS_FILES, *STRUCT_FILES, "crates/huqmeris_c/src/make.rt"]
 EXPORT_FOLDER = "crates/huqmeris_c/src"
 INTEGERS = {
     "u8": ("uint8_t", 1), "i8": ("int8_t", 1), "u16": ("uint16_t", 2), "i16": ("int16_t", 2), "u32": ("uint32_t", 4),
@@ -33,6 +35,7 @@ INTEGERS = {
 }  # fmt: skip
 DOC = r"((?:[ \t]*///[^\n]*\n)*)"
 STRUCT = re.compile(DOC + r"#\[repr\(C\)\]\n(?:#\[[^\n]*\]\n)*pub struct (\w+) \{\n(.*?)\n\}", re.DOTALL)
+ALLOCATOR = "Global"  # passes nothing
 FIELD = re.compile(DOC + r"[ \t]*(pub |ghost |)(\w+): ([^,\n]+),\n")
 CONSTANT = re.compile(DOC + r"pub const (HQ_\w+): (\w+) = ([^;]+);")
 EXPORT = re.compile(DOC + r'#\[unsafe\(no_mangle\)\]\npub (unsafe )?extern "C" fn (\w+)\(([^)]*)\)([^{\n]*)\n(.*?)^\{\n', re.DOTALL | re.MULTILINE)
@@ -56,6 +59,8 @@ class Field(NamedTuple):
     kind: str
     count: int
     offset: int
+    c: str
+    rust: str
 
     @property
     def suffix(self):
@@ -117,8 +122,18 @@ def constants():
     return found
 
 
-def struct_of(doc, name, body):
-    """A struct whose fields follow each other without a byte between them."""
+def sizes_of(kind, known, of):
+    """How many bytes an integer or a struct has, and how it's aligned."""
+    if kind in INTEGERS:
+        return INTEGERS[kind][1], INTEGERS[kind][1]
+    if kind in known:
+        return known[kind].size, known[kind].align
+    raise Refused(f"{of}: {kind} is no integer")
+
+
+def struct_of(doc, name, body, known=None):
+    """A struct whose fields, integers or structs before it, follow each other without a byte between them."""
+    known = known or {}
     fields, at, align, rest = [], 0, 1, FIELD.sub("", body + "\n").strip()
     if rest:
         raise Refused(f"{name}: {rest} is no field of integers")
@@ -127,21 +142,22 @@ def struct_of(doc, name, body):
             raise Refused(f"{name}.{field}: a field that isn't public, or a ghost field, would be a duty of the caller's")
         array = re.fullmatch(r"\[(\w+); (\d+)\]", kind)
         kind, count = (array[1], int(array[2])) if array else (kind, 0)
-        if kind not in INTEGERS:
-            raise Refused(f"{name}.{field}: {kind} is no integer")
-        size = INTEGERS[kind][1]
-        if at % size:
+        size, aligned = sizes_of(kind, known, f"{name}.{field}")
+        if at % aligned:
             raise Refused(f"{name}.{field}: there is padding before it")
-        fields.append(Field(paragraphs(field_doc), field, kind, count, at))
-        at, align = at + size * (count or 1), max(align, size)
+        fields.append(Field(paragraphs(field_doc), field, kind, count, at, *base_of(kind, known, f"{name}.{field}")))
+        at, align = at + size * (count or 1), max(align, aligned)
     if at % align:
         raise Refused(f"{name}: there is padding at its end")
     return Struct(paragraphs(doc, every=False), name, fields, at, align)
 
 
 def structs():
-    found = [struct_of(*words) for path in STRUCT_FILES for words in STRUCT.findall(text_of(path))]
-    return {struct.name: struct for struct in found}
+    found = {}
+    for path in STRUCT_FILES:
+        for doc, name, body in STRUCT.findall(text_of(path)):
+            found[name] = struct_of(doc, name, body, found)
+    return found
 
 
 def base_of(kind, known, of):
@@ -157,6 +173,8 @@ def parameters_of(name, text, known):
     found = []
     for part in filter(None, (part.strip() for part in text.split(","))):
         field, kind = (word.strip() for word in part.split(":", 1))
+        if kind == ALLOCATOR:
+            continue
         behind = re.fullmatch(r"&(mut )?(?:\[(\w+)(?:; (\d+))?\]|(\w+))", kind)
         if not behind:
             if kind not in INTEGERS:
@@ -270,6 +288,22 @@ static inline hq_place hq_constant(uint32_t constant)
     p.target = constant;
     return p;
 }
+
+/* Items: an instruction; the place of a label, `HQ_ITEM_LABEL`, or a jump to it, `HQ_ITEM_JMP` and the like. */
+static inline hq_item hq_item_of(const hq_inst *inst)
+{
+    hq_item i = {HQ_ITEM_INST, 0, {0, 0, 0, 0, 0, 0, 0, 0, 0, 0, 0, 0, 0, 0}};
+    i.inst = *inst;
+    return i;
+}
+
+static inline hq_item hq_item_at(uint32_t kind, uint32_t label)
+{
+    hq_item i = {0, 0, {0, 0, 0, 0, 0, 0, 0, 0, 0, 0, 0, 0, 0, 0}};
+    i.kind = kind;
+    i.number = label;
+    return i;
+}
 """
 
 
@@ -284,7 +318,7 @@ def header(found, known, calls, names):
     for struct in known.values():
         out += comment(struct.doc) + [f"typedef struct {struct.c_name} {{"]
         for field in struct.fields:
-            out += comment(field.doc, "    ") + [f"    {INTEGERS[field.kind][0]} {field.name}{field.suffix};"]
+            out += comment(field.doc, "    ") + [f"    {field.c} {field.name}{field.suffix};"]
         out += [f"}} {struct.c_name};", "#if !defined(__cplusplus) && __STDC_VERSION__ >= 201112L"]
         out += [f'_Static_assert(sizeof({struct.c_name}) == {struct.size}, "{struct.c_name}");']
         out += [f'_Static_assert(offsetof({struct.c_name}, {field.name}) == {field.offset}, "{struct.c_name}.{field.name}");' for field in struct.fields]
@@ -293,6 +327,15 @@ def header(found, known, calls, names):
         listed = ", ".join(parameter.c for parameter in call.parameters) or "void"
         out += comment(call.doc) + [f"{INTEGERS[call.result][0]} {call.name}({listed});", ""]
     out += [HELPERS, "#ifdef __cplusplus", "}", "#endif", "#endif", ""]
+    return "\n".join(out)
+
+
+def name_table(found, known, calls, names):
+    """The lines by their names, for programs that print or read them: it takes no part in what is proved."""
+    out = ["/* Written by c/write.py: the names of the lines, by number. */", "#ifndef HUQMERIS_NAMES_H", "#define HUQMERIS_NAMES_H", '#include "huqmeris.h"', ""]
+    out += ["static const char *const hq_line_names[HQ_LINE_COUNT] = {", *(f'    "{name}",' for name in names), "};", ""]
+    out += ["/* The name of a line, NULL where there is none of this number. */"]
+    out += ["static inline const char *hq_line_name(uint16_t line) { return line < HQ_LINE_COUNT ? hq_line_names[line] : NULL; }", "", "#endif", ""]
     return "\n".join(out)
 
 
@@ -306,7 +349,7 @@ def rust(found, known, calls, names):
     for struct in known.values():
         out += ["", *(f"/// {line}".rstrip() for line in struct.doc), "#[repr(C)]", "#[derive(Clone, Copy, Debug, Default, PartialEq, Eq, Hash)]", f"pub struct {struct.c_name} {{"]
         for field in struct.fields:
-            kind = f"[{field.kind}; {field.count}]" if field.count else field.kind
+            kind = f"[{field.rust}; {field.count}]" if field.count else field.rust
             out += [f"    /// {line}".rstrip() for line in field.doc] + [f"    pub {field.name}: {kind},"]
         out += ["}", "", f"const _: () = assert!(size_of::<{struct.c_name}>() == {struct.size} && align_of::<{struct.c_name}>() == {struct.align});"]
     out += ["", '#[link(name = "huqmeris", kind = "static")]', 'unsafe extern "C" {']
@@ -323,7 +366,7 @@ def abi(found, known, calls, names):
     out += [f"HQ_LINE_{name.upper()} = {number}" for number, name in enumerate(names)]
     for struct in known.values():
         out += [f"{struct.c_name}: {struct.size} bytes"]
-        out += [f"{struct.c_name}.{field.name}: {field.kind}{field.suffix} at {field.offset}" for field in struct.fields]
+        out += [f"{struct.c_name}.{field.name}: {field.rust}{field.suffix} at {field.offset}" for field in struct.fields]
     out += [f"{call.name}({', '.join(parameter.rust for parameter in call.parameters)}) -> {call.result}" for call in calls]
     return "\n".join([*out, ""])
 
@@ -340,7 +383,7 @@ def judge_abi(before, after):
 def wanted():
     found, known = constants(), structs()
     calls, names = exports(known), line_names()
-    files = {"huqmeris.h": header, "rust/src/sys.rs": rust, "abi.txt": abi}
+    files = {"huqmeris.h": header, "huqmeris_names.h": name_table, "rust/src/sys.rs": rust, "abi.txt": abi}
     return {name: make(found, known, calls, names) for name, make in files.items()}, len(calls)
 
 

@@ -5,7 +5,9 @@
 
 pub mod sys;
 
+pub use sys::hq_done as Done;
 pub use sys::hq_inst as Inst;
+pub use sys::hq_item as Item;
 pub use sys::hq_place as Place;
 pub use sys::hq_reading as Reading;
 pub use sys::hq_use as Use;
@@ -69,6 +71,95 @@ impl Inst {
     }
 }
 
+/// How far a list was gone through, and the status that stopped it.
+#[derive(Clone, Copy, Debug, PartialEq, Eq)]
+pub struct Stopped {
+    pub status: Status,
+    pub done: Done,
+}
+
+impl Stopped {
+    fn of(status: i32, done: Done) -> Result<Done, Stopped> {
+        Status::of(status).map(|()| done).map_err(|status| Stopped { status, done })
+    }
+}
+
+/// Encodes instructions one behind the other into the front of `code`, and what they tell into that of `uses`: all, or none.
+pub fn encode_all(insts: &[Inst], code: &mut [u8], uses: &mut [Use]) -> Result<Done, Stopped> {
+    let mut done = Done::default();
+    // SAFETY: pointers and lengths are those of three slices; the two that are written, and `done`, are ours alone.
+    let status = unsafe { sys::hq_encode_all(insts.as_ptr(), insts.len(), code.as_mut_ptr(), code.len(), uses.as_mut_ptr(), uses.len(), &mut done) };
+    Stopped::of(status, done)
+}
+
+impl Item {
+    /// An instruction.
+    pub fn inst(inst: Inst) -> Item {
+        Item { kind: sys::HQ_ITEM_INST, number: 0, inst }
+    }
+
+    /// The place of a label.
+    pub fn label(number: u32) -> Item {
+        Item { kind: sys::HQ_ITEM_LABEL, number, inst: Inst::default() }
+    }
+
+    /// A jump of this kind, `HQ_ITEM_JMP` and the like, to a label.
+    pub fn jump(kind: u32, number: u32) -> Item {
+        Item { kind, number, inst: Inst::default() }
+    }
+}
+
+/// Assembles items into the front of `code`: all, or none.
+pub fn assemble(items: &[Item], code: &mut [u8]) -> Result<Done, Stopped> {
+    let mut done = Done::default();
+    // SAFETY: pointers and lengths are those of two slices; the one that is written, and `done`, are ours alone.
+    let status = unsafe { sys::hq_assemble(items.as_ptr(), items.len(), code.as_mut_ptr(), code.len(), &mut done) };
+    Stopped::of(status, done)
+}
+
+/// A text in a slice, or the status and how many bytes it needs.
+fn text_in(text: &[u8], status: i32, len: usize) -> Result<&str, (Status, usize)> {
+    Status::of(status).map_err(|status| (status, len))?;
+    // The texts are ASCII.
+    core::str::from_utf8(&text[..len]).map_err(|_| (Status(status), len))
+}
+
+impl Inst {
+    /// Its text in AT&T's form, in the front of `text`, or how many bytes it needs.
+    pub fn format<'a>(&self, text: &'a mut [u8]) -> Result<&'a str, (Status, usize)> {
+        let mut len = 0;
+        // SAFETY: pointer and length are those of one slice; it and `len` are ours alone.
+        let status = unsafe { sys::hq_format(self, text.as_mut_ptr(), text.len(), &mut len) };
+        text_in(text, status, len)
+    }
+
+    /// Its mnemonic, likewise.
+    pub fn mnemonic<'a>(&self, text: &'a mut [u8]) -> Result<&'a str, (Status, usize)> {
+        let mut len = 0;
+        // SAFETY: as above.
+        let status = unsafe { sys::hq_mnemonic(self, text.as_mut_ptr(), text.len(), &mut len) };
+        text_in(text, status, len)
+    }
+}
+
+/// The name of the extension that a line asks for, empty where it asks for none, in the front of `text`.
+pub fn extension(line: u16, text: &mut [u8]) -> Result<&str, (Status, usize)> {
+    let mut len = 0;
+    // SAFETY: pointer and length are those of one slice; it and `len` are ours alone.
+    let status = unsafe { sys::hq_extension(line, text.as_mut_ptr(), text.len(), &mut len) };
+    text_in(text, status, len)
+}
+
+impl Reading {
+    /// The instruction that is read as this.
+    pub fn inst(&self) -> Result<Inst, Status> {
+        let mut out = Inst::default();
+        // SAFETY: both references are alive for the call, and `out` is ours alone.
+        let status = unsafe { sys::hq_inst_of_reading(self, &mut out) };
+        Status::of(status).map(|()| out)
+    }
+}
+
 impl Place {
     /// A register.
     pub fn register(reg: u8) -> Place {
@@ -115,7 +206,47 @@ impl Iterator for Readings<'_> {
 
 #[cfg(test)]
 mod tests {
-    use crate::{Inst, Place, Readings, Status, sys};
+    use crate::{Inst, Item, Place, Readings, Status, Use, assemble, encode_all, extension, sys};
+
+    fn ret() -> Inst {
+        Inst::new(sys::HQ_LINE_RETQ_ZO, None, None, Place::default(), None).unwrap()
+    }
+
+    #[test]
+    fn encodes_a_list() {
+        let lea = Inst::new(sys::HQ_LINE_LEAQ_RM, Some(0), None, Place::label(9), None).unwrap();
+        let (mut code, mut uses) = ([0xCC; 10], [Use::default(); 2]);
+        let done = encode_all(&[ret(), lea, ret()], &mut code, &mut uses).unwrap();
+        assert_eq!((done.items, done.bytes, done.uses), (3, 9, 1));
+        assert_eq!(code, [0xC3, 0x48, 0x8D, 0x05, 0, 0, 0, 0, 0xC3, 0xCC]);
+        assert_eq!((uses[0].at, uses[0].kind, uses[0].number), (4, sys::HQ_TOLD_LABEL, 9));
+        let bad = Inst { reserved: 1, ..lea };
+        let stopped = encode_all(&[ret(), bad], &mut code, &mut uses).unwrap_err();
+        assert_eq!((stopped.status, stopped.done.items, code[0]), (Status(sys::HQ_BAD_INST), 1, 0xC3));
+        let stopped = encode_all(&[lea, lea], &mut code, &mut uses).unwrap_err();
+        assert_eq!((stopped.status, stopped.done.bytes), (Status(sys::HQ_FULL), 14));
+    }
+
+    #[test]
+    fn assembles_a_loop() {
+        let dec = Inst::new(sys::HQ_LINE_SUBQ_MI_SXB, None, None, Place::register(7), Some(1)).unwrap();
+        let mut code = [0xCC; 16];
+        let done = assemble(&[Item::label(0), Item::inst(dec), Item::jump(sys::HQ_ITEM_JNE, 0), Item::inst(ret())], &mut code).unwrap();
+        assert_eq!(code[..done.bytes], [0x48, 0x83, 0xEF, 0x01, 0x75, 0xFA, 0xC3]);
+        let stopped = assemble(&[Item::inst(ret()), Item::jump(sys::HQ_ITEM_JMP, 0)], &mut code).unwrap_err();
+        assert_eq!(stopped.status, Status(sys::HQ_UNBOUND));
+    }
+
+    #[test]
+    fn writes_texts() {
+        let add = Inst::new(sys::HQ_LINE_ADDQ_RM, Some(0), None, Place::index(7, 1, 3, 0), None).unwrap();
+        let mut text = [0; 32];
+        assert_eq!(add.format(&mut text), Ok("addq (%rdi, %rcx, 8), %rax"));
+        assert_eq!(add.mnemonic(&mut text), Ok("addq"));
+        assert_eq!(add.format(&mut text[..3]), Err((Status(sys::HQ_FULL), 26)));
+        assert_eq!(extension(sys::HQ_LINE_POPCNTQ_RM, &mut text), Ok("popcnt"));
+        assert_eq!(Readings(&[0x48, 0x03, 0x04, 0xCF]).next().unwrap().inst(), Ok(add));
+    }
 
     #[test]
     fn encodes_and_reads() {

@@ -34,6 +34,20 @@ pub const HQ_FAULT_FIXED: i32 = 18;
 pub const HQ_FAULT_UNKNOWN: i32 = 19;
 /// The displacement and its late offset have a sum that isn't of 32 bits.
 pub const HQ_FAULT_RANGE: i32 = 20;
+/// There are more than 165,191,049 instructions.
+pub const HQ_TOO_MANY: i32 = 10;
+/// The allocator gave no memory.
+pub const HQ_NO_MEMORY: i32 = 11;
+/// The integers are no item.
+pub const HQ_BAD_ITEM: i32 = 12;
+/// The label's number isn't below that of all items.
+pub const HQ_BAD_LABEL: i32 = 13;
+/// The label has a place already.
+pub const HQ_BOUND_TWICE: i32 = 14;
+/// A label or a constant that is referred to has no place.
+pub const HQ_UNBOUND: i32 = 15;
+/// A register has no name: it isn't below 16.
+pub const HQ_NO_NAME: i32 = 21;
 /// A place: nothing.
 pub const HQ_PLACE_NOTHING: u8 = 0;
 /// A place: a register.
@@ -68,6 +82,46 @@ pub const HQ_TOLD_LABEL: u32 = 2;
 pub const HQ_TOLD_CONSTANT: u32 = 3;
 /// What is told: a relative place, and not what it refers to.
 pub const HQ_TOLD_PLACE: u32 = 4;
+/// An item: an instruction.
+pub const HQ_ITEM_INST: u32 = 0;
+/// An item: the place of a label, which is that of what comes next.
+pub const HQ_ITEM_LABEL: u32 = 1;
+/// An item: a jump to a label, which is always taken.
+pub const HQ_ITEM_JMP: u32 = 2;
+/// An item: a call of a label.
+pub const HQ_ITEM_CALL: u32 = 3;
+/// An item: a jump to a label at overflow.
+pub const HQ_ITEM_JO: u32 = 4;
+/// An item: a jump to a label at no overflow.
+pub const HQ_ITEM_JNO: u32 = 5;
+/// An item: a jump to a label at below, of unsigned numbers.
+pub const HQ_ITEM_JB: u32 = 6;
+/// An item: a jump to a label at above or equal, of unsigned numbers.
+pub const HQ_ITEM_JAE: u32 = 7;
+/// An item: a jump to a label at equal.
+pub const HQ_ITEM_JE: u32 = 8;
+/// An item: a jump to a label at not equal.
+pub const HQ_ITEM_JNE: u32 = 9;
+/// An item: a jump to a label at below or equal, of unsigned numbers.
+pub const HQ_ITEM_JBE: u32 = 10;
+/// An item: a jump to a label at above, of unsigned numbers.
+pub const HQ_ITEM_JA: u32 = 11;
+/// An item: a jump to a label at sign.
+pub const HQ_ITEM_JS: u32 = 12;
+/// An item: a jump to a label at no sign.
+pub const HQ_ITEM_JNS: u32 = 13;
+/// An item: a jump to a label at parity even.
+pub const HQ_ITEM_JP: u32 = 14;
+/// An item: a jump to a label at parity odd.
+pub const HQ_ITEM_JNP: u32 = 15;
+/// An item: a jump to a label at less, of signed numbers.
+pub const HQ_ITEM_JL: u32 = 16;
+/// An item: a jump to a label at greater or equal, of signed numbers.
+pub const HQ_ITEM_JGE: u32 = 17;
+/// An item: a jump to a label at less or equal, of signed numbers.
+pub const HQ_ITEM_JLE: u32 = 18;
+/// An item: a jump to a label at greater, of signed numbers.
+pub const HQ_ITEM_JG: u32 = 19;
 /// No register is given.
 pub const HQ_NO_REG: u16 = 256;
 /// No immediate is given.
@@ -782,8 +836,45 @@ pub struct hq_use {
 
 const _: () = assert!(size_of::<hq_use>() == 12 && align_of::<hq_use>() == 4);
 
+/// How far a list of instructions or items was gone through, and what they have.
+#[repr(C)]
+#[derive(Clone, Copy, Debug, Default, PartialEq, Eq, Hash)]
+pub struct hq_done {
+    /// How many instructions or items there are, or those before the first that is refused, which has this number.
+    pub items: usize,
+    /// How many bytes they have.
+    pub bytes: usize,
+    /// How many traps and targets they tell.
+    pub uses: usize,
+}
+
+const _: () = assert!(size_of::<hq_done>() == 24 && align_of::<hq_done>() == 8);
+
+/// What is assembled: an instruction, the place of a label, or a jump to one.
+#[repr(C)]
+#[derive(Clone, Copy, Debug, Default, PartialEq, Eq, Hash)]
+pub struct hq_item {
+    /// Which it is: `HQ_ITEM_INST` and the like.
+    pub kind: u32,
+    /// The number of the label, below that of all items. Of an instruction it isn't looked at.
+    pub number: u32,
+    /// The instruction. Of other items it isn't looked at.
+    pub inst: hq_inst,
+}
+
+const _: () = assert!(size_of::<hq_item>() == 32 && align_of::<hq_item>() == 4);
+
 #[link(name = "huqmeris", kind = "static")]
 unsafe extern "C" {
+    /// Assembles items: instructions, places of labels, and jumps to them, into the front of some bytes, all of them or none.
+    ///
+    /// A label's number is below that of all items. A jump to a label whose place comes before it, and that it reaches so, has one
+    /// byte of distance, any other has four. An instruction may refer to a label too. At `HQ_OK` `done` has how many items and bytes
+    /// there are, at `HQ_FULL` how many there would be; at another status `items` is the number of the item that is refused, from 0,
+    /// or how many were put. What instructions tell of traps isn't told. No late offset is known.
+    ///
+    /// It asks for memory, and has given all of it back when it answers.
+    pub unsafe fn hq_assemble(items: *const hq_item, items_len: usize, code: *mut u8, code_len: usize, done: *mut hq_done) -> i32;
     /// Why an instruction can't be encoded by `hq_encode`, which knows no late offsets: the first register that isn't below 16, or
     /// an index that is the stack pointer, or else a late offset. 0 where it can.
     pub unsafe fn hq_check(inst: *const hq_inst) -> i32;
@@ -796,6 +887,23 @@ unsafe extern "C" {
     /// Encodes an instruction into the front of some bytes, and says how many it has, 1 to 13, and what it tells beside them.
     /// `HQ_FULL` where they are too few. No late offset is known.
     pub unsafe fn hq_encode(inst: *const hq_inst, code: *mut u8, code_len: usize, len: *mut u32, told: *mut hq_use) -> i32;
+    /// Encodes instructions one behind the other into the front of some bytes, and says how many they have, and what they tell
+    /// beside them: all of them, or none.
+    ///
+    /// A use's `at` counts from the beginning of `code`. At `HQ_OK` `done` has how many instructions, bytes and uses were put, at
+    /// `HQ_FULL` how many there would be. Where an instruction is refused, `items` is its number, from 0, and the rest of `done` is
+    /// of those before it; the status is that of `hq_check`. `HQ_TOO_MANY` above 165,191,049 instructions. No late offset is known.
+    pub unsafe fn hq_encode_all(insts: *const hq_inst, insts_len: usize, code: *mut u8, code_len: usize, uses: *mut hq_use, uses_len: usize, done: *mut hq_done) -> i32;
+    /// Puts the name of the extension that a line asks for at the front of some bytes, as `hq_format` does with a text, but without
+    /// memory: `sse`, `sse2`, `bmi1`, `bmi2`, `lzcnt`, `popcnt`, `avx` or `cmpxchg16b`, or nothing. `HQ_BAD_LINE` where no line has
+    /// the number.
+    pub unsafe fn hq_extension(line: u16, text: *mut u8, text_len: usize, len: *mut usize) -> i32;
+    /// Puts the text of an instruction in AT&T's form at the front of some bytes, without a zero behind it, and says how many bytes
+    /// it has. `HQ_FULL` where they are too few: `len` is how many are needed, and the bytes are as before. `HQ_NO_NAME` where a
+    /// register isn't below 16.
+    ///
+    /// It asks for memory, and has given all of it back when it answers.
+    pub unsafe fn hq_format(inst: *const hq_inst, text: *mut u8, text_len: usize, len: *mut usize) -> i32;
     /// The instruction that is read as this, where the reading has an operand for each that its line takes and no other, and an
     /// immediate in its range. It has no trap code and no late offset, and can be encoded.
     ///
@@ -812,6 +920,8 @@ unsafe extern "C" {
     /// `HQ_BAD_LINE` where no line has the number, `HQ_BAD_PLACE` where the place is none, `HQ_BAD_OPERANDS` where the line takes
     /// others.
     pub unsafe fn hq_make(line: u16, reg: u16, vvvv: u16, place: *const hq_place, imm: i64, out: *mut hq_inst) -> i32;
+    /// Puts the mnemonic of an instruction at the front of some bytes, as `hq_format` does with its text, but without memory.
+    pub unsafe fn hq_mnemonic(inst: *const hq_inst, text: *mut u8, text_len: usize, len: *mut usize) -> i32;
     /// What a relative field is to hold: what is stored in it, and the distance from the field's end to the target. `place` is the
     /// place of the field's first byte. `HQ_OUT_OF_RANGE` where that isn't of 32 bits.
     pub unsafe fn hq_patched(place: u64, target: u64, stored: i32, field: *mut i32) -> i32;

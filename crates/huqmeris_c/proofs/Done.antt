@@ -49,7 +49,7 @@ relative_told place target read reading line n size e h l z k =
 got : (v : CoreView) (s t : FixedSink 13) (bytes : List ℕ) → (fixed_sink_state s).bytes ≡ [] → bytes ≡ (fixed_sink_state t).bytes → (k : AddsCore v (fixed_sink_state s) (fixed_sink_state t)) → bytes ≡ k.line.added
 got v s t bytes e h k = h ∙ k.line.bytes ∙ ap (λ (b : List ℕ). b ++ k.line.added) e
 
-adds_written : (v : CoreView) (s t : FixedSink 13) (bytes : List ℕ) → (fixed_sink_state s).bytes ≡ [] → bytes ≡ (fixed_sink_state t).bytes → AddsCore v (fixed_sink_state s) (fixed_sink_state t) → AddsCore v (written []) (written bytes)
+pub adds_written : (v : CoreView) (s t : FixedSink 13) (bytes : List ℕ) → (fixed_sink_state s).bytes ≡ [] → bytes ≡ (fixed_sink_state t).bytes → AddsCore v (fixed_sink_state s) (fixed_sink_state t) → AddsCore v (written []) (written bytes)
 adds_written v s t bytes e h k = record {
   line = record {
     added = k.line.added;

@@ -4,3 +4,9 @@ pub mod Encodes
 pub mod Outcome
 pub mod OfReading
 pub mod InTurn
+pub mod Each
+pub mod Items
+pub mod Text
+-- Steps of the proofs.
+pub mod Listed
+pub mod Putting

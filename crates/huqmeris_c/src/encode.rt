@@ -1,6 +1,6 @@
 //! Encoding.
 
-ghost use Rattle.std.specs.Prelude.{◌≡◌, ◌≢◌, ◌<◌, ◌^◌, [], IfSome, MatchOption, Some, pos, slice_get};
+ghost use Rattle.std.specs.Prelude.{◌≡◌, ◌≢◌, ◌≤◌, [], IfSome, MatchOption, Some, pos, slice_get};
 ghost use Rattle.cax64_encoder.specs.EncodesLine.{line_notices_of};
 ghost use Rattle.cax64_encoder.specs.Place.{memory_in};
 ghost use Rattle.cax64_machine_code.specs.Line.{imm_bytes};
@@ -27,7 +27,7 @@ use x64_core::{Core, CorePlace};
 use x64_core_reader::read_core;
 
 /// What this library encodes into.
-fn sink() -> FixedSink<13>
+pub(crate) fn sink() -> FixedSink<13>
     ensures { (fixed_sink_state result).bytes ≡ [] }
 {
     FixedSink::new()
@@ -84,9 +84,9 @@ fn imm_len(kind: OpImm) -> u8
 }
 
 /// What an instruction tells beside its bytes.
-fn notice_of(core: &Core, bytes: &[u8]) -> Option<Notice>
+pub(crate) fn notice_of(core: &Core, bytes: &[u8]) -> Option<Notice>
     ensures is { (reading : LineReading) → read_of core_lines bytes.now ≡ Some reading → reading.line ≡ core_line (core_view core.now).op → result ≡ slice_get (line_notices_of (memory_in (core_view core.now).place) 0 reading) 0 }
-    ensures near { IfSome result (λ notice. place_told notice < 2 ^ 32) }
+    ensures near { IfSome result (λ notice. place_told notice ≤ 256) }
 {
     match core.place() {
         CorePlace::Absent | CorePlace::Register(_) => None,

@@ -4,13 +4,22 @@
 //! before.
 #![tactic(auto)]
 
+mod assemble;
 mod convert;
 mod decode;
 mod decode_all;
 mod encode;
+mod encode_all;
+mod item;
+mod jump;
+#[cfg(test)]
+mod list_rows;
 mod make;
 mod patch;
+mod progress;
 mod rename;
 #[cfg(test)]
 mod rows;
+mod status;
+mod text;
 mod version;

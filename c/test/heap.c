@@ -1,0 +1,119 @@
+/* Three functions of a program's own in the place of those of heap.c: each growth is refused in turn, and then each call answers
+ * HQ_NO_MEMORY, what it could write is as before but for what it tells of items, and all memory is given back. The status is 0 where
+ * that is so. */
+#include "huqmeris.h"
+#include <stdio.h>
+#include <stdlib.h>
+#include <string.h>
+
+typedef struct {
+    size_t is_some;
+    void *at;
+} rattle_block;
+
+rattle_block rattle_alloc(size_t size, size_t align);
+rattle_block rattle_realloc(void *old, size_t old_size, size_t size, size_t align);
+void rattle_dealloc(void *at);
+
+static size_t asked, refused_at, held; /* how often memory was asked for, which of these is refused, how many blocks there are */
+static char nothing;
+
+static rattle_block block_of(void *at)
+{
+    rattle_block block = {at != NULL, at ? at : &nothing};
+    return block;
+}
+
+rattle_block rattle_alloc(size_t size, size_t align)
+{
+    if (++asked == refused_at)
+        return block_of(NULL);
+    held++;
+    return block_of(malloc(size ? size : align));
+}
+
+rattle_block rattle_realloc(void *old, size_t old_size, size_t size, size_t align)
+{
+    (void)old_size;
+    if (++asked == refused_at)
+        return block_of(NULL);
+    return block_of(realloc(old, size ? size : align));
+}
+
+void rattle_dealloc(void *at)
+{
+    held--;
+    free(at);
+}
+
+enum { LABELS = 40, ROOM = 1024 };
+
+/* A list that lets all that grows grow: many labels, many bytes. Answers how many growths it was refused in. */
+static size_t assembles(int *is_wanted)
+{
+    static hq_item items[3 * LABELS];
+    static uint8_t code[ROOM];
+    hq_place place = hq_mem(0, 1 << 20);
+    hq_inst inst;
+    hq_done done;
+    size_t refusals = 0, count = 0;
+    place.trap = 1;
+    *is_wanted = hq_make(HQ_LINE_ADDQ_RM, 1, HQ_NO_REG, &place, HQ_NO_IMM, &inst) == HQ_OK;
+    for (uint32_t label = 0; label < LABELS; label++) {
+        items[count++] = hq_item_at(HQ_ITEM_LABEL, label);
+        items[count++] = hq_item_of(&inst);
+        items[count++] = hq_item_at(HQ_ITEM_JE, LABELS - 1 - label);
+    }
+    for (refused_at = 1;; refused_at++) {
+        asked = 0;
+        memset(code, 0xA5, sizeof code);
+        int32_t status = hq_assemble(items, count, code, sizeof code, &done);
+        *is_wanted &= held == 0;
+        if (asked < refused_at)
+            break;
+        if (status == HQ_OK) /* it did with less */
+            continue;
+        refusals++;
+        for (size_t i = 0; i < sizeof code; i++)
+            *is_wanted &= code[i] == 0xA5;
+        *is_wanted &= status == HQ_NO_MEMORY && refused_at < 1000;
+        if (!*is_wanted)
+            return 0;
+    }
+    *is_wanted &= done.items == count && asked >= refusals;
+    return refusals;
+}
+
+static size_t formats(int *is_wanted)
+{
+    hq_place place = hq_index(1, 2, 3, -0x12345678);
+    hq_inst inst;
+    uint8_t text[64];
+    size_t refusals = 0, len;
+    *is_wanted = hq_make(HQ_LINE_ADDQ_MI_SXL, HQ_NO_REG, HQ_NO_REG, &place, -1, &inst) == HQ_OK;
+    for (refused_at = 1;; refused_at++) {
+        asked = 0;
+        len = 77;
+        memset(text, 0xA5, sizeof text);
+        int32_t status = hq_format(&inst, text, sizeof text, &len);
+        *is_wanted &= held == 0;
+        if (asked < refused_at)
+            break;
+        refusals++;
+        for (size_t i = 0; i < sizeof text; i++)
+            *is_wanted &= text[i] == 0xA5;
+        *is_wanted &= status == HQ_NO_MEMORY && len == 77 && refused_at < 1000;
+        if (!*is_wanted)
+            return 0;
+    }
+    *is_wanted &= len > 20;
+    return refusals;
+}
+
+int main(void)
+{
+    int lists = 0, texts = 0;
+    size_t of_lists = assembles(&lists), of_texts = formats(&texts);
+    printf("heap of the program's own: %zu growths of a list refused, %zu of a text\n", of_lists, of_texts);
+    return !(lists && texts && of_lists && of_texts);
+}

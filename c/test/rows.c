@@ -1,0 +1,264 @@
+/* Runs the cases of crates/vectors/data of the port's rows through the library: those of instructions.tsv and faults.tsv, of which
+ * no late offset is known, are made of their operands and encoded, and all of reader.tsv are read, each slice at the end of a page
+ * behind which no page is. The arguments are the paths of the three, in this order. Tells how many are as wanted; the status is 0
+ * where all are. */
+#define _GNU_SOURCE
+#include "huqmeris_names.h"
+#include <stdio.h>
+#include <stdlib.h>
+#include <string.h>
+#include <sys/mman.h>
+#include <unistd.h>
+
+static uint8_t *guard; /* the first byte that can't be touched */
+
+static uint8_t *before(size_t n) { return memset(guard - n, 0xA5, n); }
+
+static int line_of(const char *name)
+{
+    for (int line = 0; line < HQ_LINE_COUNT; line++)
+        if (strcmp(hq_line_names[line], name) == 0)
+            return line;
+    return -1;
+}
+
+/* The number behind a word of a text. */
+static int has(const char *text, const char *word, long *number)
+{
+    const char *at = strstr(text, word);
+    if (at)
+        *number = atol(at + strlen(word));
+    return at != NULL;
+}
+
+typedef struct {
+    uint16_t reg, vvvv;
+    hq_place place;
+    int64_t imm;
+    int fixed; /* a register that the line fixes is given */
+} operands;
+
+/* Memory, as base:1,index:2,scale:3,disp:4,late:5,trap:6, or relative to the end. */
+static hq_place memory_of(const char *text)
+{
+    long base = 0, index = 0, scale = 0, disp = 0, late = 0, trap = 0, number = 0;
+    hq_place p;
+    if (has(text, "rip:label:", &number))
+        return hq_label((uint32_t)number);
+    if (has(text, "rip:const:", &number))
+        return hq_constant((uint32_t)number);
+    if (strstr(text, "rip:none")) {
+        p = hq_nothing();
+        p.place = HQ_PLACE_UNTOLD;
+        return p;
+    }
+    has(text, "base:", &base);
+    has(text, "disp:", &disp);
+    if (has(text, "index:", &index)) {
+        has(text, "scale:", &scale);
+        p = hq_index((uint8_t)base, (uint8_t)index, (uint8_t)scale, (int32_t)disp);
+    } else
+        p = hq_mem((uint8_t)base, (int32_t)disp);
+    p.has_offset = (uint8_t)has(text, "late:", &late);
+    p.offset = (uint8_t)late;
+    p.trap = (uint8_t)(has(text, "trap:", &trap) ? trap : 0);
+    return p;
+}
+
+/* Operands, as r8=1 m8=base:1,disp:2 imm8=3: the first register stands in reg, the second in vvvv. */
+static void operands_of(char *text, operands *out)
+{
+    static const char *const fixed[] = {"al=", "ax=", "eax=", "edx=", "rax=", "rbx=", "rcx=", "rdx="};
+    out->reg = out->vvvv = HQ_NO_REG;
+    out->place = hq_nothing();
+    out->imm = HQ_NO_IMM;
+    out->fixed = 0;
+    for (char *word = strtok(text, " "); word; word = strtok(NULL, " ")) {
+        const char *value = strchr(word, '=');
+        int is_fixed = 0;
+        for (size_t i = 0; i < sizeof fixed / sizeof *fixed; i++)
+            is_fixed |= strncmp(word, fixed[i], strlen(fixed[i])) == 0;
+        if (!value || is_fixed) {
+            out->fixed |= is_fixed;
+            continue;
+        }
+        value++;
+        if (strncmp(word, "imm", 3) == 0)
+            out->imm = atoll(value);
+        else if (word[0] == 'm' || strncmp(word, "rm", 2) == 0 || strncmp(word, "xmm_m", 5) == 0)
+            out->place = strncmp(value, "reg:", 4) == 0 ? hq_reg((uint8_t)atoi(value + 4)) : strchr(value, ':') ? memory_of(value) : hq_reg((uint8_t)atoi(value));
+        else if (out->reg == HQ_NO_REG)
+            out->reg = (uint16_t)atoi(value);
+        else
+            out->vvvv = (uint16_t)atoi(value);
+    }
+}
+
+/* The instruction, whose immediate may be given without its sign. */
+static int32_t make(int line, const operands *o, hq_inst *out)
+{
+    int32_t status = hq_make((uint16_t)line, o->reg, o->vvvv, &o->place, o->imm, out);
+    if (status == HQ_BAD_OPERANDS + (4 << 8) && o->imm >= 128 && o->imm < 256)
+        status = hq_make((uint16_t)line, o->reg, o->vvvv, &o->place, o->imm - 256, out);
+    if (status == HQ_BAD_OPERANDS + (4 << 8) && o->imm >= INT64_C(1) << 31)
+        status = hq_make((uint16_t)line, o->reg, o->vvvv, &o->place, o->imm - (INT64_C(1) << 32), out);
+    return status;
+}
+
+static size_t bytes_of(const char *hex, uint8_t *out)
+{
+    size_t n = 0;
+    unsigned byte;
+    for (; n < 16 && sscanf(hex + 2 * n, "%2x", &byte) == 1; n++)
+        out[n] = (uint8_t)byte;
+    return n;
+}
+
+/* What is told, as trap@0=7 or target@3=label:9. */
+static int is_told(const char *text, const hq_use *told)
+{
+    long at = 0, number = 0;
+    if (strcmp(text, "-") == 0)
+        return told->kind == HQ_TOLD_NOTHING;
+    has(text, "@", &at);
+    if (has(text, "trap@", &number))
+        return told->kind == HQ_TOLD_TRAP && has(text, "=", &number) && told->number == (uint32_t)number && told->at == (uint32_t)at;
+    if (has(text, "label:", &number))
+        return told->kind == HQ_TOLD_LABEL && told->number == (uint32_t)number && told->at == (uint32_t)at;
+    if (has(text, "const:", &number))
+        return told->kind == HQ_TOLD_CONSTANT && told->number == (uint32_t)number && told->at == (uint32_t)at;
+    return told->kind == HQ_TOLD_PLACE && told->at == (uint32_t)at;
+}
+
+/* NULL where an instruction is as wanted, or why not. Of three rows the port puts a prefix that nothing asks for: the second bytes of
+ * a line are those without it. */
+static const char *instruction(char **column, int *skipped)
+{
+    uint8_t want[16];
+    operands o;
+    hq_inst inst;
+    hq_use told;
+    uint32_t len = 77;
+    size_t size = bytes_of(column[7], want);
+    int line = line_of(column[0]);
+    operands_of(column[1], &o);
+    if (line < 0 || strcmp(column[2], "-") != 0 || make(line, &o, &inst) != HQ_OK) {
+        *skipped = line < 0 || strcmp(column[2], "-") != 0;
+        return *skipped ? NULL : "it can't be made";
+    }
+    if (hq_encode(&inst, before(size - 1), size - 1, &len, &told) != HQ_FULL || len != 77)
+        return "a slice that is too short isn't refused";
+    uint8_t *code = before(size);
+    if (hq_encode(&inst, code, size, &len, &told) != HQ_OK || len != size || memcmp(code, want, size))
+        return "the bytes are others";
+    return is_told(column[9], &told) ? NULL : "something else is told";
+}
+
+/* The same of a fault. Those of registers are counted in another order here, and those of fixed registers don't cross. */
+static const char *fault(char **column, int *skipped)
+{
+    operands o;
+    hq_inst inst;
+    long key;
+    int line = line_of(column[0]), is_unknown = has(column[3], "Unknown:", &key);
+    operands_of(column[1], &o);
+    if (line < 0 || strncmp(column[3], "Fixed", 5) == 0 || strncmp(column[3], "Range", 5) == 0 || (o.fixed && strcmp(column[3], "-") != 0) || make(line, &o, &inst) != HQ_OK) {
+        *skipped = 1;
+        return NULL;
+    }
+    int32_t status = hq_check(&inst);
+    if (strcmp(column[3], "-") == 0) /* a late offset that isn't known here is one */
+        return status == (o.place.has_offset ? HQ_FAULT_UNKNOWN + (o.place.offset << 8) : HQ_OK) ? NULL : "it has a fault";
+    if (is_unknown)
+        return status == HQ_FAULT_UNKNOWN + (key << 8) ? NULL : "the late offset is known";
+    return hq_code(status) == HQ_FAULT_REGISTER || hq_code(status) == HQ_FAULT_INDEX ? NULL : "it has no such fault";
+}
+
+/* What was read of a register: low:1 or high:1. */
+static int is_view(const char *text, uint8_t kind, uint8_t number)
+{
+    long n = 0;
+    if (strcmp(text, "-") == 0)
+        return kind == HQ_READ_NOTHING;
+    return has(text, "low:", &n) ? kind == HQ_READ_REGISTER && number == n : has(text, "high:", &n) && kind == HQ_READ_HIGH_BYTE && number == n;
+}
+
+static int is_place(const char *text, const hq_reading *r)
+{
+    long base = 0, index = 0, disp = 0;
+    if (strncmp(text, "reg:", 4) == 0)
+        return is_view(text + 4, r->place_kind, r->base);
+    if (strncmp(text, "rip:", 4) == 0)
+        return r->place_kind == HQ_READ_RELATIVE && has(text, "rip:", &disp) && r->disp == disp;
+    if (strcmp(text, "-") == 0)
+        return r->place_kind == HQ_READ_NOTHING;
+    has(text, "disp=", &disp);
+    if (r->place_kind != HQ_READ_MEMORY || r->disp != disp || r->has_base != !strstr(text, "base=-") || r->has_index != !strstr(text, "index=-"))
+        return 0;
+    const char *factor = strchr(text, '*');
+    return (!r->has_base || (has(text, "base=", &base) && r->base == base))
+        && (!r->has_index || (has(text, "index=", &index) && r->index == index && factor && r->factor == atoi(factor + 1)));
+}
+
+/* The same of bytes: those that no row reads may be read by a line of the core that is none. */
+static const char *reading(char **column, int *skipped)
+{
+    uint8_t bytes[16];
+    hq_reading r;
+    size_t size = column[0][0] == '-' ? 0 : bytes_of(column[0], bytes);
+    int32_t status = hq_decode(memcpy(before(size), bytes, size), size, &r);
+    if (strcmp(column[2], "none") == 0)
+        return status == HQ_NONE || r.line >= 158 ? NULL : "a row reads it";
+    if (status != HQ_OK)
+        return "it isn't read";
+    if (r.line >= 158) {
+        *skipped = 1;
+        return NULL;
+    }
+    if (strcmp(hq_line_names[r.line], column[2]) != 0 || r.length != atoi(column[3]) || r.tail != atoi(column[4]))
+        return "line or length is another";
+    if (!is_view(column[5], r.reg_kind, r.reg) || r.has_vvvv != (column[6][0] != '-') || (r.has_vvvv && r.vvvv != atoi(column[6])))
+        return "a register is another";
+    if (!is_place(column[7], &r))
+        return "the place is another";
+    return r.has_imm == (strcmp(column[8], "-") != 0) && (!r.has_imm || r.imm == atoll(column[8])) ? NULL : "the immediate is another";
+}
+
+static int run(const char *path, const char *(*outcome)(char **, int *), int columns)
+{
+    FILE *file = fopen(path, "r");
+    char text[2048];
+    unsigned number = 0, lines = 0, equal = 0, others = 0;
+    if (!file)
+        return 1;
+    while (fgets(text, sizeof text, file)) {
+        char *column[16] = {0}, *rest = text;
+        int skipped = 0;
+        if (number++ == 0)
+            continue;
+        text[strcspn(text, "\n")] = 0;
+        for (int i = 0; i < 16 && rest; i++)
+            column[i] = strsep(&rest, "\t");
+        if (!column[columns - 1])
+            continue;
+        const char *why = outcome(column, &skipped);
+        others += (unsigned)skipped;
+        lines += !skipped;
+        equal += !skipped && !why;
+        if (why)
+            printf("%s, line %u, %s: %s\n", strrchr(path, '/') + 1, number, column[0], why);
+    }
+    fclose(file);
+    printf("%s through C: %u lines, %u as wanted, %u aren't of these calls\n", strrchr(path, '/') + 1, lines, equal, others);
+    return !(lines && lines == equal);
+}
+
+int main(int argc, char **argv)
+{
+    long page = sysconf(_SC_PAGESIZE);
+    uint8_t *at = mmap(NULL, 2 * (size_t)page, PROT_READ | PROT_WRITE, MAP_PRIVATE | MAP_ANONYMOUS, -1, 0);
+    if (argc != 4 || at == MAP_FAILED || mprotect(at + page, (size_t)page, PROT_NONE))
+        return 2;
+    guard = at + page;
+    return run(argv[1], instruction, 10) | run(argv[2], fault, 4) | run(argv[3], reading, 9);
+}

@@ -1,0 +1,30 @@
+use Rattle.std.specs.Prelude.{◌≡◌, ◌≤◌, ◌<◌, ◌++◌, ◌⊎◌, ℕ, ℤ, pos, true, false, Option, Some, None, List, [], codes, drop, length}
+use Rattle.x64_core.specs.View.{CoreView}
+use Rattle.x64_core.specs.declared.extension.Extension.{Extension}
+use Rattle.x64_core.specs.declared.extension.Extension.TheVariants as extension
+use Rattle.x64_core_text.specs.Text.{nameable, text}
+
+-- Texts that are handed out.
+
+-- These bytes stand at the front, where there is room for them, and behind them all is as before; how many they are is told.
+pub record HandedOut (bytes old new : List ℕ) (len : ℕ) (status : ℤ) : Type 0 where
+  pub told : len ≡ length bytes
+  pub fits : length bytes ≤ length old → (status ≡ pos 0) × (new ≡ bytes ++ drop (length bytes) old)
+  pub full : length old < length bytes → (status ≡ pos 6) × (new ≡ old)
+
+-- An instruction's text is, where each of its registers has a name, if there was memory.
+pub record FormattedAs (v : CoreView) (old new : List ℕ) (len len' : ℕ) (status : ℤ) : Type 0 where
+  pub nameless : nameable v ≡ false → (status ≡ pos 21) × (new ≡ old) × (len' ≡ len)
+  pub named : nameable v ≡ true → ((status ≡ pos 11) × (new ≡ old) × (len' ≡ len)) ⊎ HandedOut (text v) old new len' status
+
+-- the name of an extension, as processors list it
+abbrev pub extension_name : Option Extension → List ℕ
+extension_name None = []
+extension_name (Some extension.Sse) = codes "sse"
+extension_name (Some extension.Sse2) = codes "sse2"
+extension_name (Some extension.Bmi1) = codes "bmi1"
+extension_name (Some extension.Bmi2) = codes "bmi2"
+extension_name (Some extension.Lzcnt) = codes "lzcnt"
+extension_name (Some extension.Popcnt) = codes "popcnt"
+extension_name (Some extension.Avx) = codes "avx"
+extension_name (Some extension.Cmpxchg16b) = codes "cmpxchg16b"

@@ -1,0 +1,224 @@
+//! Encoding of many instructions.
+
+ghost use Rattle.std.specs.Prelude.{◌≡◌, ◌≤◌, ◌<◌, ◌+◌, ◌++◌, ◌^◌, ℕ, [], IfErr, IfOk, None, Some, drop, length, take};
+ghost use Rattle.cax64_encoder.specs.EncodesLine.{line_notices_of};
+ghost use Rattle.cax64_encoder.specs.Place.{memory_in};
+ghost use Rattle.cax64_machine_code.specs.ReadLine.{LineReading, read_of};
+ghost use Rattle.cax64_sink.specs.FixedSink.{fixed_sink_state};
+ghost use Rattle.huqmeris_c.specs.Each.{AreSound, EachPutAs, IsRefused, PutEach, StoppedAt, uses_told};
+ghost use Rattle.huqmeris_c.specs.Encodes.{no_offsets, written};
+ghost use Rattle.huqmeris_c.specs.Listed.{CanPut, HasRoomFor, HasSize, PutBehind, PutNext, moved, use_list};
+ghost use Rattle.x64_core.specs.Adds.{AddsCore};
+ghost use Rattle.x64_core.specs.Core.{core_len, fault_of};
+ghost use Rattle.x64_core.specs.Line.{core_line};
+ghost use Rattle.x64_core.specs.Lines.{core_lines};
+ghost use Rattle.x64_core.specs.View.{core_view};
+
+use crate::encode::{notice_of, sink};
+use crate::progress::HqDone;
+use crate::status::HQ_TOO_MANY;
+use cax64_encoder::RoomNeeded;
+use cax64_plain::status::{HQ_BAD_INST, HQ_FULL, HQ_OK, fault_status};
+use cax64_plain::{HqInst, HqUse};
+use cax64_sink::FixedSink;
+use x64_core::Core;
+
+/// How many instructions are encoded in one call at most: so many of 13 bytes each have less than 2 to the 31.
+const MOST: usize = 165_191_049;
+
+/// Where a list is stopped at, and why.
+#[derive(Clone, Copy)]
+struct Stop {
+    done: HqDone,
+    status: i32,
+}
+
+/// How many bytes and notices an instruction has, or why it can't be encoded.
+fn size_of(inst: &HqInst) -> Result<RoomNeeded, i32>
+    ensures size { IfOk result (λ room. HasSize inst.now room.bytes room.notices) }
+    ensures refused { IfErr result (λ status. IsRefused inst.now status) }
+{
+    let Some(core) = inst.core() else {
+        return Err(HQ_BAD_INST);
+    };
+    let sink = sink();
+    match core.first_fault(&sink) {
+        Some(fault) => Err(fault_status(fault)),
+        None => Ok(core.room_needed(&sink)),
+    }
+}
+
+/// Finds how many bytes instructions have, and how many traps and targets they tell, or the first that can't be encoded.
+fn measure(insts: &[HqInst]) -> Result<HqDone, Stop>
+    requires { length insts.now ≤ 165191049 }
+    ensures items { IfOk result (λ done. done.items ≡ length insts.now) }
+    ensures sound { IfOk result (λ done. AreSound insts.now done.bytes done.uses) }
+    ensures stopped { IfErr result (λ stop. StoppedAt insts.now stop.done stop.status) }
+{
+    let mut bytes = 0usize;
+    let mut uses = 0usize;
+    for i in 0..insts.len() {
+        match size_of(&insts[i]) {
+            Ok(room) => {
+                bytes += usize::from(room.bytes);
+                uses += usize::from(room.notices);
+            }
+            Err(status) => {
+                return Err(Stop {
+                    done: HqDone {
+                        items: i,
+                        bytes,
+                        uses,
+                    },
+                    status,
+                });
+            }
+        }
+    }
+    Ok(HqDone {
+        items: insts.len(),
+        bytes,
+        uses,
+    })
+}
+
+/// An instruction that can be encoded, alone.
+fn encoded(core: &Core) -> FixedSink<13>
+    requires { fault_of no_offsets (core_view core.now) ≡ None }
+    ensures adds { AddsCore (core_view core.now) (written []) (written (fixed_sink_state result).bytes) }
+    ensures length { length (fixed_sink_state result).bytes ≡ core_len no_offsets (core_view core.now) }
+{
+    let mut sink = sink();
+    core.encode(&mut sink).unwrap();
+    sink
+}
+
+/// What is told of an instruction that stands behind so many bytes.
+fn moved(told: HqUse, at: usize) -> HqUse
+    requires { at + told.at < 2 ^ 32 }
+    ensures { result ≡ moved at told }
+{
+    HqUse {
+        at: at as u32 + told.at,
+        ..told
+    }
+}
+
+/// What an instruction of these bytes tells, behind so many others.
+fn use_of(core: &Core, bytes: &[u8], at: usize) -> Option<HqUse>
+    requires { at < 2 ^ 31 }
+    ensures { (reading : LineReading) → read_of core_lines bytes.now ≡ Some reading → reading.line ≡ core_line (core_view core.now).op → use_list result ≡ uses_told (line_notices_of (memory_in (core_view core.now).place) at reading) }
+{
+    match notice_of(core, bytes) {
+        None => None,
+        Some(notice) => Some(moved(HqUse::of(Some(notice)), at)),
+    }
+}
+
+/// Puts an instruction that can be encoded behind so many bytes, and says how many it has, and what it tells.
+fn put_behind(core: &Core, code: &mut [u8], at: usize) -> (usize, Option<HqUse>)
+    requires sound { fault_of no_offsets (core_view core.now) ≡ None }
+    requires room { at + core_len no_offsets (core_view core.now) ≤ length code.old }
+    requires near { at < 2 ^ 31 }
+    ensures { PutBehind (core_view core.now) at code.old code.new result.0 (use_list result.1) }
+{
+    let sink = encoded(core);
+    let bytes = sink.bytes();
+    let end = at + bytes.len();
+    code[at..end].copy_from_slice(bytes);
+    (bytes.len(), use_of(core, bytes, at))
+}
+
+/// Notes what may be told behind so many others, and says how many these are then.
+fn note(uses: &mut [HqUse], count: usize, heard: Option<HqUse>) -> usize
+    requires { count + length (use_list heard) ≤ length uses.old }
+    ensures count { result ≡ count + length (use_list heard) }
+    ensures front { take result uses.new ≡ take count uses.old ++ use_list heard }
+    ensures others { drop result uses.new ≡ drop result uses.old }
+    ensures places { length uses.new ≡ length uses.old }
+{
+    match heard {
+        None => count,
+        Some(heard) => {
+            uses[count] = heard;
+            count + 1
+        }
+    }
+}
+
+/// Puts the next instruction, and says how many bytes there are then, and how many uses.
+fn put_next(
+    inst: &HqInst,
+    code: &mut [u8],
+    uses: &mut [HqUse],
+    at: usize,
+    count: usize,
+) -> (usize, usize)
+    requires ready { CanPut inst.now (length code.old) (length uses.old) at count }
+    requires near { at < 2 ^ 31 }
+    ensures { PutNext inst.now code.old code.new uses.old uses.new at count result.0 result.1 }
+{
+    match inst.core() {
+        None => (at, count),
+        Some(core) => {
+            let put = put_behind(&core, code, at);
+            let noted = note(uses, count, put.1);
+            (at + put.0, noted)
+        }
+    }
+}
+
+/// Puts instructions one behind the other, and says how many bytes they have, and how many traps and targets they tell.
+fn put_each(insts: &[HqInst], code: &mut [u8], uses: &mut [HqUse]) -> (usize, usize)
+    requires few { length insts.now ≤ 165191049 }
+    requires room { HasRoomFor insts.now (length code.old) (length uses.old) }
+    ensures { PutEach insts.now code.old code.new uses.old uses.new result.0 result.1 }
+{
+    let mut at = 0usize;
+    let mut count = 0usize;
+    for i in 0..insts.len() {
+        let next = put_next(&insts[i], code, uses, at, count);
+        at = next.0;
+        count = next.1;
+    }
+    (at, count)
+}
+
+/// Encodes instructions one behind the other into the front of some bytes, and says how many they have, and what they tell
+/// beside them: all of them, or none.
+///
+/// A use's `at` counts from the beginning of `code`. At `HQ_OK` `done` has how many instructions, bytes and uses were put, at
+/// `HQ_FULL` how many there would be. Where an instruction is refused, `items` is its number, from 0, and the rest of `done` is
+/// of those before it; the status is that of `hq_check`. `HQ_TOO_MANY` above 165,191,049 instructions. No late offset is known.
+#[unsafe(no_mangle)]
+pub extern "C" fn hq_encode_all(
+    insts: &[HqInst],
+    code: &mut [u8],
+    uses: &mut [HqUse],
+    done: &mut HqDone,
+) -> i32
+    ensures { EachPutAs insts.now code.old code.new uses.old uses.new done.old done.new result }
+{
+    if insts.len() > MOST {
+        return HQ_TOO_MANY;
+    }
+    match measure(insts) {
+        Err(stop) => {
+            *done = stop.done;
+            stop.status
+        }
+        Ok(all) => {
+            if code.len() < all.bytes || uses.len() < all.uses {
+                *done = all;
+                return HQ_FULL;
+            }
+            let (bytes, count) = put_each(insts, code, uses);
+            *done = HqDone {
+                items: insts.len(),
+                bytes,
+                uses: count,
+            };
+            HQ_OK
+        }
+    }
+}

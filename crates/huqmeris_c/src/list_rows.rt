@@ -1,0 +1,195 @@
+//! Worked rows of the calls that take lists or hand texts out, each by hand, and what they refuse.
+
+use crate::assemble::hq_assemble;
+use crate::encode_all::hq_encode_all;
+use crate::item::{
+    HQ_ITEM_CALL, HQ_ITEM_INST, HQ_ITEM_JG, HQ_ITEM_JMP, HQ_ITEM_JNE, HQ_ITEM_LABEL, HqItem,
+};
+use crate::progress::HqDone;
+use crate::status::{HQ_BAD_ITEM, HQ_BAD_LABEL, HQ_BOUND_TWICE, HQ_NO_NAME, HQ_UNBOUND};
+use crate::text::{hq_extension, hq_format, hq_mnemonic};
+use cax64_address::amode::Amode;
+use cax64_plain::status::{HQ_BAD_INST, HQ_BAD_LINE, HQ_FULL, HQ_OK};
+use cax64_plain::told::{HQ_TOLD_LABEL, HQ_TOLD_NOTHING};
+use cax64_plain::{HqInst, HqUse};
+use cax64_sink::{DeferredTarget, Label};
+use x64_core::ops::arithmetic::{ADDQ_RM, SUBQ_MI_SXB};
+use x64_core::ops::bits::POPCNTQ_RM;
+use x64_core::ops::control::RETQ_ZO;
+use x64_core::ops::moves::LEAQ_RM;
+
+/// `leaq 0(%rip), %rax` of a label.
+fn address_of(number: u32) -> HqInst {
+    let label = DeferredTarget::Label(Label(number));
+    HqInst::of(&LEAQ_RM.mem(0, Amode::RipRelative { target: label }))
+}
+
+fn inst(inst: HqInst) -> HqItem {
+    HqItem {
+        kind: HQ_ITEM_INST,
+        number: 0,
+        inst,
+    }
+}
+
+fn label(kind: u32, number: u32) -> HqItem {
+    HqItem {
+        kind,
+        number,
+        inst: HqInst::of(&RETQ_ZO.bare()),
+    }
+}
+
+/// `retq` and an address: all bytes and the label's field are told, or nothing is put.
+#[test]
+fn a_list_is_put_or_not(rt: HostRuntime) {
+    let insts = [HqInst::of(&RETQ_ZO.bare()), address_of(9)];
+    let (mut code, mut uses) = ([0xCC; 9], [HqUse::NOTHING; 2]);
+    let mut done = HqDone::NOTHING;
+    assert_eq!(rt;
+        hq_encode_all(&insts, &mut code[..7], &mut uses, &mut done),
+        HQ_FULL
+    );
+    assert_eq!(rt; (done.items, done.bytes, done.uses), (2, 8, 1));
+    assert_eq!(rt;
+        hq_encode_all(&insts, &mut code, &mut uses[..0], &mut done),
+        HQ_FULL
+    );
+    assert_eq!(rt; code.as_slice(), [0xCC; 9].as_slice());
+    assert_eq!(rt;
+        hq_encode_all(&insts, &mut code, &mut uses, &mut done),
+        HQ_OK
+    );
+    assert_eq!(rt; (done.items, done.bytes, done.uses), (2, 8, 1));
+    assert_eq!(rt;
+        code.as_slice(),
+        [0xC3, 0x48, 0x8D, 0x05, 0, 0, 0, 0, 0xCC].as_slice()
+    );
+    assert_eq!(rt;
+        (uses[0].at, uses[0].kind, uses[0].number),
+        (4, HQ_TOLD_LABEL, 9)
+    );
+    assert_eq!(rt; uses[1].kind, HQ_TOLD_NOTHING);
+    let bad = HqInst {
+        reserved: 1,
+        ..insts[1]
+    };
+    let spoiled = [insts[0], bad];
+    assert_eq!(rt;
+        hq_encode_all(&spoiled, &mut code, &mut uses, &mut done),
+        HQ_BAD_INST
+    );
+    assert_eq!(rt; (done.items, done.bytes, done.uses), (1, 1, 0));
+}
+
+/// A loop: `leaq` of the end, `subq $1, %rdi`, a jump back, a call of the beginning, `retq`.
+#[test]
+fn a_loop_is_assembled(rt: HostRuntime) {
+    let items = [
+        label(HQ_ITEM_LABEL, 0),
+        inst(address_of(1)),
+        inst(HqInst::of(&SUBQ_MI_SXB.reg(7, 1))),
+        label(HQ_ITEM_JNE, 0),
+        label(HQ_ITEM_CALL, 0),
+        label(HQ_ITEM_LABEL, 1),
+        inst(HqInst::of(&RETQ_ZO.bare())),
+    ];
+    let wanted = [
+        0x48, 0x8D, 0x05, 0x0B, 0, 0, 0, 0x48, 0x83, 0xEF, 0x01, 0x75, 0xF3, 0xE8, 0xEE, 0xFF,
+        0xFF, 0xFF, 0xC3,
+    ];
+    let (mut code, mut done) = ([0xCC; 20], HqDone::NOTHING);
+    assert_eq!(rt;
+        hq_assemble(rt.alloc(), &items, &mut code[..18], &mut done),
+        HQ_FULL
+    );
+    assert_eq!(rt; done.bytes, 19);
+    assert_eq!(rt; code.as_slice(), [0xCC; 20].as_slice());
+    assert_eq!(rt;
+        hq_assemble(rt.alloc(), &items, &mut code, &mut done),
+        HQ_OK
+    );
+    assert_eq!(rt; (done.items, done.bytes), (7, 19));
+    assert_eq!(rt; &code[..19], wanted.as_slice());
+    assert_eq!(rt; code[19], 0xCC);
+}
+
+/// What each list is refused for, and at which item.
+#[test]
+fn items_are_refused(rt: HostRuntime) {
+    let ret = inst(HqInst::of(&RETQ_ZO.bare()));
+    let mut code = [0xCC; 16];
+    let mut done = HqDone::NOTHING;
+    let unknown = [ret, label(HQ_ITEM_JG + 1, 0)];
+    assert_eq!(rt;
+        hq_assemble(rt.alloc(), &unknown, &mut code, &mut done),
+        HQ_BAD_ITEM
+    );
+    assert_eq!(rt; done.items, 1);
+    let large = [ret, label(HQ_ITEM_LABEL, 2)];
+    assert_eq!(rt;
+        hq_assemble(rt.alloc(), &large, &mut code, &mut done),
+        HQ_BAD_LABEL
+    );
+    assert_eq!(rt; done.items, 1);
+    let twice = [label(HQ_ITEM_LABEL, 1), ret, label(HQ_ITEM_LABEL, 1)];
+    assert_eq!(rt;
+        hq_assemble(rt.alloc(), &twice, &mut code, &mut done),
+        HQ_BOUND_TWICE
+    );
+    assert_eq!(rt; done.items, 2);
+    let unbound = [label(HQ_ITEM_JMP, 0)];
+    assert_eq!(rt;
+        hq_assemble(rt.alloc(), &unbound, &mut code, &mut done),
+        HQ_UNBOUND
+    );
+    let spoiled = [
+        ret,
+        inst(HqInst {
+            reserved: 1,
+            ..ret.inst
+        }),
+    ];
+    assert_eq!(rt;
+        hq_assemble(rt.alloc(), &spoiled, &mut code, &mut done),
+        HQ_BAD_INST
+    );
+    assert_eq!(rt; done.items, 1);
+    assert_eq!(rt; code.as_slice(), [0xCC; 16].as_slice());
+}
+
+/// `addq %rcx, %rax`, its mnemonic, an extension, and what has no text.
+#[test]
+fn texts_are_handed_out(rt: HostRuntime) {
+    let addition = HqInst::of(&ADDQ_RM.regs(0, 1));
+    let (mut text, mut len) = ([0x21; 16], 77);
+    assert_eq!(rt;
+        hq_format(rt.alloc(), &addition, &mut text[..14], &mut len),
+        HQ_FULL
+    );
+    assert_eq!(rt; len, 15);
+    assert_eq!(rt; text[0], 0x21);
+    assert_eq!(rt;
+        hq_format(rt.alloc(), &addition, &mut text, &mut len),
+        HQ_OK
+    );
+    assert_eq!(rt; text.as_slice(), b"addq %rcx, %rax!".as_slice());
+    assert_eq!(rt; hq_mnemonic(&addition, &mut text, &mut len), HQ_OK);
+    assert_eq!(rt; len, 4);
+    assert_eq!(rt;
+        hq_extension(POPCNTQ_RM.op().number(), &mut text, &mut len),
+        HQ_OK
+    );
+    assert_eq!(rt; &text[..len.min(16)], b"popcnt".as_slice());
+    assert_eq!(rt; hq_extension(584, &mut text, &mut len), HQ_BAD_LINE);
+    let nameless = HqInst::of(&ADDQ_RM.regs(16, 1));
+    assert_eq!(rt;
+        hq_format(rt.alloc(), &nameless, &mut text, &mut len),
+        HQ_NO_NAME
+    );
+    let bad = HqInst {
+        reserved: 1,
+        ..addition
+    };
+    assert_eq!(rt; hq_mnemonic(&bad, &mut text, &mut len), HQ_BAD_INST);
+}

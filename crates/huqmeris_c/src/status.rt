@@ -1,0 +1,22 @@
+//! What a call answers of lists, items and texts, beside the statuses of `cax64_plain`.
+
+/// There are more than 165,191,049 instructions.
+pub const HQ_TOO_MANY: i32 = 10;
+
+/// The allocator gave no memory.
+pub const HQ_NO_MEMORY: i32 = 11;
+
+/// The integers are no item.
+pub const HQ_BAD_ITEM: i32 = 12;
+
+/// The label's number isn't below that of all items.
+pub const HQ_BAD_LABEL: i32 = 13;
+
+/// The label has a place already.
+pub const HQ_BOUND_TWICE: i32 = 14;
+
+/// A label or a constant that is referred to has no place.
+pub const HQ_UNBOUND: i32 = 15;
+
+/// A register has no name: it isn't below 16.
+pub const HQ_NO_NAME: i32 = 21;
