@@ -36,7 +36,7 @@ pieces_push [] p = omega arith
 pieces_push (q ∷ ps) p = omega (arith, pieces_push ps p)
 
 pub pieces_append : (ps qs : List Piece) → pieces_length (ps ++ qs) ≡ pieces_length ps + pieces_length qs
-pieces_append [] qs = refl
+pieces_append [] qs = omega arith
 pieces_append (p ∷ ps) qs = omega (arith, pieces_append ps qs)
 
 pub laid_total : (ps : List Piece) (s : State) (places : DeferredTarget → Option ℕ) → Laid ps (length s.bytes) s places → length s.bytes ≡ pieces_length ps
@@ -60,7 +60,8 @@ fields_more at (q ∷ ps) p =
 field_told : (ps : List Piece) (p : Piece) (x : ℕ) (goes_to : DeferredTarget) (s t : State) (old new : DeferredTarget → Option ℕ) → t.notices ≡ s.notices ++ Target x goes_to ∷ [] → Laid ps (length s.bytes) s old → Laid (ps ++ p ∷ []) (length t.bytes) t new → x ∷ [] ≡ piece_field (length s.bytes) p
 field_told ps p x goes_to s t old new notices h k =
     let before : piece_fields 0 ps ++ x ∷ [] ≡ places_told (uses_of t.notices) = ap (λ (z : List ℕ). z ++ x ∷ []) (sym h.told) ∙ sym (uses_more s.notices (Target x goes_to ∷ [])) ∙ ap (λ (z : List Notice). places_told (uses_of z)) (sym notices) in
-    let behind : places_told (uses_of t.notices) ≡ piece_fields 0 ps ++ piece_field (length s.bytes) p = k.told ∙ fields_more 0 ps p ∙ ap (λ (n : ℕ). piece_fields 0 ps ++ piece_field n p) (sym (laid_total ps s old h)) in
+    let total : 0 + pieces_length ps ≡ length s.bytes = omega (arith, laid_total ps s old h) in
+    let behind : places_told (uses_of t.notices) ≡ piece_fields 0 ps ++ piece_field (length s.bytes) p = k.told ∙ fields_more 0 ps p ∙ ap (λ (n : ℕ). piece_fields 0 ps ++ piece_field n p) total in
     append_cancel_left (piece_fields 0 ps) (x ∷ []) (piece_field (length s.bytes) p) (before ∙ behind)
 
 pub tells_use : (x : ℕ) (goes_to : DeferredTarget) (s t : State) (old new : DeferredTarget → Option ℕ) → t.notices ≡ s.notices ++ Target x goes_to ∷ [] → (ps : List Piece) (p : Piece) → Laid ps (length s.bytes) s old → Laid (ps ++ p ∷ []) (length t.bytes) t new → t.notices ≡ s.notices ++ use_told goes_to (length s.bytes) p

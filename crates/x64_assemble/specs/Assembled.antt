@@ -136,6 +136,6 @@ pub record Assembled {I M : Type 0} (meant : I → Meant M) (items : List (Item 
   pub reads : EachReads meant lens items 0 items more
   pub laid : Laid (pieces ++ more) (length after.bytes) after new
   pub told : after.notices ≡ before.notices ++ all_told meant items (length before.bytes) items more
-  pub length : length after.bytes ≡ length before.bytes + sum lens
   pub bound : (label spot : ℕ) → spot_of label items ≡ Some spot → new (target.Label (record { 0 = label })) ≡ Some (length before.bytes + place_in lens spot)
   pub others : (target : DeferredTarget) → IsNoLabelOf items target → new target ≡ old target
+  pub length : length after.bytes ≡ length before.bytes + sum lens
