@@ -35,3 +35,4 @@ pub mod Coded
 pub mod Equality
 pub mod Exact
 pub mod GivenBack
+pub mod Folds

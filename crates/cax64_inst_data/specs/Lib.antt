@@ -20,6 +20,7 @@ pub mod Encodable
 pub mod Registers
 pub mod Alike
 pub mod Own
+pub mod Folded
 pub mod Gathered
 pub mod ReadOperands
 pub mod Class
