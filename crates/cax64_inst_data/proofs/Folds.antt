@@ -1,4 +1,4 @@
-use Rattle.std.proofs.Common.{◌≡◌, ◌≤◌, ℕ, ◌∙◌, ap, sym, refl, arith, true, Option, Some, None, List, [], ◌∷◌, length, slice_index_or}
+use Rattle.std.proofs.Common.{◌≡◌, ◌≤◌, ℕ, ◌∙◌, ap, sym, refl, arith, true, Option, None, List, [], ◌∷◌, length, slice_index_or}
 use Rattle.std.proofs.lemmas.Bool.{and_parts}
 use Rattle.cax64_operand.proofs.Table.{few_in_signature}
 use Rattle.cax64_operand.specs.Fold.{fold}
@@ -35,9 +35,6 @@ folded_list d e none with nop made kinds is h =
     h ∙ ap (λ (ks : List OperandKind). folded none with (filled ks d.place (kept_of d))) is
     ∙ fold_is none with nop l few
     ∙ ap (λ (own : Option Nop). fold none with nop (operands_by own d)) (sym e)
-
-pub nop_fold : (d : InstData) (own : Nop) → d.nop ≡ Some own → {T : Type 0} (none : T) (with : Single → T → T) (nop : Nop → T) (made : T) → made ≡ nop own → made ≡ fold none with nop (data_operands d)
-nop_fold d own e none with nop made h = h ∙ ap (λ (o : Option Nop). fold none with nop (operands_by o d)) (sym e)
 
 -- Each kind of a list takes the immediate's word that all of it takes.
 

@@ -1,4 +1,4 @@
-use Rattle.cax64_inst_data.proofs.Folds.{folded_list, nop_fold}
+use Rattle.cax64_inst_data.proofs.Folds.{folded_list}
 use Rattle.cax64_inst_data.proofs.Signature.{data_fits}
 use Rattle.cax64_inst_data.proofs.data.InstData.folded_operands.Goals as goal
 
