@@ -8,6 +8,7 @@ pub mod Homes
 pub mod Numbered
 pub mod Lengths
 pub mod OfReading
+pub mod Parts
 pub mod Message
 -- Steps of the proofs.
 pub mod Place
