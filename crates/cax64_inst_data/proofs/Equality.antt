@@ -77,7 +77,7 @@ abbrev pub EqualPlaces : DataPlace → DataPlace → Type 0
 EqualPlaces a b = (a.kind ≡ b.kind) × ((a.base ≡ b.base) × ((a.index ≡ b.index) × ((a.scale ≡ b.scale) × ((a.trap ≡ b.trap) × ((a.offset ≡ b.offset) × ((a.displacement ≡ b.displacement) × (a.target ≡ b.target)))))))
 
 -- that what it has no use for is 0 is known in one way
-same_place : (a b : DataPlace) → EqualPlaces a b → a ≡ b
+pub same_place : (a b : DataPlace) → EqualPlaces a b → a ≡ b
 same_place a b (k, (base, (index, (scale, (trap, (offset, (displacement, target))))))) = λ i. record {
   kind = k i;
   base = base i;
@@ -110,7 +110,7 @@ tells_place a b =
 abbrev pub EqualData : InstData → InstData → Type 0
 EqualData a b = (a.place ≡ b.place) × ((a.imm ≡ b.imm) × ((a.row ≡ b.row) × ((a.nop ≡ b.nop) × ((a.reg ≡ b.reg) × ((a.vvvv ≡ b.vvvv) × (a.fixed ≡ b.fixed))))))
 
-same_data : (a b : InstData) → EqualData a b → a ≡ b
+pub same_data : (a b : InstData) → EqualData a b → a ≡ b
 same_data a b (p, (imm, (row, (nop, (reg, (vvvv, fixed)))))) = λ i. record {
   place = p i;
   imm = imm i;

@@ -35,3 +35,5 @@ pub mod Coded
 pub mod Equality
 pub mod Exact
 pub mod GivenBack
+pub mod HeldParts
+pub mod Folds

@@ -51,6 +51,7 @@ use Rattle.cax64_inst_data.specs.Form.{operand_by}
 use Rattle.cax64_inst_data.specs.Gathered.{IsPlace}
 use Rattle.cax64_inst_data.specs.Operands.{Kept, amode_by, amode_of, filled, imm_by, is_register, listed, next, next_fixed}
 use Rattle.cax64_inst_data.specs.OfReading.{is_bare_memory}
+use Rattle.cax64_inst_data.specs.Parts.{plain_operand}
 use Rattle.cax64_inst_data.specs.ReadOperands.{PlaceOf, ReadsAs, amode_plain, has_size, operand_plain, rest_of}
 use Rattle.cax64_inst_data.specs.When.{when}
 use Rattle.cax64_inst_data.specs.declared.place.DataPlace.{DataPlace}
@@ -105,7 +106,7 @@ kept_fits row reg vvvv kind word f g p w =
 
 -- The registers that are meant.
 
-named_first : {M : Type 0} (n : Numbering M) (roles : List (Role M)) → option_map number_value (first (numbers_in roles)) ≡ (with_numbers n roles).reg
+pub named_first : {M : Type 0} (n : Numbering M) (roles : List (Role M)) → option_map number_value (first (numbers_in roles)) ≡ (with_numbers n roles).reg
 named_first n [] = refl
 named_first n (role.Register number ∷ later) = refl
 named_first n (role.TwoRegisters high low same ∷ later) = refl
@@ -113,7 +114,7 @@ named_first n (role.FixedRegister fixed ∷ later) = named_first n later
 named_first n (role.Place operand ∷ later) = named_first n later
 named_first n (role.Immediate imm ∷ later) = named_first n later
 
-named_second : {M : Type 0} (n : Numbering M) (roles : List (Role M)) → option_map number_value (second (numbers_in roles)) ≡ (with_numbers n roles).vvvv
+pub named_second : {M : Type 0} (n : Numbering M) (roles : List (Role M)) → option_map number_value (second (numbers_in roles)) ≡ (with_numbers n roles).vvvv
 named_second n [] = refl
 named_second n (role.Register number ∷ later) = named_first n later
 named_second n (role.TwoRegisters high low same ∷ later) = refl
@@ -127,11 +128,11 @@ as_low (Some number) = refl
 
 -- The place that is meant.
 
-abbrev register_or : Bool → ℕ → Amode ℕ → PlaceOperand ℕ
+abbrev pub register_or : Bool → ℕ → Amode ℕ → PlaceOperand ℕ
 register_or true base amode = encoder.TheVariants.Register (Settled base)
 register_or false base amode = encoder.TheVariants.Memory amode
 
-abbrev rest_operand : Rest → PlaceKind → DataPlace → PlaceOperand ℕ
+abbrev pub rest_operand : Rest → PlaceKind → DataPlace → PlaceOperand ℕ
 rest_operand nothing kind p = encoder.TheVariants.NoPlace
 rest_operand memory kind p = encoder.TheVariants.Memory (amode_by kind p)
 rest_operand register_or_memory kind p = register_or (is_register kind) p.base (amode_by kind p)
@@ -144,7 +145,7 @@ xmm_operand : (b : Bool) (base : ℕ) (amode : Amode ℕ) → xmm_mem_place plai
 xmm_operand true base amode = refl
 xmm_operand false base amode = refl
 
-place_meant : (kinds : List OperandKind) (p : DataPlace) (k : Kept) → place_in (roles_of (numbers ◌==◌) (filled kinds p k)) ≡ rest_operand (rest_in kinds) p.kind p
+pub place_meant : (kinds : List OperandKind) (p : DataPlace) (k : Kept) → place_in (roles_of (numbers ◌==◌) (filled kinds p k)) ≡ rest_operand (rest_in kinds) p.kind p
 place_meant [] p k = refl
 place_meant (ReadGpr size ∷ later) p k = place_meant later p (next k)
 place_meant (ReadWriteGpr size ∷ later) p k = place_meant later p (next k)
@@ -161,7 +162,7 @@ place_meant (ReadWriteGprMem size ∷ later) p k = gpr_operand (is_register p.ki
 place_meant (ReadXmmMem ∷ later) p k = xmm_operand (is_register p.kind) p.base (amode_of p)
 place_meant (Imm imm ∷ later) p k = place_meant later p k
 
-fitted_operand : (rest : Rest) (kind : PlaceKind) (p : DataPlace) → place_fits rest kind ≡ true → rest_operand rest kind p ≡ operand_by kind p
+pub fitted_operand : (rest : Rest) (kind : PlaceKind) (p : DataPlace) → place_fits rest kind ≡ true → rest_operand rest kind p ≡ operand_by kind p
 fitted_operand nothing Absent p h = refl
 fitted_operand nothing Register p h = cc
 fitted_operand nothing Base p h = cc
@@ -183,11 +184,6 @@ fitted_operand register_or_memory BaseAndIndex p h = refl
 fitted_operand register_or_memory Label p h = refl
 fitted_operand register_or_memory Constant p h = refl
 fitted_operand register_or_memory NoTarget p h = refl
-
-abbrev plain_operand : Option (GprMem ℕ ℕ) → PlaceOperand ℕ
-plain_operand None = encoder.TheVariants.NoPlace
-plain_operand (Some (gpr_mem.Gpr reg)) = encoder.TheVariants.Register (Settled reg)
-plain_operand (Some (gpr_mem.Mem amode)) = encoder.TheVariants.Memory amode
 
 same_register : {a b : ℕ} → ◌≡◌ {A = GprMem ℕ ℕ} (gpr_mem.Gpr a) (gpr_mem.Gpr b) → a ≡ b
 same_register h = cc
@@ -219,7 +215,7 @@ none_kept Label p h = cc
 none_kept Constant p h = cc
 none_kept NoTarget p h = cc
 
-operand_kept : (o : Option (GprMem ℕ ℕ)) (p : DataPlace) → IsPlace o p → operand_by p.kind p ≡ plain_operand o
+pub operand_kept : (o : Option (GprMem ℕ ℕ)) (p : DataPlace) → IsPlace o p → operand_by p.kind p ≡ plain_operand o
 operand_kept None p h = none_kept p.kind p h
 operand_kept (Some (gpr_mem.Gpr reg)) p h = register_kept p.kind p reg h.0
 operand_kept (Some (gpr_mem.Mem amode)) p h = memory_kept p.kind p amode h.0 h.1
@@ -252,7 +248,7 @@ imm_is_named Distance32 word = refl
 imm_is_named Predicate word = refl
 imm_is_named VexPredicate word = refl
 
-imm_meant : (kinds : List OperandKind) (p : DataPlace) (k : Kept) → imm_in (roles_of (numbers ◌==◌) (filled kinds p k)) ≡ imm_named (imm_field_in kinds) k.imm
+pub imm_meant : (kinds : List OperandKind) (p : DataPlace) (k : Kept) → imm_in (roles_of (numbers ◌==◌) (filled kinds p k)) ≡ imm_named (imm_field_in kinds) k.imm
 imm_meant [] p k = refl
 imm_meant (ReadGpr size ∷ later) p k = imm_meant later p (next k)
 imm_meant (ReadWriteGpr size ∷ later) p k = imm_meant later p (next k)

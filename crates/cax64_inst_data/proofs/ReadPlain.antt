@@ -97,7 +97,7 @@ place_plain (Some (gpr_mem.Mem amode)) p h k = memory_plain p.kind p h.1 (ap amo
 
 -- the fixed registers
 
-own_is : (kinds : List OperandKind) (p : DataPlace) (k : Kept) → all_own (filled kinds p k) ≡ fixed_met kinds k.fixed
+pub own_is : (kinds : List OperandKind) (p : DataPlace) (k : Kept) → all_own (filled kinds p k) ≡ fixed_met kinds k.fixed
 own_is [] p k = refl
 own_is (ReadGpr size ∷ later) p k = own_is later p (next k)
 own_is (ReadWriteGpr size ∷ later) p k = own_is later p (next k)

@@ -43,10 +43,10 @@ cast_8 word h = grind (arith, ints)
 cast_32 : (word : ℕ) → word < 4294967296 → FitsSigned w32 (cast_signed w32 word)
 cast_32 word h = grind (arith, ints)
 
-byte_in_range : (word : ℕ) → nat_lt word (256 ^ 1) ≡ true → signed_below (2 ^ 7) (cast_signed w8 word) ≡ true
+pub byte_in_range : (word : ℕ) → nat_lt word (256 ^ 1) ≡ true → signed_below (2 ^ 7) (cast_signed w8 word) ≡ true
 byte_in_range word h = signed_8 _ (cast_8 word (ltb-true _ _ h))
 
-long_in_range : (word : ℕ) → nat_lt word (256 ^ 4) ≡ true → signed_below (2 ^ 31) (cast_signed w32 word) ≡ true
+pub long_in_range : (word : ℕ) → nat_lt word (256 ^ 4) ≡ true → signed_below (2 ^ 31) (cast_signed w32 word) ≡ true
 long_in_range word h = signed_32 _ (cast_32 word (ltb-true _ _ h))
 
 pub word_in_range : (kind : ImmediateKind) (word : ℕ) → imm_fits (field_of kind) word ≡ true → imm_in_range (imm_of (imm_by kind word)) ≡ true

@@ -8,6 +8,7 @@ pub mod Homes
 pub mod Numbered
 pub mod Lengths
 pub mod OfReading
+pub mod Parts
 pub mod Message
 -- Steps of the proofs.
 pub mod Place
@@ -20,6 +21,7 @@ pub mod Encodable
 pub mod Registers
 pub mod Alike
 pub mod Own
+pub mod Folded
 pub mod Gathered
 pub mod ReadOperands
 pub mod Class

@@ -288,7 +288,7 @@ fn nop_row(nop: Nop) -> Row
 
 /// A number, where it stands for something.
 #[inline(always)]
-fn when(present: bool, number: u8) -> Option<u8>
+pub(crate) fn when(present: bool, number: u8) -> Option<u8>
     ensures { result ≡ when present number }
 {
     if present { Some(number) } else { None }

@@ -3,6 +3,7 @@
 ghost use Rattle.std.specs.Prelude.{◌≡◌, ◌≤◌, true, [], ◌∷◌, length, ℕ};
 ghost use Rattle.cax64_inst_data.specs.Takes.{field_of};
 ghost use Rattle.cax64_inst_data.specs.Fits.{each_fits, imm_fits, kind_fits};
+ghost use Rattle.cax64_inst_data.specs.Folded.{folded};
 ghost use Rattle.cax64_inst_data.specs.Operands.{amode_of, behind, filled, gpr_mem_of, head, imm_by, listed, operand_by, tail, xmm_mem_of};
 
 use crate::place::{DataPlace, PlaceKind};
@@ -10,7 +11,8 @@ use cax64_address::amode::Amode;
 use cax64_address::offset::AmodeOffsetPlusKnownOffset;
 use cax64_address::operand::{GprMem, XmmMem};
 use cax64_operand::{
-    FromOperands, Immediate, ImmediateKind, Numbers, Operand, OperandKind, Operands,
+    FromOperands, Immediate, ImmediateKind, Numbers, Operand, OperandKind, Operands, of_one,
+    of_three, of_two,
 };
 use cax64_register::NonRspGpr;
 use cax64_sink::{Constant, DeferredTarget, Label};
@@ -108,6 +110,7 @@ fn imm_of(kind: ImmediateKind, word: u32) -> Immediate
 }
 
 /// The operand of a kind, of what is kept.
+#[inline(never)]
 fn operand_of(
     kind: OperandKind,
     place: &DataPlace,
@@ -185,5 +188,56 @@ pub(crate) fn listed(
             let rest = listed(later, place, registers, fixed, imm);
             <Operands<Numbers> as FromOperands<Numbers>>::with(rest, operand)
         }
+    }
+}
+
+/// What is made of the operands of these kinds, of what is kept, from the last one on.
+fn folded_many<T: FromOperands<Numbers>>(
+    kinds: &[OperandKind],
+    place: &DataPlace,
+    registers: &[u8],
+    fixed: &[u8],
+    imm: u32,
+) -> T
+    requires { each_fits kinds.now imm ≡ true }
+    ensures { result ≡ folded T.made_of_none T.made_with (filled kinds.now place.now (record { registers = registers.now; fixed = fixed.now; imm = imm })) }
+{
+    match kinds.split_first() {
+        None => T::none(),
+        Some((kind, later)) => {
+            let operand = operand_of(*kind, place, registers, fixed, imm);
+            let (registers, fixed) = behind(*kind, registers, fixed);
+            folded_many::<T>(later, place, registers, fixed, imm).with(operand)
+        }
+    }
+}
+
+/// The same. Each of up to three operands is made where it's wanted, in its own place, so that no list of them is moved.
+#[inline(always)]
+pub(crate) fn folded<T: FromOperands<Numbers>>(
+    kinds: &[OperandKind],
+    place: &DataPlace,
+    registers: &[u8],
+    fixed: &[u8],
+    imm: u32,
+) -> T
+    requires { each_fits kinds.now imm ≡ true }
+    ensures { result ≡ folded T.made_of_none T.made_with (filled kinds.now place.now (record { registers = registers.now; fixed = fixed.now; imm = imm })) }
+{
+    match kinds {
+        [a] => of_one(operand_of(*a, place, registers, fixed, imm)),
+        [a, b] => {
+            let first = operand_of(*a, place, registers, fixed, imm);
+            let (registers, fixed) = behind(*a, registers, fixed);
+            of_two(first, operand_of(*b, place, registers, fixed, imm))
+        }
+        [a, b, c] => {
+            let first = operand_of(*a, place, registers, fixed, imm);
+            let (registers, fixed) = behind(*a, registers, fixed);
+            let second = operand_of(*b, place, registers, fixed, imm);
+            let (registers, fixed) = behind(*b, registers, fixed);
+            of_three(first, second, operand_of(*c, place, registers, fixed, imm))
+        }
+        _ => folded_many(kinds, place, registers, fixed, imm),
     }
 }

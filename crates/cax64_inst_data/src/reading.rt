@@ -195,7 +195,7 @@ fn kind_of(field: ImmField) -> Option<ImmediateKind>
 }
 
 /// The word that data keeps of an immediate, where it is within its range.
-fn word(field: ImmField, imm: Option<i64>) -> Option<u32>
+pub(crate) fn word(field: ImmField, imm: Option<i64>) -> Option<u32>
     requires { has_size field ≡ true }
     ensures some { is_some result ≡ imm_given field imm }
     ensures value { IfSome result (λ word. imm ≡ option_map imm_value (imm_named field word)) }
