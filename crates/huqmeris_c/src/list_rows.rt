@@ -110,7 +110,7 @@ fn a_loop_is_assembled(rt: HostRuntime) {
         HQ_OK
     );
     assert_eq!(rt; (done.items, done.bytes), (7, 19));
-    assert_eq!(rt; &code[..19], wanted.as_slice());
+    assert!(rt; code.as_slice().starts_with(wanted.as_slice()));
     assert_eq!(rt; code[19], 0xCC);
 }
 
