@@ -235,6 +235,16 @@ fn an_instruction_tells_of_its_target(rt: HostRuntime) {
 
 const TRAP: TrapCode = TrapCode(NonZeroU8::MIN);
 
+/// An addition to memory that may trap.
+fn trapping() -> Item<lock_addl_mr<Numbers>> {
+    let place = Amode::ImmReg {
+        base: 1,
+        simm32: AmodeOffsetPlusKnownOffset::ZERO,
+        trap: Some(TRAP),
+    };
+    Item::Inst(lock_addl_mr::<Numbers>::new(place, Gpr::new(1)))
+}
+
 /// A trap, a target and an open jump are told in the order of the list, and a jump within it isn't.
 #[test]
 fn all_is_told_in_order(rt: HostRuntime) {
@@ -242,20 +252,14 @@ fn all_is_told_in_order(rt: HostRuntime) {
     let mut buffer = with_labels(rt.alloc()).expect(&rt, "memory");
     let label = Label(2);
     let target = DeferredTarget::Label(label);
-    let trapping = Amode::ImmReg {
-        base: 1,
-        simm32: AmodeOffsetPlusKnownOffset::ZERO,
-        trap: Some(TRAP),
-    };
-    let first = lock_addl_mr::<Numbers>::new(trapping, Gpr::new(1));
     let relative = lock_addl_mr::<Numbers>::new(Amode::RipRelative { target }, Gpr::new(1));
     let items = [
         Item::Bind(Label(0)),
         Item::Jump(Jump::Call, label),
-        Item::Inst(first),
+        trapping(),
         Item::Jump(Jump::Always, Label(0)),
         Item::Inst(relative),
-        Item::Inst(first),
+        trapping(),
         Item::Jump(IF_EQUAL, label),
     ];
     assert!(rt; layout.assemble(&items, &mut buffer) == Ok(()));
