@@ -2,8 +2,6 @@
 #![tactic(auto)]
 
 #[cfg(test)]
-mod growths;
-#[cfg(test)]
 mod making;
 #[cfg(test)]
 mod refusals;
