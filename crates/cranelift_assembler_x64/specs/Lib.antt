@@ -84,6 +84,7 @@ pub use Rattle.cax64_inst_data.specs.Made as DataMade
 pub use Rattle.cax64_inst_data.specs.Homes
 pub use Rattle.cax64_inst_data.specs.Numbered
 pub use Rattle.cax64_inst_data.specs.OfReading
+pub use Rattle.cax64_inst_data.specs.Parts as DataParts
 pub use Rattle.cax64_inst_data.specs.Message as DataMessage
 -- Texts and features.
 pub use Rattle.cax64_immediate.specs.Text as ImmediateText

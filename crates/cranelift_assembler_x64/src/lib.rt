@@ -36,7 +36,7 @@ pub use cax64_immediate::{
     Extension, Imm8, Imm16, Imm32, Imm64, OutOfRange, Simm8, Simm16, Simm32,
 };
 pub use cax64_inst::Inst;
-pub use cax64_inst_data::{DataError, DataOperand, DataOperands, InstData};
+pub use cax64_inst_data::{DataError, DataOperand, DataOperands, DataParts, InstData};
 pub use cax64_machine_code::row::{Branch, Row};
 pub use cax64_operand::{
     FromOperands, HasOperands, ImmOperand, Immediate, ImmediateKind, Made, Nop, Numbers, Operand,

@@ -1,7 +1,7 @@
 //! Calls that test an instruction before they put it.
 
 use cax64_test_support::RefusingSink;
-use cranelift_assembler_x64::inst::{andb_i, callq_m, lock_addl_mr};
+use cranelift_assembler_x64::inst::{andb_i, callq_m, lock_addl_mr, mulxl_rvm};
 use cranelift_assembler_x64::{
     Amode, AmodeOffset, AmodeOffsetPlusKnownOffset, CodeSink, DeferredTarget, EncodeError, Fault,
     Fixed, FixedSink, Gpr, GprMem, Imm8, Instruction, KnownOffset, Label, NonRspGpr, Notice,
@@ -66,6 +66,15 @@ fn mask(register: u8, number: u8) -> andb_i<Numbers> {
     andb_i::new(Fixed(register), Imm8::new(number))
 }
 
+fn product(high: u8, low: u8, factor: u8, other: u8) -> mulxl_rvm<Numbers> {
+    mulxl_rvm::new(
+        Gpr::new(high),
+        Gpr::new(low),
+        GprMem::Gpr(factor),
+        Fixed(other),
+    )
+}
+
 fn call() -> callq_m<Numbers> {
     callq_m::new(GprMem::Mem(Amode::RipRelative { target: PLACE }))
 }
@@ -79,6 +88,22 @@ fn a_fault_is_found_and_the_sink_is_as_before(rt: HostRuntime) {
     assert!(rt; fault_of(alloc, &mask(42, 0)) == Some(Fault::Fixed(0)));
     assert!(rt; fault_of(alloc, &based(8, 0, Some(9))) == Some(Fault::Unknown(9)));
     assert!(rt; fault_of(alloc, &based(8, i32::MAX, Some(3))) == Some(Fault::Range));
+}
+
+#[test]
+fn of_two_equal_registers_one_is_found(rt: HostRuntime) {
+    let alloc = rt.alloc();
+    assert!(rt; fault_of(alloc, &product(16, 10, 7, 2)) == Some(Fault::Register(0)));
+    assert!(rt; fault_of(alloc, &product(3, 16, 7, 2)) == Some(Fault::Register(1)));
+    assert!(rt; fault_of(alloc, &product(3, 255, 7, 2)) == Some(Fault::Register(1)));
+    assert!(rt; fault_of(alloc, &product(16, 16, 16, 2)) == Some(Fault::Register(0)));
+    assert!(rt; fault_of(alloc, &product(3, 10, 16, 2)) == Some(Fault::Register(2)));
+    assert!(rt; fault_of(alloc, &product(3, 3, 16, 2)) == Some(Fault::Register(1)));
+    assert!(rt; fault_of(alloc, &product(3, 10, 7, 3)) == Some(Fault::Fixed(3)));
+    // mulx ebx, r10d, edi
+    let mut sink: Vec<u8> = Vec::new(alloc);
+    assert!(rt; product(3, 10, 7, 2).encode_checked(&mut sink) == Ok(()));
+    assert!(rt; sink.as_slice() == [0xC4, 0xE2, 0x2B, 0xF6, 0xDF].as_slice());
 }
 
 #[test]

@@ -1,6 +1,6 @@
 //! What the job `assembled` has beside `data`: a jump to a label behind every sixth instruction, half of them forward.
 
-use crate::data::{Plan, push_settled};
+use crate::data::{Body, Plan, push_settled};
 use crate::parts::Labels;
 use crate::work::Work;
 use cranelift_assembler_x64::{DeferredTarget, Label, SinkError};
@@ -21,13 +21,11 @@ const JUMPS: [Jump; 8] = [
     Jump::If(Condition::Le),
 ];
 
-/// Jumps to one of the last two labels, or to one of the next two.
-fn push_jump(
-    buffer: &mut CodeBuffer<Global>,
-    places: &Labels,
-    labels: u32,
-    number: usize,
-) -> Result<(), SinkError> {
+/// The jump behind an instruction that has one, and its label: one of the last two, or of the next two.
+pub(crate) fn jump_behind(places: &Labels, labels: u32, number: usize) -> Option<(Jump, Label)> {
+    if number % 6 != 5 {
+        return None;
+    }
     let turn = number / 6;
     let far = u32::from(turn % 4 > 1);
     let label = if turn % 2 == 0 {
@@ -38,30 +36,36 @@ fn push_jump(
             .saturating_add(far)
             .min(labels.saturating_sub(1))
     };
-    buffer.push_jump(JUMPS[turn % 8], DeferredTarget::Label(Label(label)))
+    Some((JUMPS[turn % 8], Label(label)))
 }
 
 /// Pushes the instructions as `data` does, and the jumps between them.
-pub(crate) fn push_body_and_jumps<W: Work>(
-    buffer: &mut CodeBuffer<Global>,
-    insts: &[W],
-    labels: u32,
-    plan: &Plan,
-    homes: &[u8; 256],
-    digest: &mut Digest,
-) -> Result<(), SinkError> {
-    let mut places = Labels::new();
-    for (number, inst) in insts.iter().enumerate() {
-        if let Some(label) = places.step() {
-            bind(buffer, label, digest);
+#[derive(Clone, Copy)]
+pub(crate) struct WithJumps;
+
+impl<W: Work> Body<W> for WithJumps {
+    fn push(
+        &mut self,
+        buffer: &mut CodeBuffer<Global>,
+        insts: &[W],
+        labels: u32,
+        plan: &Plan,
+        homes: &[u8; 256],
+        digest: &mut Digest,
+    ) -> Result<(), SinkError> {
+        let mut places = Labels::new();
+        for (number, inst) in insts.iter().enumerate() {
+            if let Some(label) = places.step() {
+                bind(buffer, label, digest);
+            }
+            push_settled(buffer, inst, plan, homes, digest)?;
+            if let Some((jump, label)) = jump_behind(&places, labels, number) {
+                buffer.push_jump(jump, DeferredTarget::Label(label))?;
+            }
         }
-        push_settled(buffer, inst, plan, homes, digest)?;
-        if number % 6 == 5 {
-            push_jump(buffer, &places, labels, number)?;
+        for label in places.next..labels {
+            bind(buffer, Label(label), digest);
         }
+        Ok(())
     }
-    for label in places.next..labels {
-        bind(buffer, Label(label), digest);
-    }
-    Ok(())
 }

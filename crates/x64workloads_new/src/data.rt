@@ -1,7 +1,6 @@
 //! The job `functions` of `x64workloads` over instructions as data, of the table or of the core: each is made by a short constructor, keeps its virtual
 //! registers, and a copy of it is renamed by a table of homes, tested and put.
 
-use crate::assembled::push_body_and_jumps;
 use crate::kinds::FIRST_FIXED;
 use crate::parts::{
     Labels, constants_at, digest_fault, finish, function_length, push_pool, set_offsets,
@@ -22,8 +21,6 @@ pub(crate) struct Plan {
     length: usize,
     /// Whether each instruction is asked for its first fault, or whether it can be encoded.
     pub(crate) tells_faults: bool,
-    /// Whether it has jumps to labels.
-    has_jumps: bool,
     /// Which of four instructions is made anew. The others are those of the function before it, and get other registers.
     phase: usize,
 }
@@ -67,26 +64,46 @@ pub(crate) fn push_settled<W: Work>(
     Ok(())
 }
 
-/// Pushes the instructions with the homes of their registers, and binds the labels between them and the others behind them.
-fn push_body<W: Work>(
-    buffer: &mut CodeBuffer<Global>,
-    insts: &[W],
-    labels: u32,
-    plan: &Plan,
-    homes: &[u8; 256],
-    digest: &mut Digest,
-) -> Result<(), SinkError> {
-    let mut places = Labels::new();
-    for inst in insts {
-        if let Some(label) = places.step() {
-            bind(buffer, label, digest);
+/// How the instructions of a function are pushed, with the homes of their registers and with the labels between them and
+/// behind them.
+pub(crate) trait Body<W>: Drop {
+    fn push(
+        &mut self,
+        buffer: &mut CodeBuffer<Global>,
+        insts: &[W],
+        labels: u32,
+        plan: &Plan,
+        homes: &[u8; 256],
+        digest: &mut Digest,
+    ) -> Result<(), SinkError>;
+}
+
+/// Pushes one instruction after the other.
+#[derive(Clone, Copy)]
+pub(crate) struct Plain;
+
+impl<W: Work> Body<W> for Plain {
+    fn push(
+        &mut self,
+        buffer: &mut CodeBuffer<Global>,
+        insts: &[W],
+        labels: u32,
+        plan: &Plan,
+        homes: &[u8; 256],
+        digest: &mut Digest,
+    ) -> Result<(), SinkError> {
+        let mut places = Labels::new();
+        for inst in insts {
+            if let Some(label) = places.step() {
+                bind(buffer, label, digest);
+            }
+            push_settled(buffer, inst, plan, homes, digest)?;
         }
-        push_settled(buffer, inst, plan, homes, digest)?;
+        for label in places.next..labels {
+            bind(buffer, Label(label), digest);
+        }
+        Ok(())
     }
-    for label in places.next..labels {
-        bind(buffer, Label(label), digest);
-    }
-    Ok(())
 }
 
 /// The next instruction. None where a constructor refuses.
@@ -118,8 +135,9 @@ fn renew<W: Work>(insts: &mut Vec<W>, plan: &Plan, maker: &mut Maker) -> Result<
 }
 
 /// One function, from instructions over virtual registers to patched code. `insts` holds those of the functions before it.
-fn make_function<W: Work>(
+fn make_function<W: Work, B: Body<W>>(
     alloc: Global,
+    body: &mut B,
     plan: &Plan,
     insts: &mut Vec<W>,
     maker: &mut Maker,
@@ -134,22 +152,17 @@ fn make_function<W: Work>(
     for _ in 0..labels {
         buffer.new_label()?;
     }
-    if plan.has_jumps {
-        push_body_and_jumps(&mut buffer, &insts[..count], labels, plan, &homes, digest)?;
-    } else {
-        push_body(&mut buffer, &insts[..count], labels, plan, &homes, digest)?;
-    }
+    body.push(&mut buffer, &insts[..count], labels, plan, &homes, digest)?;
     maker.constants = constants_at(count);
     push_pool(&mut buffer, maker, digest)?;
     finish(buffer, digest);
     Ok(())
 }
 
-/// So many functions of 20 to 2,000 instructions, with a label for every five to eight of them and perhaps a jump to a label
-/// for every six, and a digest of all code.
-pub(crate) fn functions_of<W: Work>(
+/// So many functions of 20 to 2,000 instructions, with a label for every five to eight of them, and a digest of all code.
+pub(crate) fn functions_of<W: Work, B: Body<W>>(
     alloc: Global,
-    has_jumps: bool,
+    mut body: B,
     count: u32,
     seed: u64,
 ) -> Result<Digest, SinkError> {
@@ -160,10 +173,9 @@ pub(crate) fn functions_of<W: Work>(
         let plan = Plan {
             length: function_length(&mut maker),
             tells_faults: maker.random.byte() % 2 == 0,
-            has_jumps,
             phase: (number % 4) as usize,
         };
-        make_function(alloc, &plan, &mut insts, &mut maker, &mut digest)?;
+        make_function(alloc, &mut body, &plan, &mut insts, &mut maker, &mut digest)?;
     }
     Ok(digest)
 }

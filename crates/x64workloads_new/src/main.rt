@@ -8,12 +8,15 @@ mod checked;
 mod data;
 mod kinds;
 mod kinds_of_core;
+mod least;
 mod parts;
 mod stubs;
 mod work;
 
+use crate::assembled::WithJumps;
 use crate::checked::functions_checked;
-use crate::data::functions_of;
+use crate::data::{Plain, functions_of};
+use crate::least::Least;
 use crate::stubs::stubs_again;
 use cranelift_assembler_x64::{InstData, SinkError};
 use std::alloc::Global;
@@ -29,14 +32,16 @@ enum Job {
     StubsAgain,
     Data,
     Assembled,
+    AssembledLeast,
     Core,
     FunctionsChecked,
 }
 
-const JOBS: [Job; 5] = [
+const JOBS: [Job; 6] = [
     Job::StubsAgain,
     Job::Data,
     Job::Assembled,
+    Job::AssembledLeast,
     Job::Core,
     Job::FunctionsChecked,
 ];
@@ -47,6 +52,7 @@ impl Job {
             Job::StubsAgain => "stubs_again",
             Job::Data => "data",
             Job::Assembled => "assembled",
+            Job::AssembledLeast => "assembled_least",
             Job::Core => "core",
             Job::FunctionsChecked => "functions_checked",
         }
@@ -55,9 +61,12 @@ impl Job {
     fn do_it(self, alloc: Global, count: u32, seed: u64) -> Result<Digest, SinkError> {
         match self {
             Job::StubsAgain => stubs_again::<Regs>(alloc, count, seed),
-            Job::Data => functions_of::<InstData>(alloc, false, count, seed),
-            Job::Assembled => functions_of::<InstData>(alloc, true, count, seed),
-            Job::Core => functions_of::<Core>(alloc, false, count, seed),
+            Job::Data => functions_of::<InstData, Plain>(alloc, Plain, count, seed),
+            Job::Assembled => functions_of::<InstData, WithJumps>(alloc, WithJumps, count, seed),
+            Job::AssembledLeast => {
+                functions_of::<InstData, Least>(alloc, Least::new(alloc), count, seed)
+            }
+            Job::Core => functions_of::<Core, Plain>(alloc, Plain, count, seed),
             Job::FunctionsChecked => functions_checked::<Regs>(alloc, count, seed),
         }
     }
