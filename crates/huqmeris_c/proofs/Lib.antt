@@ -4,4 +4,6 @@ pub mod Plainly
 pub mod Listing
 pub mod Middle
 pub mod OfKinds
-pub mod Assembling
+pub mod Made
+pub mod Settled
+pub mod Opened

@@ -12,7 +12,7 @@ use Rattle.huqmeris_c.specs.declared.progress.HqDone.{HqDone}
 use Rattle.huqmeris_c.specs.declared.item.HqItem.{HqItem}
 use Rattle.cax64_sink.specs.declared.DeferredTarget.{DeferredTarget}
 use Rattle.cax64_sink.specs.declared.DeferredTarget.TheVariants as target
-use Rattle.huqmeris_c.specs.Each.{IsRefused}
+use Rattle.huqmeris_c.specs.Each.{HasFault}
 use Rattle.huqmeris_c.specs.Encodes.{no_offsets}
 use Rattle.huqmeris_c.specs.declared.jump.TheConstants.{JUMPS}
 use Rattle.x64_code_buffer.specs.Filled.{HasAddress}
@@ -20,9 +20,14 @@ use Rattle.x64_code_buffer.specs.Jump.{jump_parts, long_row, short_row}
 use Rattle.x64_code_buffer.specs.Laid.{LinesRead, parts_in}
 use Rattle.x64_code_buffer.specs.declared.jump.Jump.{Jump}
 use Rattle.x64_code_buffer.specs.declared.jump.Jump.TheVariants.{Always}
-use Rattle.x64_core.specs.Core.{core_meant}
+use Rattle.x64_core.specs.Core.{core_len, core_meant}
 use Rattle.x64_core.specs.View.{CoreView, core_view}
 use Rattle.x64_core.specs.declared.instruction.Core.{Core}
+use Rattle.x64_assemble.specs.Assembled.{spans_of}
+use Rattle.x64_assemble.specs.declared.item.Item.{Item}
+use Rattle.x64_assemble.specs.declared.item.Item.TheVariants as item
+use Rattle.x64_layout.specs.Layout.{IsLeast}
+use Rattle.x64_layout.specs.declared.span.Span.{Span}
 
 -- What items become.
 
@@ -92,12 +97,40 @@ ItemsAre places (item ∷ later) at readings =
     ⊎ (LabelIs places (ItemsAre places later) at item readings
     ⊎ JumpIs places (ItemsAre places later) at item readings)
 
--- Bytes are those of items: they read in turn, whatever follows, as these, and nothing is left.
+-- Their least layout.
+
+-- the item of a list that these integers are
+abbrev pub ItemIs : HqItem → Item Core → Type 0
+ItemIs integers (item.Inst core) = (integers.kind ≡ 0) × (plain (core_view core) ≡ integers.inst)
+ItemIs integers (item.Bind label) = (integers.kind ≡ 1) × (label.0 ≡ integers.number)
+ItemIs integers (item.Jump jump label) = (jump_named integers.kind ≡ Some jump) × (label.0 ≡ integers.number)
+
+-- and so of each
+abbrev pub ListIs : List HqItem → List (Item Core) → Type 0
+ListIs [] [] = Unit {0}
+ListIs [] (x ∷ list) = ⊥
+ListIs (integers ∷ items) [] = ⊥
+ListIs (integers ∷ items) (x ∷ list) = ItemIs integers x × ListIs items list
+
+-- what may be the lengths of its instructions and jumps
+abbrev pub list_spans : List (Item Core) → List Span
+list_spans list = spans_of (λ core. core_len no_offsets (core_view core)) list list
+
+-- how many bytes some readings have
+abbrev pub lengths : List LineReading → List ℕ
+lengths [] = []
+lengths (reading ∷ later) = reading.length ∷ lengths later
+
+-- Bytes are those of items: they read in turn, whatever follows, as these, and nothing is left; and no choice of the forms of
+-- the jumps makes one of them shorter.
 pub record Assembled (items : List HqItem) (code : List ℕ) : Type 0 where
   pub readings : List LineReading
   pub reads : LinesRead readings code
   pub places : DeferredTarget → Option ℕ
   pub are : ItemsAre places items 0 readings
+  pub list : List (Item Core)
+  pub is : ListIs items list
+  pub least : IsLeast (list_spans list) (lengths readings)
 
 -- Why items aren't assembled.
 
@@ -106,28 +139,68 @@ abbrev pub Binds : ℕ → List HqItem → Type 0
 Binds number [] = ⊥
 Binds number (item ∷ later) = ((item.kind ≡ 1) × (item.number ≡ number)) ⊎ Binds number later
 
--- it is none, among so many, behind these: the integers are no item, or no instruction that can be encoded; or the label's
--- number isn't below theirs, or it has a place already
-abbrev pub ItemRefused : ℕ → List HqItem → HqItem → ℤ → Type 0
-ItemRefused count before item status =
+-- the integers are none: of no kind, or of no instruction
+abbrev pub NoItem : HqItem → ℤ → Type 0
+NoItem item status =
     ((status ≡ pos 12) × (item.kind ≡ 0 → ⊥) × (item.kind ≡ 1 → ⊥) × (jump_named item.kind ≡ None))
-    ⊎ (((item.kind ≡ 0) × IsRefused item.inst status)
-    ⊎ (((status ≡ pos 13) × (item.kind ≡ 1) × (count ≤ item.number))
-    ⊎ ((status ≡ pos 14) × (item.kind ≡ 1) × Binds item.number before)))
+    ⊎ ((status ≡ pos 1) × (item.kind ≡ 0) × ((core : Core) → plain (core_view core) ≡ item.inst → ⊥))
 
--- The first that is refused has this number.
-pub record RefusedAt (items : List HqItem) (number : ℕ) (status : ℤ) : Type 0 where
+-- one can't be put behind these, among so many: the instruction has a fault; or the label's number isn't below theirs, or it
+-- has a place already
+abbrev pub CantBePut : ℕ → List HqItem → HqItem → ℤ → Type 0
+CantBePut count before item status =
+    ((item.kind ≡ 0) × HasFault item.inst status)
+    ⊎ (((status ≡ pos 13) × (item.kind ≡ 1) × (count ≤ item.number))
+    ⊎ ((status ≡ pos 14) × (item.kind ≡ 1) × Binds item.number before))
+
+-- the first that is refused so has this number
+pub record FirstRefused (Refused : List HqItem → HqItem → ℤ → Type 0) (items : List HqItem) (number : ℕ) (status : ℤ) : Type 0 where
   pub item : HqItem
   pub there : slice_get items number ≡ Some item
-  pub why : ItemRefused (length items) (take number items) item status
+  pub why : Refused (take number items) item status
+  pub first : (k : ℕ) (earlier : HqItem) (other : ℤ) → k < number → slice_get items k ≡ Some earlier → Refused (take k items) earlier other → ⊥
 
--- nothing was put: there was no memory; or an item is refused; or what one refers to has no place, or is too far; or there is
--- too little room, and it's told how many bytes there are
+-- the first that is none; or all are items, and it's the first that can't be put
+abbrev pub RefusedAt : List HqItem → ℕ → ℤ → Type 0
+RefusedAt items number status =
+    FirstRefused (λ before. NoItem) items number status
+    ⊎ (((list : List (Item Core)) × ListIs items list) × FirstRefused (CantBePut (length items)) items number status)
+
+-- there was no memory; or there are too many; or one is refused
+abbrev pub Unlisted : List HqItem → ℕ → ℤ → Type 0
+Unlisted items number status =
+    (status ≡ pos 11)
+    ⊎ (((status ≡ pos 10) × (165191049 < length items))
+    ⊎ RefusedAt items number status)
+
+-- what an item refers to
+abbrev pub RefersTo : HqItem → DeferredTarget → Type 0
+RefersTo item goes_to =
+    ((item.kind ≡ 0) × ((core : Core) × (plain (core_view core) ≡ item.inst) × (target_in (memory_in (core_view core).place) ≡ Some goes_to)))
+    ⊎ (((jump : Jump) × (jump_named item.kind ≡ Some jump)) × (goes_to ≡ target.Label (record { 0 = item.number })))
+
+-- no item is the place of this label; a constant has none
+abbrev pub IsPlaceless : List HqItem → DeferredTarget → Type 0
+IsPlaceless items (target.Label label) = Binds label.0 items → ⊥
+IsPlaceless items (target.Constant constant) = Unit {0}
+IsPlaceless items target.None = ⊥
+
+-- the first that refers to what has no place has this number
+pub record UnboundAt (items : List HqItem) (number : ℕ) : Type 0 where
+  pub item : HqItem
+  pub there : slice_get items number ≡ Some item
+  pub goes_to : DeferredTarget
+  pub refers : RefersTo item goes_to
+  pub unbound : IsPlaceless items goes_to
+  pub first : (k : ℕ) (earlier : HqItem) (other : DeferredTarget) → k < number → slice_get items k ≡ Some earlier → RefersTo earlier other → IsPlaceless items other → ⊥
+
+-- nothing was put: the items can't be listed; or what one refers to has no place, or is too far; or there is too little room,
+-- and it's told how many bytes there are
 abbrev pub NotAssembled : List HqItem → ℕ → HqDone → ℤ → Type 0
 NotAssembled items room done status =
-    (status ≡ pos 11)
-    ⊎ (RefusedAt items done.items status
-    ⊎ (((status ≡ pos 15) ⊎ (status ≡ pos 9))
+    Unlisted items done.items status
+    ⊎ (((status ≡ pos 15) × UnboundAt items done.items)
+    ⊎ ((status ≡ pos 9)
     ⊎ ((status ≡ pos 6) × (room < done.bytes))))
 
 -- The bytes of all items stand at the front, as many as told, and behind them all is as before.

@@ -12,6 +12,7 @@ mod encode;
 mod encode_all;
 mod item;
 mod jump;
+mod list;
 #[cfg(test)]
 mod list_rows;
 mod make;
@@ -22,4 +23,5 @@ mod rename;
 mod rows;
 mod status;
 mod text;
+mod unbound;
 mod version;
