@@ -8,8 +8,8 @@ use Rattle.x64_code_buffer.specs.Buffer.{buffer_state, label_count, places_of}
 use Rattle.x64_layout.proofs.Growth.{layout_bytes}
 use Rattle.x64_layout.specs.Layout.{Stands}
 use Rattle.x64_assemble.specs.Assembled.{JumpReads, WholeReads, entries, jump_told, span_of, spot_of}
-use Rattle.x64_assemble.specs.Listed.{Listed}
-use Rattle.x64_assemble.specs.Putting.{GotEntry, Put}
+use Rattle.x64_assemble.specs.Listed.{GotEntry, Listed}
+use Rattle.x64_assemble.specs.Putting.{Put}
 use Rattle.x64_assemble.specs.declared.item.Item.{Item}
 use Rattle.x64_assemble.specs.declared.item.Item.TheVariants as item
 use Rattle.x64_assemble.proofs.Items.{spot_most}
