@@ -1,12 +1,11 @@
 -- Steps of the proofs: where labels of a list are noted, and a list on its way into a buffer.
-use Rattle.std.specs.Prelude.{◌≡◌, ◌<◌, ℕ, ◌+◌, ◌-◌, ◌==◌, Bool, false, take, if◌then◌else◌, Option, Some, None, option_and_then, List, [], ◌∷◌, ◌++◌, length, sum, drop, slice_get}
+use Rattle.std.specs.Prelude.{◌≡◌, ◌<◌, ℕ, ◌+◌, ◌-◌, ◌==◌, Bool, false, take, if◌then◌else◌, Option, Some, None, option_and_then, List, ◌++◌, length, sum, drop, slice_get}
 use Rattle.cax64_sink.specs.Keeps.{Keeps}
 use Rattle.cax64_sink.specs.Room.{HasRoom}
 use Rattle.cax64_sink.specs.Sink.{State}
 use Rattle.cax64_sink.specs.declared.Label.{Label}
 use Rattle.cax64_sink.specs.declared.DeferredTarget.{DeferredTarget}
 use Rattle.cax64_sink.specs.declared.DeferredTarget.TheVariants as target
-use Rattle.cax64_sink.specs.declared.Notice.{Notice}
 use Rattle.x64_code_buffer.specs.Laid.{Laid, Piece}
 use Rattle.x64_layout.specs.Layout.{place_in}
 use Rattle.x64_assemble.specs.Assembled.{EachReads, IsNoLabelOf, all_told, entries, spot_of}
