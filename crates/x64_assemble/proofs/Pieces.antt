@@ -16,8 +16,8 @@ use Rattle.x64_code_buffer.specs.Laid.{Laid, Piece, reading_in}
 use Rattle.x64_layout.specs.Layout.{place_in}
 use Rattle.x64_layout.proofs.Places.{place_more}
 use Rattle.x64_assemble.specs.Assembled.{EachReads, IsNoLabelOf, JumpReads, WholeReads, all_told, entries, spot_of}
-use Rattle.x64_assemble.specs.Listed.{Listed}
-use Rattle.x64_assemble.specs.Putting.{GotEntry, Put}
+use Rattle.x64_assemble.specs.Listed.{GotEntry, Listed}
+use Rattle.x64_assemble.specs.Putting.{Put}
 use Rattle.x64_assemble.specs.declared.item.Item.{Item}
 use Rattle.x64_assemble.specs.declared.item.Item.TheVariants as item
 use Rattle.x64_assemble.proofs.Items.{counted, entries_push, spot_push}

@@ -28,8 +28,7 @@ use Rattle.x64_code_buffer.specs.declared.jump.Condition.TheVariants as cond
 use Rattle.x64_code_buffer.specs.declared.jump.Jump.{Jump}
 use Rattle.x64_code_buffer.specs.declared.jump.Jump.TheVariants.{Always, Call, If}
 use Rattle.x64_assemble.specs.Assembled.{JumpReads, WholeReads, distance_in, jump_told, long_len, row_of_len}
-use Rattle.x64_assemble.specs.Listed.{inst_told}
-use Rattle.x64_assemble.specs.Putting.{GotEntry}
+use Rattle.x64_assemble.specs.Listed.{GotEntry, inst_told}
 use Rattle.x64_assemble.proofs.Pieces.{fewer}
 use Rattle.x64_assemble.proofs.Told.{tells_inst, tells_nothing, tells_use}
 

@@ -1,5 +1,5 @@
 -- What a list of instructions, jumps to labels and places of labels becomes in a buffer.
-use Rattle.std.specs.Prelude.{◌≡◌, ℕ, suc, ◌+◌, ℤ, pos, ◌-ℤ◌, ◌==◌, if◌then◌else◌, Option, Some, None, option_map, unwrap_or, List, [], ◌∷◌, ◌++◌, map, length, sum, slice_index}
+use Rattle.std.specs.Prelude.{◌≡◌, ℕ, suc, ◌+◌, ℤ, pos, ◌-ℤ◌, ◌==◌, if◌then◌else◌, Option, Some, None, option_map, unwrap_or, List, [], ◌∷◌, ◌++◌, length, sum, slice_index}
 use Rattle.cax64_machine_code.specs.Reading.{PartsOf}
 use Rattle.cax64_machine_code.specs.Rows.{line_of}
 use Rattle.cax64_machine_code.specs.declared.line.Line.{Line}
@@ -9,9 +9,8 @@ use Rattle.cax64_sink.specs.declared.DeferredTarget.{DeferredTarget}
 use Rattle.cax64_sink.specs.declared.DeferredTarget.TheVariants as target
 use Rattle.cax64_sink.specs.declared.Label.{Label}
 use Rattle.cax64_sink.specs.declared.Notice.{Notice}
-use Rattle.cax64_sink.specs.declared.Notice.TheVariants.{Target}
 use Rattle.x64_code_buffer.specs.Jump.{jump_parts, long_row, short_row}
-use Rattle.x64_code_buffer.specs.Laid.{Laid, Piece, open_jump, parts_in, piece_field, reading_in, whole}
+use Rattle.x64_code_buffer.specs.Laid.{Laid, Piece, open_jump, parts_in, reading_in, whole}
 use Rattle.x64_code_buffer.specs.declared.jump.Jump.{Jump}
 use Rattle.x64_code_buffer.specs.declared.jump.Jump.TheVariants.{Always, Call, If}
 use Rattle.x64_layout.specs.Layout.{IsLeast, place_in}

@@ -1,5 +1,5 @@
 -- What an instruction of a list becomes in a buffer.
-use Rattle.std.specs.Prelude.{ℕ, ℤ, Option, Some, None, List, [], map}
+use Rattle.std.specs.Prelude.{◌≡◌, ℕ, ◌+◌, ℤ, Option, Some, None, List, [], ◌∷◌, ◌++◌, length, map}
 use Rattle.cax64_address.specs.declared.amode.Amode.{Amode}
 use Rattle.cax64_address.specs.declared.amode.Amode.TheVariants.{ImmReg, ImmRegRegShift, RipRelative}
 use Rattle.cax64_encoder.specs.Fault.{fault_of_meant}
@@ -11,10 +11,14 @@ use Rattle.cax64_machine_code.specs.ReadLine.{parts_as}
 use Rattle.cax64_machine_code.specs.Reading.{PartsOf}
 use Rattle.cax64_machine_code.specs.Rows.{line_of}
 use Rattle.cax64_machine_code.specs.declared.line.Line.{Line}
+use Rattle.cax64_sink.specs.Keeps.{Keeps}
+use Rattle.cax64_sink.specs.Room.{FallsBy}
+use Rattle.cax64_sink.specs.Sink.{State}
 use Rattle.cax64_sink.specs.declared.DeferredTarget.{DeferredTarget}
 use Rattle.cax64_sink.specs.declared.Notice.{Notice}
 use Rattle.cax64_sink.specs.declared.Notice.TheVariants.{Target}
-use Rattle.x64_code_buffer.specs.Laid.{Piece, piece_field}
+use Rattle.x64_code_buffer.specs.Binding.{SamePlaces}
+use Rattle.x64_code_buffer.specs.Laid.{Laid, Piece, piece_field}
 
 pub record Listed : Type 0 where
   -- what its bytes are to read as
@@ -49,3 +53,12 @@ row_meant offsets m = record {
 -- the same for the offsets that a buffer knows
 abbrev pub row_listed : {M : Type 0} → Meaning M → (ℕ → Option ℤ) → Listed
 row_listed meaning offsets = row_meant offsets (meaning offsets)
+
+-- A buffer has got an entry: a piece that reads so, of so many bytes, that tells this where it begins.
+pub record GotEntry (reads : Piece → Type 0) (tells : ℕ → Piece → List Notice) (size : ℕ) (s t : State) (old new : DeferredTarget → Option ℕ) : Type 0 where
+  pub laid : (pieces : List Piece) → Laid pieces (length s.bytes) s old → (p : Piece) × reads p × Laid (pieces ++ p ∷ []) (length t.bytes) t new × (t.notices ≡ s.notices ++ tells (length s.bytes) p)
+  pub more : length t.bytes ≡ length s.bytes + size
+  pub places : SamePlaces old new
+  pub keeps : Keeps s t
+  pub byte_room : FallsBy s.byte_room t.byte_room size
+  pub notice_room : FallsBy s.notice_room t.notice_room 1

@@ -5,7 +5,8 @@ ghost use Rattle.cax64_sink.specs.Room.{HasRoom};
 ghost use Rattle.x64_code_buffer.specs.Buffer.{buffer_state, label_count, places_of};
 ghost use Rattle.x64_layout.specs.Layout.{AreSpans, ArePlaces, IsLayout, Stands};
 ghost use Rattle.x64_assemble.specs.Assembled.{JumpReads, jump_told, span_of, spans_of};
-ghost use Rattle.x64_assemble.specs.Putting.{AreBinders, AreFree, CanPut, GotEntry, Put};
+ghost use Rattle.x64_assemble.specs.Listed.{GotEntry};
+ghost use Rattle.x64_assemble.specs.Putting.{AreBinders, AreFree, CanPut, Put};
 
 use crate::binders::{Binder, spot_in};
 use crate::item::Item;

@@ -4,8 +4,7 @@ ghost use Rattle.std.specs.Prelude.{◌≡◌, ◌≤◌, ℕ, ℤ, Option, None
 ghost use Rattle.cax64_sink.specs.Room.{HasRoom};
 ghost use Rattle.x64_code_buffer.specs.Buffer.{buffer_state, label_count, places_of};
 ghost use Rattle.x64_assemble.specs.Assembled.{WholeReads};
-ghost use Rattle.x64_assemble.specs.Listed.{Listed, row_listed};
-ghost use Rattle.x64_assemble.specs.Putting.{GotEntry};
+ghost use Rattle.x64_assemble.specs.Listed.{GotEntry, Listed, row_listed};
 
 use cax64_encoder::Fault;
 use cax64_encoder::instruction::Instruction;

@@ -8,8 +8,8 @@ use Rattle.x64_code_buffer.specs.Buffer.{buffer_state, label_count, places_of}
 use Rattle.x64_layout.proofs.Growth.{layout_bytes}
 use Rattle.x64_layout.specs.Layout.{Stands}
 use Rattle.x64_assemble.specs.Assembled.{JumpReads, WholeReads, entries, jump_told, span_of, spot_of}
-use Rattle.x64_assemble.specs.Listed.{Listed}
-use Rattle.x64_assemble.specs.Putting.{GotEntry, Put}
+use Rattle.x64_assemble.specs.Listed.{GotEntry, Listed}
+use Rattle.x64_assemble.specs.Putting.{Put}
 use Rattle.x64_assemble.specs.declared.item.Item.{Item}
 use Rattle.x64_assemble.specs.declared.item.Item.TheVariants as item
 use Rattle.x64_assemble.proofs.Items.{spot_most}
@@ -77,8 +77,8 @@ overflow_add-n-in-Jump g c =
     let at = jump_at size items k c.in-Jump.jump c.in-Jump.label c.args.lens.now (get_item items k c.item-item.result y c.loop-item-test.true c.item-item.is e) c.requires.layout in
     omega (arith, at.0, c.loop-item.invariant.n, c.requires.layout.as_many, c.requires.spans.few)
 
-pub unwrap-requires-in-Bind : goal.unwrap-requires-in-Bind
-unwrap-requires-in-Bind g c =
+pub unwrap-requires : goal.unwrap-requires
+unwrap-requires g c =
     let items : List (Item g.row.I.Denot) = c.args.items.now in
     let k : ℕ = c.loop-item.item-index in
     let label = c.in-Bind.label in
@@ -153,7 +153,7 @@ loop-item-preserved g c =
           let free = c.requires.free k label is in
           let t : State = buffer_state w.bind.new.self in
           let new : DeferredTarget → Option ℕ = places_of w.bind.new.self in
-          let next : Put meant lens items (take k items ++ y ∷ []) s t old new = put_bind meant lens items (take k items) label s u t old mid new free.2 (given_ok w.bind.result _ w.unwrap-in-Bind.ensures w.bind.ensures.binds) w.bind.ensures.state w.bind.ensures.filled.laid held.put in
+          let next : Put meant lens items (take k items ++ y ∷ []) s t old new = put_bind meant lens items (take k items) label s u t old mid new free.2 (given_ok w.bind.result _ w.unwrap.ensures w.bind.ensures.binds) w.bind.ensures.state w.bind.ensures.filled.laid held.put in
           let all : Put meant lens items (take (k + 1) items) s t old new = subst (λ (z : List (Item g.row.I.Denot)). Put meant lens items z s t old new) (sym (take_next items k x y within c.item-item.is e)) next in
           record {
             n = omega (arith, w.n-is, held.n, entries_next items k x y within c.item-item.is e);

@@ -1,8 +1,7 @@
-use Rattle.std.proofs.Common.{◌≡◌, ℕ, refl, Option}
+use Rattle.std.proofs.Common.{refl}
 use Rattle.cax64_encoder.specs.Instruction.{notices_in}
 use Rattle.cax64_encoder.specs.Meant.{Meant, len}
 use Rattle.cax64_sink.specs.Sink.{State}
-use Rattle.cax64_sink.specs.declared.DeferredTarget.{DeferredTarget}
 use Rattle.x64_code_buffer.specs.Buffer.{buffer_state, places_of}
 use Rattle.x64_assemble.proofs.Steps.{given_ok, got_inst, row_fits}
 use Rattle.x64_assemble.proofs.put_by.ByRowPutBy.put.Goals as goal
