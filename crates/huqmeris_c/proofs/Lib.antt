@@ -4,6 +4,7 @@ pub mod Plainly
 pub mod Listing
 pub mod Middle
 pub mod OfKinds
+pub mod Begun
 pub mod Made
 pub mod Settled
 pub mod Opened

@@ -1,8 +1,8 @@
-use Rattle.std.proofs.Common.{◌≡◌, ◌∙◌, ◌<◌, ◌≤◌, ◌⊎◌, inl, inr, ℕ, zero, suc, ℤ, pos, refl, sym, ap, subst, arith, Bool, true, false, Option, Some, None, List, [], ◌∷◌, ◌++◌, length, take, slice_get}
+use Rattle.std.proofs.Common.{◌≡◌, ◌∙◌, ◌<◌, ◌≤◌, ◌⊎◌, inl, inr, ℕ, zero, suc, ℤ, pos, refl, sym, ap, subst, arith, Bool, true, false, Option, Some, None, List, [], ◌∷◌, ◌++◌, length, take, get_or, slice_get}
 use Rattle.std.proofs.lemmas.Bool.{cases_lt, ltb-false, eq-eqb, eqb-true}
-use Rattle.std.proofs.lemmas.Option.{same_Some}
+use Rattle.std.proofs.lemmas.Option.{same_Some, slice_get-get_or}
 use Rattle.std.specs.Option.{option_or}
-use Rattle.std.specs.Prelude.{◌==◌, Err, IfSome, if◌then◌else◌, nat_lt, option_and_then, option_map}
+use Rattle.std.specs.Prelude.{◌==◌, Err, IfSome, Ok, Result, if◌then◌else◌, is_err, is_ok, nat_lt, option_and_then, option_map}
 use Rattle.cax64_encoder.specs.declared.fault.Fault.{Fault}
 use Rattle.cax64_plain.specs.Status.{fault_status}
 use Rattle.cax64_sink.specs.declared.DeferredTarget.{DeferredTarget}
@@ -176,7 +176,7 @@ mapped f None b e = cc
 mapped f (Some a) b e = record { a = a; is = refl; gives = same_Some (f a) b e }
 
 -- an item that can't be put is told so
-Refuses : List HqItem → ℕ → ℕ → ℤ → Type 0
+abbrev Refuses : List HqItem → ℕ → ℕ → ℤ → Type 0
 Refuses hs n number status = (status ≡ pos 11) ⊎ ((number ≡ n) × ((h : HqItem) × (slice_get hs n ≡ Some h) × CantBePut (length hs) (take n hs) h status))
 
 refuses_fault : (hs : List HqItem) (xs : List (Item Core)) (places : DeferredTarget → Option ℕ) (n number : ℕ) (status : ℤ) (core : Core) (e : LayoutError) → MakesEach hs xs → slice_get xs n ≡ Some (item.Inst core) → option_map (refusal.Fault n) (core_fault core) ≡ Some e → TellsOf e number status → Refuses hs n number status
@@ -273,11 +273,22 @@ get_take (x ∷ xs) (suc n) zero lt = refl
 get_take (x ∷ xs) (suc n) (suc k) lt = get_take xs n k (omega arith)
 
 pub first_none : (hs : List HqItem) (xs : List (Item Core)) (h : HqItem) (n : ℕ) (status : ℤ) → slice_get hs n ≡ Some h → MakesEach (take n hs) xs → NoItem h status → FirstRefused (λ before. NoItem) hs n status
-first_none hs xs h n status is makes no = record {
+first_none hs xs h n status is makes lacks = record {
   item = h;
   there = is;
-  why = no;
+  why = lacks;
   first = λ k earlier other lt there none.
       let of : MadeOf (take n hs) xs k earlier = made_of (take n hs) xs k earlier makes (get_take hs n k lt ∙ there) in
       no_item_made earlier of.x other of.makes none;
 }
+
+none_at : (hs : List HqItem) (xs : List (Item Core)) (d : HqItem) (i : ℕ) (status : ℤ) → i < length hs → MakesEach (take i hs) xs → (status ≡ pos 11) ⊎ NoItem (get_or hs i d) status → (status ≡ pos 11) ⊎ FirstRefused (λ before. NoItem) hs i status
+none_at hs xs d i status within makes (inl m) = inl m
+none_at hs xs d i status within makes (inr lacks) = inr (first_none hs xs (get_or hs i d) i status (slice_get-get_or hs i d within) makes lacks)
+
+pub either_none : (hs : List HqItem) (xs : List (Item Core)) (d : HqItem) (i : ℕ) (status told : ℤ) → i < length hs → MakesEach (take i hs) xs → told ≡ status → (status ≡ pos 11) ⊎ NoItem (get_or hs i d) status → (told ≡ pos 11) ⊎ FirstRefused (λ before. NoItem) hs i told
+either_none hs xs d i status told within makes is h = subst (λ (z : ℤ). (z ≡ pos 11) ⊎ FirstRefused (λ before. NoItem) hs i z) (sym is) (none_at hs xs d i status within makes h)
+
+pub pushed_is : {T E : Type 0} (r : Result (Unit {0}) E) (new all some : List T) → is_err r ≡ false → new ≡ (if is_ok r then all else some) → new ≡ all
+pushed_is (Ok tt) new all some well h = h
+pushed_is (Err e) new all some well h = cc

@@ -1,4 +1,4 @@
-use Rattle.std.proofs.Common.{◌≡◌, ◌∙◌, ◌<◌, ◌≤◌, ◌⊎◌, inl, inr, ℕ, sym, ap, subst, arith, Option, Some, None, List, [], length, slice_get, take, get_or}
+use Rattle.std.proofs.Common.{◌≡◌, ◌∙◌, ◌+◌, ◌<◌, ◌≤◌, ◌⊎◌, refl, inl, inr, ℕ, sym, ap, subst, arith, Option, Some, None, List, [], length, slice_get, take, get_or}
 use Rattle.std.proofs.lemmas.Bool.{cases_lt}
 use Rattle.std.proofs.lemmas.Option.{same_Some, slice_get-get_or}
 use Rattle.cax64_sink.specs.Sink.{State}
@@ -35,11 +35,28 @@ lacking items s places (target.Constant constant) h none = h.put.others (target.
 lacking items s places target.None h none = none
 
 pub unbound_at : (items : List HqItem) (s : State) (places : DeferredTarget → Option ℕ) (number : ℕ) → HasItems items s places → OpenAt places items number → UnboundAt items number
-unbound_at items s places number h open = record {
-  item = open.item;
-  there = open.there;
-  goes_to = open.opens.0;
-  refers = open.opens.1;
-  unbound = placeless items s places open.opens.0 h open.opens.2;
-  first = λ k earlier other lt is refers none. open.first k earlier lt is (other, refers, lacking items s places other h none);
+unbound_at items s places number h found = record {
+  item = found.item;
+  there = found.there;
+  goes_to = found.opens.0;
+  refers = found.opens.1;
+  unbound = placeless items s places found.opens.0 h found.opens.2;
+  first = λ k earlier other lt is refers none. found.first k earlier lt is (other, refers, lacking items s places other h none);
 }
+
+-- none of the first refers to what has no place
+abbrev pub NoneOpen : (DeferredTarget → Option ℕ) → List HqItem → ℕ → Type 0
+NoneOpen places items i = (k : ℕ) (earlier : HqItem) → k < i → slice_get items k ≡ Some earlier → Opens places earlier → ⊥
+
+pub open_at : (places : DeferredTarget → Option ℕ) (items : List HqItem) (d : HqItem) (i : ℕ) → i < length items → Opens places (get_or items i d) → NoneOpen places items i → OpenAt places items i
+open_at places items d i within opens before = record { item = get_or items i d; there = slice_get-get_or items i d within; opens = opens; first = before }
+
+pub none_more : (places : DeferredTarget → Option ℕ) (items : List HqItem) (d : HqItem) (i : ℕ) → i < length items → (Opens places (get_or items i d) → ⊥) → NoneOpen places items i → NoneOpen places items (i + 1)
+none_more places items d i within shut before = λ k earlier lt is opens. by_order k earlier lt is opens (cases_lt k i)
+  where
+    by_order : (k : ℕ) (earlier : HqItem) → k < i + 1 → slice_get items k ≡ Some earlier → Opens places earlier → (k < i) ⊎ (i ≤ k) → ⊥
+    by_order k earlier lt is opens (inl less) = before k earlier less is opens
+    by_order k earlier lt is opens (inr more) =
+        let here : k ≡ i = omega (arith, lt, more) in
+        let same : get_or items i d ≡ earlier = same_Some (get_or items i d) earlier (sym (slice_get-get_or items i d within) ∙ ap (slice_get items) (sym here) ∙ is) in
+        shut (subst (λ (x : HqItem). Opens places x) (sym same) opens)

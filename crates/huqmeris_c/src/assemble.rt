@@ -41,7 +41,7 @@ fn give_labels(count: u32, buffer: &mut CodeBuffer<Global>) -> Result<(), Refuse
     ensures given { OnOk result (Begun count buffer.new) }
     ensures refused { IfErr result (λ refused. refused.status ≡ pos 11) }
 {
-    for _ in 0..count {
+    for i in 0..count {
         if buffer.new_label().is_err() {
             return Err(Refused {
                 number: 0,

@@ -1,8 +1,9 @@
 //! Items as a list that can be laid out.
 
-ghost use Rattle.std.specs.Prelude.{◌≡◌, ◌⊎◌, [], IfErr, IfOk, OnOk, pos};
+ghost use Rattle.std.specs.Prelude.{◌≡◌, ◌++◌, ◌⊎◌, ◌∷◌, [], IfErr, IfOk, List, OnOk, pos};
 ghost use Rattle.huqmeris_c.specs.Items.{FirstRefused, NoItem};
 ghost use Rattle.huqmeris_c.specs.Putting.{Makes, MakesEach};
+ghost use Rattle.huqmeris_c.specs.declared.item.HqItem.{HqItem};
 
 use crate::item::{HQ_ITEM_INST, HQ_ITEM_LABEL, HqItem};
 use crate::jump::jump_of;
@@ -11,7 +12,7 @@ use cax64_plain::status::HQ_BAD_INST;
 use cax64_sink::Label;
 use std::alloc::Global;
 use x64_assemble::Item;
-use x64_core::Core;
+use x64_core::{Core, CorePlace};
 
 /// An item that is refused.
 #[derive(Clone, Copy)]
@@ -41,6 +42,23 @@ fn item_of(item: &HqItem) -> Result<Item<Core>, i32>
     }
 }
 
+/// Lists an item behind others.
+fn list_item(item: &HqItem, list: &mut Vec<Item<Core>, Global>) -> Result<(), i32>
+    ensures listed { (before : List HqItem) → MakesEach before list.old.items → OnOk result (MakesEach (before ++ item.now ∷ []) list.new.items) }
+    ensures refused { IfErr result (λ status. (status ≡ pos 11) ⊎ NoItem item.now status) }
+{
+    // The prover wants this type named where a list of instructions is kept over a call.
+    let _place = CorePlace::Absent;
+    let item = match item_of(item) {
+        Ok(item) => item,
+        Err(status) => return Err(status),
+    };
+    if list.push(item).is_err() {
+        return Err(HQ_NO_MEMORY);
+    }
+    Ok(())
+}
+
 /// Lists items.
 pub(crate) fn list_items(
     items: &[HqItem],
@@ -50,20 +68,15 @@ pub(crate) fn list_items(
     ensures listed { OnOk result (MakesEach items.now list.new.items) }
     ensures refused { IfErr result (λ refused. (refused.status ≡ pos 11) ⊎ FirstRefused (λ before. NoItem) items.now refused.number refused.status) }
 {
-    let no_memory = Refused {
-        number: 0,
-        status: HQ_NO_MEMORY,
-    };
     if list.reserve_exact(items.len()).is_err() {
-        return Err(no_memory);
+        return Err(Refused {
+            number: 0,
+            status: HQ_NO_MEMORY,
+        });
     }
     for i in 0..items.len() {
-        let item = match item_of(&items[i]) {
-            Ok(item) => item,
-            Err(status) => return Err(Refused { number: i, status }),
-        };
-        if list.push(item).is_err() {
-            return Err(no_memory);
+        if let Err(status) = list_item(&items[i], list) {
+            return Err(Refused { number: i, status });
         }
     }
     Ok(())
