@@ -183,24 +183,54 @@ static int are_linked(void)
             far = made(HQ_LINE_LEAQ_RM, 0, hq_label(3), HQ_NO_IMM), constant = made(HQ_LINE_LEAQ_RM, 0, hq_constant(1), HQ_NO_IMM);
     hq_item list[] = {hq_item_at(HQ_ITEM_LABEL, 0), hq_item_of(&lea), hq_item_at(HQ_ITEM_JMP, 0), hq_item_at(HQ_ITEM_JMP, 1), hq_item_at(HQ_ITEM_CALL, 0),
                       hq_item_at(HQ_ITEM_LABEL, 1), hq_item_of(&ret)};
-    /* leaq 12(%rip), %rax; jmp -9; jmp 5; callq -19; retq */
-    static const uint8_t bytes[] = {0x48, 0x8d, 0x05, 0x0c, 0, 0, 0, 0xeb, 0xf7, 0xe9, 0x05, 0, 0, 0, 0xe8, 0xed, 0xff, 0xff, 0xff, 0xc3};
+    /* leaq 9(%rip), %rax; jmp -9; jmp 5; callq -16; retq */
+    static const uint8_t bytes[] = {0x48, 0x8d, 0x05, 0x09, 0, 0, 0, 0xeb, 0xf7, 0xeb, 0x05, 0xe8, 0xf0, 0xff, 0xff, 0xff, 0xc3};
     hq_done done;
     uint8_t *code = before(sizeof bytes);
     if (hq_assemble(list, 7, code, sizeof bytes, &done) != HQ_OK || done.bytes != sizeof bytes || done.items != 7 || memcmp(code, bytes, sizeof bytes))
         return refused("jumps are others");
     for (uint32_t condition = 0; condition < 16; condition++) {
         hq_item both[] = {hq_item_at(HQ_ITEM_JO + condition, 1), hq_item_at(HQ_ITEM_LABEL, 1), hq_item_at(HQ_ITEM_JO + condition, 1)};
-        uint8_t wanted[] = {0x0f, (uint8_t)(0x80 + condition), 0, 0, 0, 0, (uint8_t)(0x70 + condition), 0xfe};
+        uint8_t wanted[] = {(uint8_t)(0x70 + condition), 0, (uint8_t)(0x70 + condition), 0xfe};
         code = before(sizeof wanted);
         if (hq_assemble(both, 3, code, sizeof wanted, &done) != HQ_OK || memcmp(code, wanted, sizeof wanted))
             return refused("a condition is another");
     }
     hq_item bad[] = {hq_item_at(HQ_ITEM_JG + 1, 0)}, none[] = {hq_item_at(HQ_ITEM_JMP, 0), hq_item_of(&ret)},
             twice[] = {hq_item_at(HQ_ITEM_LABEL, 0), hq_item_of(&ret), hq_item_at(HQ_ITEM_LABEL, 0)}, large[] = {hq_item_of(&ret), hq_item_at(HQ_ITEM_LABEL, 2)},
-            unbound[] = {hq_item_of(&ret), hq_item_of(&far)}, pool[] = {hq_item_of(&constant)};
-    return is_refused(bad, 1, HQ_BAD_ITEM, 0) && is_refused(none, 2, HQ_UNBOUND, 2) && is_refused(twice, 3, HQ_BOUND_TWICE, 2)
-        && is_refused(large, 2, HQ_BAD_LABEL, 1) && is_refused(unbound, 2, HQ_UNBOUND, 2) && is_refused(pool, 1, HQ_UNBOUND, 1);
+            unbound[] = {hq_item_of(&ret), hq_item_of(&far)}, pool[] = {hq_item_of(&constant)},
+            both[] = {hq_item_at(HQ_ITEM_JMP, 0), hq_item_at(HQ_ITEM_LABEL, 9), hq_item_at(HQ_ITEM_JG + 1, 0)};
+    return is_refused(bad, 1, HQ_BAD_ITEM, 0) && is_refused(none, 2, HQ_UNBOUND, 0) && is_refused(twice, 3, HQ_BOUND_TWICE, 2)
+        && is_refused(large, 2, HQ_BAD_LABEL, 1) && is_refused(unbound, 2, HQ_UNBOUND, 1) && is_refused(pool, 1, HQ_UNBOUND, 0)
+        && is_refused(both, 3, HQ_BAD_ITEM, 2) && is_refused(both, 2, HQ_BAD_LABEL, 1);
+}
+
+/* A jump over 127 bytes has two; over one more it has five, and then so has the one that jumps over it. */
+static int are_least(void)
+{
+    enum { MIDDLE = 124 };
+    hq_inst ret = made(HQ_LINE_RETQ_ZO, HQ_NO_REG, hq_nothing(), HQ_NO_IMM);
+    hq_item list[MIDDLE + 16];
+    hq_done done;
+    for (size_t more = 0; more < 3; more++) {
+        /* jmp 1; jmp 2; retq ..; 1: retq ..; 2: */
+        size_t n = 0, rest = 3 + more;
+        list[n++] = hq_item_at(HQ_ITEM_JMP, 1);
+        list[n++] = hq_item_at(HQ_ITEM_JMP, 2);
+        for (size_t i = 0; i < MIDDLE; i++)
+            list[n++] = hq_item_of(&ret);
+        list[n++] = hq_item_at(HQ_ITEM_LABEL, 1);
+        for (size_t i = 0; i < rest; i++)
+            list[n++] = hq_item_of(&ret);
+        list[n++] = hq_item_at(HQ_ITEM_LABEL, 2);
+        size_t second = MIDDLE + rest <= 127 ? 2 : 5, first = MIDDLE + second <= 127 ? 2 : 5;
+        uint8_t *code = before(ROOM);
+        if (hq_assemble(list, n, code, ROOM, &done) != HQ_OK || done.bytes != first + second + MIDDLE + rest || done.items != n)
+            return refused("a layout isn't the least");
+        if (code[0] != (first == 2 ? 0xeb : 0xe9) || code[1] != MIDDLE + second || code[first] != (second == 2 ? 0xeb : 0xe9) || code[first + 1] != MIDDLE + rest)
+            return refused("a jump of a layout is another");
+    }
+    return 1;
 }
 
 /* A virtual register has no name, and there is no line 584. */
@@ -225,7 +255,7 @@ int main(int argc, char **argv)
     if (!file || at == MAP_FAILED || mprotect(at + ROOM, page, PROT_NONE))
         return 2;
     guard = at + ROOM;
-    if (!read_cases(file) || !are_encoded() || !are_assembled() || !are_told() || !are_linked() || !are_named())
+    if (!read_cases(file) || !are_encoded() || !are_assembled() || !are_told() || !are_linked() || !are_least() || !are_named())
         return refused("lists through C: not as wanted") + 1;
     printf("lists through C: %zu instructions of %zu bytes, as wanted\n", count, size);
     return 0;

@@ -94,6 +94,30 @@ static int are_encoded(unsigned *encoded)
     return done.items == n && done.bytes == at && done.uses == told && is_blank(code + at, sizeof code - at) && is_blank(uses + told, (MOST - told) * sizeof *uses);
 }
 
+/* An item is one that is refused so. */
+static int is_at_fault(const hq_item *items, size_t n, size_t number, int32_t status)
+{
+    const hq_item *item = &items[number];
+    size_t places = 0, before = 0;
+    for (size_t i = 0; i < n; i++)
+        if (items[i].kind == HQ_ITEM_LABEL && items[i].number == item->number) {
+            places++;
+            before += i < number;
+        }
+    switch (hq_code(status)) {
+    case HQ_BAD_ITEM:
+        return item->kind > HQ_ITEM_JG;
+    case HQ_BAD_LABEL:
+        return item->kind == HQ_ITEM_LABEL && item->number >= n;
+    case HQ_BOUND_TWICE:
+        return item->kind == HQ_ITEM_LABEL && before;
+    case HQ_UNBOUND:
+        return item->kind == HQ_ITEM_INST || (item->kind >= HQ_ITEM_JMP && !places);
+    default:
+        return item->kind == HQ_ITEM_INST && hq_check(&item->inst) == status;
+    }
+}
+
 static int are_assembled(unsigned *assembled)
 {
     hq_item items[MOST + 4];
@@ -122,8 +146,10 @@ static int are_assembled(unsigned *assembled)
     add(&status, sizeof status);
     add(&done, sizeof done);
     add(code, sizeof code);
+    if (status == HQ_FULL)
+        return is_blank(code, sizeof code) && done.bytes > room && done.items == n;
     if (status != HQ_OK)
-        return is_blank(code, sizeof code) && (status != HQ_FULL || done.bytes > room);
+        return is_blank(code, sizeof code) && done.items < n && is_at_fault(items, n, done.items, status);
     ++*assembled;
     for (size_t i = 0; i < n; i++)
         count += items[i].kind != HQ_ITEM_LABEL;

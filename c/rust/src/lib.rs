@@ -234,7 +234,7 @@ mod tests {
         let done = assemble(&[Item::label(0), Item::inst(dec), Item::jump(sys::HQ_ITEM_JNE, 0), Item::inst(ret())], &mut code).unwrap();
         assert_eq!(code[..done.bytes], [0x48, 0x83, 0xEF, 0x01, 0x75, 0xFA, 0xC3]);
         let stopped = assemble(&[Item::inst(ret()), Item::jump(sys::HQ_ITEM_JMP, 0)], &mut code).unwrap_err();
-        assert_eq!(stopped.status, Status(sys::HQ_UNBOUND));
+        assert_eq!((stopped.status, stopped.done.items), (Status(sys::HQ_UNBOUND), 1));
     }
 
     #[test]

@@ -1,11 +1,26 @@
-use Rattle.std.proofs.Common.{◌≡◌, ◌∙◌, ◌+◌, ℕ, ap, false, None, List, [], arith}
-use Rattle.std.specs.Prelude.{Err, Ok, Result, if◌then◌else◌, is_err, is_ok}
+use Rattle.std.proofs.Common.{◌≡◌, ◌∙◌, ◌+◌, ◌<◌, ◌⊎◌, inl, inr, ℕ, ℤ, pos, ap, sym, subst, false, Option, None, List, [], length, arith}
+use Rattle.std.specs.Prelude.{Err, IfSome, Ok, Result, if◌then◌else◌, is_err, is_ok}
+use Rattle.cax64_encoder.specs.declared.fault.Fault.{Fault}
 use Rattle.cax64_sink.specs.Sink.{State}
 use Rattle.cax64_sink.specs.declared.DeferredTarget.{DeferredTarget}
-use Rattle.huqmeris_c.specs.Putting.{Begun}
+use Rattle.huqmeris_c.proofs.Made.{list_refused}
+use Rattle.huqmeris_c.specs.Encodes.{no_offsets}
+use Rattle.huqmeris_c.specs.Items.{FirstRefused, NoItem, Unlisted}
+use Rattle.huqmeris_c.specs.Putting.{Begun, HasItems, MakesEach, TellsOf, core_fault}
+use Rattle.huqmeris_c.specs.declared.item.HqItem.{HqItem}
+use Rattle.x64_assemble.specs.Assembled as laid_out
+use Rattle.x64_assemble.specs.Refused.{IsFirstRefusal, number_in, refusal_at}
+use Rattle.x64_assemble.specs.declared.errors.LayoutError.{LayoutError}
+use Rattle.x64_assemble.specs.declared.errors.LayoutError.TheVariants as refusal
+use Rattle.x64_assemble.specs.declared.item.Item.{Item}
 use Rattle.x64_code_buffer.specs.Binding.{SamePlaces}
 use Rattle.x64_code_buffer.specs.Buffer.{StaysFilled, buffer_state, label_count, places_of}
+use Rattle.x64_code_buffer.specs.Laid.{Laid, Piece}
 use Rattle.x64_code_buffer.specs.declared.buffer.CodeBuffer.{CodeBuffer}
+use Rattle.x64_core.specs.Core.{fault_of}
+use Rattle.x64_core.specs.View.{core_view}
+use Rattle.x64_core.specs.declared.instruction.Core.{Core}
+use Rattle.x64_core_assemble.specs.Listed.{core_listed}
 
 -- Labels of a buffer that has nothing else.
 
@@ -22,3 +37,37 @@ begun_more r n b d well count state places filled h = record {
   places = λ goes_to. places goes_to ∙ h.places goes_to;
   laid = filled.laid [] 0 h.laid;
 }
+
+known : (s : State) → ((key : ℕ) → s.offsets key ≡ None) → s.offsets ≡ no_offsets
+known s h = λ i key. h key i
+
+pub has_items : {A : Type 0} (items : List HqItem) (xs : List (Item Core)) (n : ℕ) (b : CodeBuffer A) (t : State) (new : DeferredTarget → Option ℕ) → MakesEach items xs → Begun n b → ((pieces : List Piece) → Laid pieces (length (buffer_state b).bytes) (buffer_state b) (places_of b) → laid_out.Assembled (λ core. core_listed (core_view core) (buffer_state b).offsets) xs pieces (buffer_state b) t (places_of b) new) → ((k : ℕ) → refusal_at (λ core. (core_listed (core_view core) (buffer_state b).offsets).fault) (label_count b) (places_of b) xs k ≡ None) → HasItems items t new
+has_items items xs n b t new makes h put tested =
+    let s : State = buffer_state b in
+    let none : s.offsets ≡ no_offsets = known s h.offsets in
+    let start : length s.bytes ≡ 0 = ap (λ (l : List ℕ). length l) h.bytes in
+    record {
+      list = xs;
+      makes = makes;
+      before = s;
+      given = label_count b;
+      old = places_of b;
+      bytes = h.bytes;
+      notices = h.notices;
+      none = h.places;
+      put = subst (λ (o : ℕ → Option ℤ). laid_out.Assembled (λ core. core_listed (core_view core) o) xs [] s t (places_of b) new) none (put [] (subst (λ (m : ℕ). Laid [] m s (places_of b)) (sym start) h.laid));
+      tested = subst (λ (o : ℕ → Option ℤ). (k : ℕ) → refusal_at (λ core. (core_listed (core_view core) o).fault) (label_count b) (places_of b) xs k ≡ None) none tested;
+    }
+
+refused_first : (fault : Core → Option Fault) (given : ℕ) (places : DeferredTarget → Option ℕ) (xs : List (Item Core)) (e : LayoutError) (other : Core → Option Fault) (count : ℕ) → fault ≡ other → given ≡ count → IfSome (number_in e) (λ k. IsFirstRefusal fault given places xs k e) → IfSome (number_in e) (λ k. IsFirstRefusal other count places xs k e)
+refused_first fault given places xs e other count same many h = subst (λ (m : ℕ). IfSome (number_in e) (λ k. IsFirstRefusal other m places xs k e)) many (subst (λ (f : Core → Option Fault). IfSome (number_in e) (λ k. IsFirstRefusal f given places xs k e)) same h)
+
+pub put_refused : {A : Type 0} (items : List HqItem) (xs : List (Item Core)) (n number : ℕ) (status : ℤ) (e : LayoutError) (b : CodeBuffer A) → MakesEach items xs → Begun n b → n ≡ length items → IfSome (number_in e) (λ k. IsFirstRefusal (λ core. (core_listed (core_view core) (buffer_state b).offsets).fault) (label_count b) (places_of b) xs k e) → (e ≡ refusal.TooMany → 165191049 < length xs) → TellsOf e number status → Unlisted items number status
+put_refused items xs n number status e b makes h count first many told =
+    let none : (buffer_state b).offsets ≡ no_offsets = known (buffer_state b) h.offsets in
+    let is : IfSome (number_in e) (λ k. IsFirstRefusal core_fault (length items) (places_of b) xs k e) = refused_first (λ core. (core_listed (core_view core) (buffer_state b).offsets).fault) (label_count b) (places_of b) xs e core_fault (length items) (ap {B = Core → Option Fault} (λ (o : ℕ → Option ℤ) (core : Core). fault_of o (core_view core)) none) (h.labels ∙ count) first in
+    list_refused items xs (places_of b) number status e makes h.places is many told
+
+pub unlisted : (items : List HqItem) (number : ℕ) (status : ℤ) → (status ≡ pos 11) ⊎ FirstRefused (λ before. NoItem) items number status → Unlisted items number status
+unlisted items number status (inl m) = inl m
+unlisted items number status (inr f) = inr (inr (inl f))

@@ -4,7 +4,7 @@ pub mod Plainly
 pub mod Listing
 pub mod Middle
 pub mod OfKinds
-pub mod Begun
 pub mod Made
+pub mod Begun
 pub mod Settled
 pub mod Opened

@@ -2,7 +2,7 @@ use Rattle.std.proofs.Common.{◌≡◌, ◌∙◌, ◌<◌, ◌≤◌, ◌⊎�
 use Rattle.std.proofs.lemmas.Bool.{cases_lt, ltb-false, eq-eqb, eqb-true}
 use Rattle.std.proofs.lemmas.Option.{same_Some, slice_get-get_or}
 use Rattle.std.specs.Option.{option_or}
-use Rattle.std.specs.Prelude.{◌==◌, Err, IfSome, Ok, Result, if◌then◌else◌, is_err, is_ok, nat_lt, option_and_then, option_map}
+use Rattle.std.specs.Prelude.{◌==◌, Err, IfSome, Ok, OnOk, Result, if◌then◌else◌, is_err, is_ok, nat_lt, option_and_then, option_map}
 use Rattle.cax64_encoder.specs.declared.fault.Fault.{Fault}
 use Rattle.cax64_plain.specs.Status.{fault_status}
 use Rattle.cax64_sink.specs.declared.DeferredTarget.{DeferredTarget}
@@ -292,3 +292,7 @@ either_none hs xs d i status told within makes is h = subst (λ (z : ℤ). (z �
 pub pushed_is : {T E : Type 0} (r : Result (Unit {0}) E) (new all some : List T) → is_err r ≡ false → new ≡ (if is_ok r then all else some) → new ≡ all
 pushed_is (Ok tt) new all some well h = h
 pushed_is (Err e) new all some well h = cc
+
+pub finished : {T E P : Type 0} (r : Result T E) → is_err r ≡ false → OnOk r P → P
+finished (Ok v) well h = h
+finished (Err e) well h = cc

@@ -1,4 +1,4 @@
-use Rattle.std.proofs.Common.{◌≡◌, ◌∙◌, ◌+◌, ◌-◌, ◌<◌, ◌≤◌, ◌⊎◌, inl, inr, ℕ, zero, suc, ℤ, pos, ◌-ℤ◌, refl, sym, ap, subst, arith, Bool, true, false, Option, Some, None, List, [], ◌∷◌, ◌++◌, drop, get_or, length, take}
+use Rattle.std.proofs.Common.{◌≡◌, ◌∙◌, ◌+◌, ◌-◌, ◌<◌, ◌≤◌, ◌⊎◌, inl, inr, ℕ, zero, suc, ℤ, pos, ◌-ℤ◌, refl, sym, ap, subst, arith, Bool, true, false, Option, Some, None, List, [], ◌∷◌, ◌++◌, drop, get_or, length, take, slice_get}
 use Rattle.std.proofs.Math.Seq.{take-length}
 use Rattle.std.proofs.lemmas.Bool.{eq-eqb}
 use Rattle.std.proofs.lemmas.List.{drop_more}
@@ -25,6 +25,7 @@ use Rattle.cax64_sink.specs.declared.Label.{Label}
 use Rattle.cax64_sink.specs.declared.Notice.{Notice}
 use Rattle.cax64_sink.specs.declared.Notice.TheVariants.{Trap, Target}
 use Rattle.cax64_sink.specs.declared.TrapCode.{TrapCode}
+use Rattle.cax64_plain.specs.Plain.{plain}
 use Rattle.huqmeris_c.proofs.Made.{if_none, list_is, makes_length, map_none}
 use Rattle.huqmeris_c.specs.Encodes.{no_offsets}
 use Rattle.huqmeris_c.specs.Items.{Assembled, AssembledTo, InstIs, ItemsAre, JumpIs, LabelIs, LeadsTo, ReadAs, jump_named, lengths, list_spans, target_in}
@@ -140,7 +141,7 @@ label_later : (b : Bool) (o : Option ℕ) (spot : ℕ) → b ≡ false → o ≡
 label_later true o spot t e = cc
 label_later false o spot t e = e
 
-label_of : Item Core → Label → Label
+abbrev label_of : Item Core → Label → Label
 label_of (item.Inst core) other = other
 label_of (item.Jump jump to) other = other
 label_of (item.Bind bound) other = bound
@@ -161,14 +162,14 @@ spot_there (item.Bind bound ∷ xs) (suc k) label is none =
 
 -- Each item.
 
-Spots : List (Item Core) → ℕ → List (Item Core) → Type 0
+abbrev Spots : List (Item Core) → ℕ → List (Item Core) → Type 0
 Spots all n xs = (k : ℕ) (label : Label) → slice_get xs k ≡ Some (item.Bind label) → spot_of label.0 all ≡ Some (n + entries (take k xs))
 
-Bound : (DeferredTarget → Option ℕ) → List ℕ → List (Item Core) → Type 0
+abbrev Bound : (DeferredTarget → Option ℕ) → List ℕ → List (Item Core) → Type 0
 Bound places lens all = (label spot : ℕ) → spot_of label all ≡ Some spot → places (target.Label (record { 0 = label })) ≡ Some (place_in lens spot)
 
 -- what is said of the items behind a piece
-Later : (DeferredTarget → Option ℕ) → List (Item Core) → List HqItem → List (Item Core) → ℕ → List Piece → Type 0
+abbrev Later : (DeferredTarget → Option ℕ) → List (Item Core) → List HqItem → List (Item Core) → ℕ → List Piece → Type 0
 Later places all hs xs end ps = (us : List Use) (readings : List LineReading) → us ≡ uses_of (all_told core_becomes all end xs ps) → EachSettled places end ps us readings → ItemsAre places hs end readings
 
 inst_are : (places : DeferredTarget → Option ℕ) (all : List (Item Core)) (at : ℕ) (h : HqItem) (hs : List HqItem) (core : Core) (xs : List (Item Core)) (r : LineReading) (ps : List Piece) (us : List Use) (readings : List LineReading) → h.kind ≡ 0 → plain (core_view core) ≡ h.inst → ◌≡◌ {A = PartsOf Line} (parts_in r) (core_becomes core).parts → us ≡ uses_of (all_told core_becomes all at (item.Inst core ∷ xs) (whole r ∷ ps)) → EachSettled places at (whole r ∷ ps) us readings → Later places all hs xs (at + r.length) ps → ItemsAre places (h ∷ hs) at readings
@@ -344,10 +345,11 @@ all_assembled items s places code h out size =
     let start : length h.before.bytes ≡ 0 = ap (λ (l : List ℕ). length l) h.bytes in
     let told : uses_of s.notices ≡ uses_of (all_told core_becomes xs 0 xs h.put.more) = ap uses_of h.put.told ∙ ap (λ (l : List Notice). uses_of (l ++ all_told core_becomes xs (length h.before.bytes) xs h.put.more)) h.notices ∙ ap (λ (n : ℕ). uses_of (all_told core_becomes xs n xs h.put.more)) start in
     let free : AreFree h.given h.old xs = are_free core_fault h.given h.old xs h.tested in
-    let spots : Spots xs 0 xs = λ k label is. spot_there xs k label is (free k label is).2 in
-    let bound : Bound places lens xs = λ label spot is. h.put.bound label spot is ∙ ap (λ (n : ℕ). Some (n + place_in lens spot)) start in
+    let spots : Spots xs 0 xs = λ k label is. let e : entries (take k xs) ≡ 0 + entries (take k xs) = omega arith in spot_there xs k label is (free k label is).2 ∙ ap (λ (n : ℕ). Some n) e in
+    let bound : Bound places lens xs = λ label spot is. let e : length h.before.bytes + place_in lens spot ≡ place_in lens spot = omega (arith, start) in h.put.bound label spot is ∙ ap (λ (n : ℕ). Some n) e in
     let count : length lens ≡ entries xs = h.put.least.layout.as_many ∙ spans_few (λ core. core_len no_offsets (core_view core)) xs xs in
-    let long : lengths out.now ≡ lens = are_lengths places lens xs 0 0 xs h.put.more (uses_of s.notices) out.now count h.put.reads out.settled in
+    let counted : length lens ≡ 0 + entries xs = omega (arith, count) in
+    let long : lengths out.now ≡ lens = are_lengths places lens xs 0 0 xs h.put.more (uses_of s.notices) out.now counted h.put.reads out.settled in
     record {
       readings = out.now;
       reads = subst (λ (l : List ℕ). LinesRead out.now l) all out.reads;
