@@ -1,4 +1,4 @@
-use Rattle.std.proofs.Common.{◌≡◌, ◌∙◌, ◌+◌, ◌<◌, ◌⊎◌, inl, inr, ℕ, ℤ, pos, ap, sym, subst, false, Option, None, List, [], length, arith}
+use Rattle.std.proofs.Common.{◌≡◌, ◌∙◌, ◌+◌, ◌<◌, ◌⊎◌, inl, inr, ℕ, ℤ, pos, ap, sym, subst, false, Option, None, List, [], length}
 use Rattle.std.specs.Prelude.{Err, IfSome, Ok, Result, if◌then◌else◌, is_err, is_ok}
 use Rattle.cax64_encoder.specs.declared.fault.Fault.{Fault}
 use Rattle.cax64_sink.specs.Sink.{State}

@@ -1,16 +1,15 @@
 use Rattle.std.proofs.Common.{◌≡◌, ◌∙◌, ◌<◌, ◌≤◌, ◌⊎◌, inl, inr, ℕ, zero, suc, ℤ, pos, refl, sym, ap, subst, arith, Bool, true, false, Option, Some, None, List, [], ◌∷◌, ◌++◌, length, take, get_or, slice_get}
-use Rattle.std.proofs.lemmas.Bool.{cases_lt, ltb-false, eq-eqb, eqb-true}
+use Rattle.std.proofs.lemmas.Bool.{ltb-false, eq-eqb, eqb-true}
 use Rattle.std.proofs.lemmas.Option.{same_Some, slice_get-get_or}
 use Rattle.std.specs.Option.{option_or}
 use Rattle.std.specs.Prelude.{◌==◌, Err, IfSome, Ok, OnOk, Result, if◌then◌else◌, is_err, is_ok, nat_lt, option_and_then, option_map}
 use Rattle.cax64_encoder.specs.declared.fault.Fault.{Fault}
-use Rattle.cax64_plain.specs.Status.{fault_status}
 use Rattle.cax64_sink.specs.declared.DeferredTarget.{DeferredTarget}
 use Rattle.cax64_sink.specs.declared.DeferredTarget.TheVariants as target
 use Rattle.cax64_sink.specs.declared.Label.{Label}
 use Rattle.huqmeris_c.specs.Each.{HasFault}
 use Rattle.huqmeris_c.specs.Encodes.{no_offsets}
-use Rattle.huqmeris_c.specs.Items.{Binds, CantBePut, FirstRefused, ListIs, NoItem, RefusedAt, Unlisted, jump_named}
+use Rattle.huqmeris_c.specs.Items.{Binds, CantBePut, FirstRefused, ListIs, NoItem, Unlisted, jump_named}
 use Rattle.huqmeris_c.specs.Putting.{Makes, MakesEach, TellsOf, core_fault}
 use Rattle.huqmeris_c.specs.declared.item.HqItem.{HqItem}
 use Rattle.x64_assemble.proofs.Entries.{free_label}
@@ -22,10 +21,10 @@ use Rattle.x64_assemble.specs.declared.item.Item.{Item}
 use Rattle.x64_assemble.specs.declared.item.Item.TheVariants as item
 use Rattle.x64_code_buffer.specs.Binding.{unless_bound}
 use Rattle.x64_code_buffer.specs.declared.errors.BindError.{BindError}
-use Rattle.x64_code_buffer.specs.declared.errors.BindError.TheVariants.{Unknown, Twice, NoMemory}
+use Rattle.x64_code_buffer.specs.declared.errors.BindError.TheVariants.{Unknown, Twice}
 use Rattle.x64_code_buffer.specs.declared.jump.Jump.{Jump}
 use Rattle.x64_core.specs.Core.{fault_of}
-use Rattle.x64_core.specs.View.{CoreView, core_view}
+use Rattle.x64_core.specs.View.{CoreView}
 use Rattle.x64_core.specs.declared.instruction.Core.{Core}
 
 -- Items and the list that they are.

@@ -1,11 +1,11 @@
-use Rattle.std.proofs.Common.{◌≡◌, ◌∙◌, ◌+◌, ◌<◌, ◌≤◌, ◌⊎◌, refl, inl, inr, ℕ, sym, ap, subst, arith, Option, Some, None, List, [], length, slice_get, take, get_or}
+use Rattle.std.proofs.Common.{◌≡◌, ◌∙◌, ◌+◌, ◌<◌, ◌≤◌, ◌⊎◌, refl, inl, inr, ℕ, sym, ap, subst, arith, Option, Some, None, List, length, slice_get, get_or}
 use Rattle.std.proofs.lemmas.Bool.{cases_lt}
 use Rattle.std.proofs.lemmas.Option.{same_Some, slice_get-get_or}
 use Rattle.cax64_sink.specs.Sink.{State}
 use Rattle.cax64_sink.specs.declared.DeferredTarget.{DeferredTarget}
 use Rattle.cax64_sink.specs.declared.DeferredTarget.TheVariants as target
 use Rattle.huqmeris_c.proofs.Made.{binds_spot, spot_binds}
-use Rattle.huqmeris_c.specs.Items.{Binds, IsPlaceless, RefersTo, UnboundAt}
+use Rattle.huqmeris_c.specs.Items.{Binds, IsPlaceless, UnboundAt}
 use Rattle.huqmeris_c.specs.Putting.{HasItems, LacksPlace, OpenAt, Opens}
 use Rattle.huqmeris_c.specs.declared.item.HqItem.{HqItem}
 use Rattle.x64_assemble.specs.Assembled.{spot_of}

@@ -1,10 +1,9 @@
-use Rattle.std.proofs.Common.{◌≡◌, ◌∙◌, ◌+◌, ◌-◌, ◌<◌, ◌≤◌, ◌⊎◌, inl, inr, ℕ, zero, suc, ℤ, pos, ◌-ℤ◌, refl, sym, ap, subst, arith, Bool, true, false, Option, Some, None, List, [], ◌∷◌, ◌++◌, drop, get_or, length, take, slice_get}
+use Rattle.std.proofs.Common.{◌≡◌, ◌∙◌, ◌+◌, ◌-◌, ◌⊎◌, inl, inr, ℕ, zero, suc, ℤ, pos, ◌-ℤ◌, refl, sym, ap, subst, arith, Bool, true, false, Option, Some, None, List, [], ◌∷◌, ◌++◌, drop, get_or, length, take, slice_get}
 use Rattle.std.proofs.Math.Seq.{take-length}
 use Rattle.std.proofs.lemmas.Bool.{eq-eqb}
 use Rattle.std.proofs.lemmas.List.{drop_more}
 use Rattle.std.proofs.lemmas.Option.{same_Some}
 use Rattle.std.specs.Prelude.{◌==◌, if◌then◌else◌, option_map, slice_index, unwrap_or}
-use Rattle.cax64_address.specs.declared.amode.Amode.{Amode}
 use Rattle.cax64_address.specs.declared.amode.Amode.TheVariants.{ImmReg, ImmRegRegShift, RipRelative}
 use Rattle.cax64_encoder.specs.Notices.{trap_notice}
 use Rattle.cax64_encoder.specs.Place.{displacement_in, memory_in, place_read}
@@ -26,15 +25,14 @@ use Rattle.cax64_sink.specs.declared.Notice.{Notice}
 use Rattle.cax64_sink.specs.declared.Notice.TheVariants.{Trap, Target}
 use Rattle.cax64_sink.specs.declared.TrapCode.{TrapCode}
 use Rattle.cax64_plain.specs.Plain.{plain}
-use Rattle.huqmeris_c.proofs.Made.{if_none, list_is, makes_length, map_none}
+use Rattle.huqmeris_c.proofs.Made.{if_none, list_is, map_none}
 use Rattle.huqmeris_c.specs.Encodes.{no_offsets}
-use Rattle.huqmeris_c.specs.Items.{Assembled, AssembledTo, InstIs, ItemsAre, JumpIs, LabelIs, LeadsTo, ReadAs, jump_named, lengths, list_spans, target_in}
+use Rattle.huqmeris_c.specs.Items.{Assembled, AssembledTo, ItemsAre, LeadsTo, ReadAs, jump_named, lengths, list_spans, target_in}
 use Rattle.huqmeris_c.specs.Putting.{HasItems, MakesEach, core_becomes, core_fault}
 use Rattle.huqmeris_c.specs.declared.item.HqItem.{HqItem}
 use Rattle.huqmeris_c.specs.declared.progress.HqDone.{HqDone}
 use Rattle.x64_assemble.proofs.Entries.{are_free, spans_few}
-use Rattle.x64_assemble.specs.Assembled.{EachReads, JumpReads, OpenReads, WholeReads, all_told, distance_in, entries, jump_told, row_of_len, spot_of}
-use Rattle.x64_assemble.specs.Assembled as laid_out
+use Rattle.x64_assemble.specs.Assembled.{EachReads, JumpReads, all_told, distance_in, entries, jump_told, row_of_len, spot_of}
 use Rattle.x64_assemble.specs.Listed.{inst_told}
 use Rattle.x64_assemble.specs.Putting.{AreFree}
 use Rattle.x64_assemble.specs.declared.item.Item.{Item}

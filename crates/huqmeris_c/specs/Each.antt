@@ -1,4 +1,4 @@
-use Rattle.std.specs.Prelude.{◌≡◌, ◌<◌, ◌+◌, ◌++◌, ◌⊎◌, ℕ, ℤ, pos, Option, Some, None, List, [], ◌∷◌, drop, take, length, slice_get}
+use Rattle.std.specs.Prelude.{◌≡◌, ◌<◌, ◌+◌, ◌++◌, ◌⊎◌, ℕ, ℤ, pos, Some, None, List, [], ◌∷◌, drop, take, length, slice_get}
 use Rattle.cax64_encoder.specs.EncodesLine.{line_notices_of}
 use Rattle.cax64_encoder.specs.Place.{memory_in}
 use Rattle.cax64_encoder.specs.declared.fault.Fault.{Fault}

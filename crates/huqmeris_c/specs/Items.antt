@@ -21,7 +21,7 @@ use Rattle.x64_code_buffer.specs.Laid.{LinesRead, parts_in}
 use Rattle.x64_code_buffer.specs.declared.jump.Jump.{Jump}
 use Rattle.x64_code_buffer.specs.declared.jump.Jump.TheVariants.{Always}
 use Rattle.x64_core.specs.Core.{core_len, core_meant}
-use Rattle.x64_core.specs.View.{CoreView, core_view}
+use Rattle.x64_core.specs.View.{core_view}
 use Rattle.x64_core.specs.declared.instruction.Core.{Core}
 use Rattle.x64_assemble.specs.Assembled.{spans_of}
 use Rattle.x64_assemble.specs.declared.item.Item.{Item}

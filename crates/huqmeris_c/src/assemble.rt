@@ -8,9 +8,7 @@ ghost use Rattle.x64_code_buffer.specs.Buffer.{buffer_state, label_count, places
 use crate::item::HqItem;
 use crate::list::{Refused, list_items};
 use crate::progress::HqDone;
-use crate::status::{
-    HQ_BAD_LABEL, HQ_BOUND_TWICE, HQ_NO_MEMORY, HQ_TOO_MANY, HQ_UNBOUND,
-};
+use crate::status::{HQ_BAD_LABEL, HQ_BOUND_TWICE, HQ_NO_MEMORY, HQ_TOO_MANY, HQ_UNBOUND};
 use crate::unbound::first_open;
 use cax64_plain::status::{HQ_FULL, HQ_OK, HQ_OUT_OF_RANGE, fault_status};
 use std::alloc::Global;

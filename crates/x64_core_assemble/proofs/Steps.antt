@@ -13,10 +13,8 @@ use Rattle.cax64_sink.specs.Sink.{State}
 use Rattle.cax64_sink.specs.declared.DeferredTarget.{DeferredTarget}
 use Rattle.x64_assemble.proofs.Pieces.{fewer}
 use Rattle.x64_assemble.proofs.Told.{tells_use}
-
 use Rattle.x64_assemble.specs.Assembled.{WholeReads}
 use Rattle.x64_assemble.specs.Listed.{GotEntry, Listed, inst_told}
-
 use Rattle.x64_code_buffer.specs.Binding.{SamePlaces}
 use Rattle.x64_code_buffer.specs.Laid.{Laid, LaidOn, Piece, whole}
 use Rattle.x64_core.specs.Adds.{AddsCore}

@@ -1,4 +1,4 @@
-use Rattle.std.proofs.Common.{◌≡◌, ◌∙◌, ap, sym, subst, arith, List, Err}
+use Rattle.std.proofs.Common.{◌∙◌, ap, sym, subst, arith, List, Err}
 use Rattle.huqmeris_c.proofs.Begun.{has_items, put_refused}
 use Rattle.huqmeris_c.specs.Putting.{MakesEach}
 use Rattle.x64_assemble.specs.declared.errors.LayoutError.{LayoutError}

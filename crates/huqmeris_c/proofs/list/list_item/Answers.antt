@@ -2,7 +2,6 @@ use Rattle.std.proofs.Common.{◌≡◌, ◌∙◌, sym, subst, false, List, [],
 use Rattle.std.specs.Prelude.{is_err}
 use Rattle.huqmeris_c.proofs.Made.{makes_push, pushed_is}
 use Rattle.huqmeris_c.specs.Putting.{MakesEach}
-use Rattle.huqmeris_c.specs.declared.item.HqItem.{HqItem}
 use Rattle.x64_assemble.specs.declared.item.Item.{Item}
 use Rattle.x64_core.specs.declared.instruction.Core.{Core}
 use Rattle.huqmeris_c.proofs.list.list_item.Goals as goal

@@ -1,4 +1,4 @@
-use Rattle.std.proofs.Common.{◌<◌, ℤ, ◌≡◌, rules, arith, length, take, FitsSigned, w32}
+use Rattle.std.proofs.Common.{rules, arith, FitsSigned, w32}
 use Rattle.std.proofs.lemmas.Int.{to_z-of_z}
 use Rattle.huqmeris_c.proofs.Made.{either_none}
 use Rattle.huqmeris_c.proofs.Plainly.{no_item}

@@ -1,7 +1,6 @@
-use Rattle.std.proofs.Common.{◌≡◌, ◌∙◌, inl, ℕ, sym, ap, Option, Some}
+use Rattle.std.proofs.Common.{◌≡◌, ◌∙◌, inl, ℕ, sym, ap, Some}
 use Rattle.cax64_encoder.specs.Place.{memory_in}
 use Rattle.cax64_encoder.specs.declared.role.PlaceOperand.{PlaceOperand}
-use Rattle.cax64_sink.specs.declared.DeferredTarget.{DeferredTarget}
 use Rattle.huqmeris_c.specs.Items.{target_in}
 use Rattle.x64_core.specs.View.{core_view, place_operand}
 use Rattle.x64_core.specs.declared.place.CorePlace.{CorePlace}
