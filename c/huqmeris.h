@@ -47,7 +47,7 @@ extern "C" {
 #define HQ_FAULT_UNKNOWN 19
 /* The displacement and its late offset have a sum that isn't of 32 bits. */
 #define HQ_FAULT_RANGE 20
-/* There are more than 165,191,049 instructions. */
+/* There are more than 165,191,049 instructions or items. */
 #define HQ_TOO_MANY 10
 /* The allocator gave no memory. */
 #define HQ_NO_MEMORY 11
@@ -927,10 +927,11 @@ _Static_assert(offsetof(hq_item, inst) == 8, "hq_item.inst");
 /*
  * Assembles items: instructions, places of labels, and jumps to them, into the front of some bytes, all of them or none.
  *
- * A label's number is below that of all items. A jump to a label whose place comes before it, and that it reaches so, has one
- * byte of distance, any other has four. An instruction may refer to a label too. At `HQ_OK` `done` has how many items and bytes
- * there are, at `HQ_FULL` how many there would be; at another status `items` is the number of the item that is refused, from 0,
- * or how many were put. What instructions tell of traps isn't told. No late offset is known.
+ * A label's number is below that of all items. Each jump has the shortest form in which all of them reach: no choice of forms
+ * has fewer bytes. An instruction may refer to a label too. At `HQ_OK` `done` has how many items and bytes there are, at
+ * `HQ_FULL` how many there would be; at another status `items` is the number of the item that is refused, from 0: the first
+ * that is none, or else the first that has a fault or whose label can't be bound, or else the first that refers to what has no
+ * place. What instructions tell of traps isn't told. No late offset is known.
  *
  * It asks for memory, and has given all of it back when it answers.
  */

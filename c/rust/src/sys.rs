@@ -34,7 +34,7 @@ pub const HQ_FAULT_FIXED: i32 = 18;
 pub const HQ_FAULT_UNKNOWN: i32 = 19;
 /// The displacement and its late offset have a sum that isn't of 32 bits.
 pub const HQ_FAULT_RANGE: i32 = 20;
-/// There are more than 165,191,049 instructions.
+/// There are more than 165,191,049 instructions or items.
 pub const HQ_TOO_MANY: i32 = 10;
 /// The allocator gave no memory.
 pub const HQ_NO_MEMORY: i32 = 11;
@@ -868,10 +868,11 @@ const _: () = assert!(size_of::<hq_item>() == 32 && align_of::<hq_item>() == 4);
 unsafe extern "C" {
     /// Assembles items: instructions, places of labels, and jumps to them, into the front of some bytes, all of them or none.
     ///
-    /// A label's number is below that of all items. A jump to a label whose place comes before it, and that it reaches so, has one
-    /// byte of distance, any other has four. An instruction may refer to a label too. At `HQ_OK` `done` has how many items and bytes
-    /// there are, at `HQ_FULL` how many there would be; at another status `items` is the number of the item that is refused, from 0,
-    /// or how many were put. What instructions tell of traps isn't told. No late offset is known.
+    /// A label's number is below that of all items. Each jump has the shortest form in which all of them reach: no choice of forms
+    /// has fewer bytes. An instruction may refer to a label too. At `HQ_OK` `done` has how many items and bytes there are, at
+    /// `HQ_FULL` how many there would be; at another status `items` is the number of the item that is refused, from 0: the first
+    /// that is none, or else the first that has a fault or whose label can't be bound, or else the first that refers to what has no
+    /// place. What instructions tell of traps isn't told. No late offset is known.
     ///
     /// It asks for memory, and has given all of it back when it answers.
     pub unsafe fn hq_assemble(items: *const hq_item, items_len: usize, code: *mut u8, code_len: usize, done: *mut hq_done) -> i32;

@@ -82,7 +82,7 @@ fn a_list_is_put_or_not(rt: HostRuntime) {
     assert_eq!(rt; (done.items, done.bytes, done.uses), (1, 1, 0));
 }
 
-/// A loop: `leaq` of the end, `subq $1, %rdi`, a jump back, a call of the beginning, `retq`.
+/// A loop: `leaq` of the end, `subq $1, %rdi`, a jump back, one to the end, a call of the beginning, `retq`.
 #[test]
 fn a_loop_is_assembled(rt: HostRuntime) {
     let items = [
@@ -90,28 +90,29 @@ fn a_loop_is_assembled(rt: HostRuntime) {
         inst(address_of(1)),
         inst(HqInst::of(&SUBQ_MI_SXB.reg(7, 1))),
         label(HQ_ITEM_JNE, 0),
+        label(HQ_ITEM_JMP, 1),
         label(HQ_ITEM_CALL, 0),
         label(HQ_ITEM_LABEL, 1),
         inst(HqInst::of(&RETQ_ZO.bare())),
     ];
     let wanted = [
-        0x48, 0x8D, 0x05, 0x0B, 0, 0, 0, 0x48, 0x83, 0xEF, 0x01, 0x75, 0xF3, 0xE8, 0xEE, 0xFF,
-        0xFF, 0xFF, 0xC3,
+        0x48, 0x8D, 0x05, 0x0D, 0, 0, 0, 0x48, 0x83, 0xEF, 0x01, 0x75, 0xF3, 0xEB, 0x05, 0xE8,
+        0xEC, 0xFF, 0xFF, 0xFF, 0xC3,
     ];
-    let (mut code, mut done) = ([0xCC; 20], HqDone::NOTHING);
+    let (mut code, mut done) = ([0xCC; 22], HqDone::NOTHING);
     assert_eq!(rt;
-        hq_assemble(rt.alloc(), &items, &mut code[..18], &mut done),
+        hq_assemble(rt.alloc(), &items, &mut code[..20], &mut done),
         HQ_FULL
     );
-    assert_eq!(rt; done.bytes, 19);
-    assert_eq!(rt; code.as_slice(), [0xCC; 20].as_slice());
+    assert_eq!(rt; done.bytes, 21);
+    assert_eq!(rt; code.as_slice(), [0xCC; 22].as_slice());
     assert_eq!(rt;
         hq_assemble(rt.alloc(), &items, &mut code, &mut done),
         HQ_OK
     );
-    assert_eq!(rt; (done.items, done.bytes), (7, 19));
+    assert_eq!(rt; (done.items, done.bytes), (8, 21));
     assert!(rt; code.as_slice().starts_with(wanted.as_slice()));
-    assert_eq!(rt; code[19], 0xCC);
+    assert_eq!(rt; code[21], 0xCC);
 }
 
 /// What each list is refused for, and at which item.
@@ -138,11 +139,12 @@ fn items_are_refused(rt: HostRuntime) {
         HQ_BOUND_TWICE
     );
     assert_eq!(rt; done.items, 2);
-    let unbound = [label(HQ_ITEM_JMP, 0)];
+    let unbound = [ret, label(HQ_ITEM_JMP, 0), inst(address_of(1))];
     assert_eq!(rt;
         hq_assemble(rt.alloc(), &unbound, &mut code, &mut done),
         HQ_UNBOUND
     );
+    assert_eq!(rt; done.items, 1);
     let spoiled = [
         ret,
         inst(HqInst {

@@ -1,6 +1,6 @@
 //! What a call answers of lists, items and texts, beside the statuses of `cax64_plain`.
 
-/// There are more than 165,191,049 instructions.
+/// There are more than 165,191,049 instructions or items.
 pub const HQ_TOO_MANY: i32 = 10;
 
 /// The allocator gave no memory.
