@@ -25,7 +25,7 @@ use Rattle.cax64_sink.specs.declared.fixed_sink.FixedSink.{FixedSink}
 use Rattle.huqmeris_c.specs.Each.{AreSound, EachSound, EncodesEach, IsRefused, PutEach, StoppedAt, list_len, list_uses, plains, uses_told}
 use Rattle.huqmeris_c.specs.Encodes.{no_offsets, written}
 use Rattle.huqmeris_c.specs.declared.progress.HqDone.{HqDone}
-use Rattle.huqmeris_c.specs.Listed.{CanPut, HasRoomFor, HasSize, PutBehind, PutNext, moved, use_list}
+use Rattle.huqmeris_c.specs.Listed.{CanPut, HasRoomFor, HasSize, PutBehind, PutNext, moved}
 use Rattle.x64_core.specs.Adds.{AddsCore}
 use Rattle.x64_core.specs.Core.{core_len, core_notices, fault_of}
 use Rattle.x64_core.specs.Line.{core_line}

@@ -1,4 +1,4 @@
-use Rattle.std.proofs.Common.{◌≡◌, ◌∙◌, ◌≤◌, ◌+◌, refl, ap, arith, rules, length}
+use Rattle.std.proofs.Common.{◌≡◌, ◌∙◌, refl, ap, arith, rules}
 use Rattle.huqmeris_c.specs.Encodes.{no_offsets}
 use Rattle.huqmeris_c.specs.Listed.{use_list}
 use Rattle.x64_core.specs.Core.{core_len, core_notices, fault_of}

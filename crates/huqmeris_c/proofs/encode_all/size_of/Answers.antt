@@ -1,4 +1,4 @@
-use Rattle.std.proofs.Common.{◌≡◌, ◌∙◌, inr, sym, rules, FitsSigned, w32}
+use Rattle.std.proofs.Common.{◌∙◌, inr, sym, rules, FitsSigned, w32}
 use Rattle.std.proofs.lemmas.Int.{to_z-of_z}
 use Rattle.huqmeris_c.proofs.encode_all.size_of.Goals as goal
 

@@ -1,4 +1,4 @@
-use Rattle.std.proofs.Common.{◌≡◌, ◌∙◌, ℕ, ap, Option, List, [], ◌∷◌}
+use Rattle.std.proofs.Common.{◌∙◌, ap, Option, [], ◌∷◌}
 use Rattle.cax64_encoder.specs.Place.{memory_in}
 use Rattle.cax64_plain.specs.declared.told.HqUse.{HqUse}
 use Rattle.cax64_sink.specs.declared.Notice.{Notice}
