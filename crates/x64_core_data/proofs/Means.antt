@@ -77,7 +77,10 @@ module _ (d : InstData) (none : nop_of (data_operands d) ≡ None) (offsets : �
   meant_is = ap (λ (nop : Option Nop). nop_or row nop (operands_meant plain row roles offsets)) none
 
   bytes_are : imm_bytes (core_line (number_of row)).imm ≡ imm_size (imm_in roles)
-  bytes_are = ap (λ (l : Line). imm_bytes l.imm) (row_line row) ∙ sym (imm_sized d (none_again d none))
+  bytes_are =
+      ap (λ (l : Line). imm_bytes l.imm) (row_line row)
+      ∙ ap (λ (r : Row). imm_bytes (line_of r).imm) (row_is d (none_again d none))
+      ∙ sym (imm_sized d (none_again d none))
 
   parts_are : (core_meant (data_view d) offsets).parts ≡ row_parts (operands_meant plain row roles offsets).parts
   parts_are =

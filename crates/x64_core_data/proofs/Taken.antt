@@ -133,7 +133,7 @@ not_refused op found given p is place h =
     taken_by (core_line op.number) (shape_of op.number) given p (facts op) place (ap (λ (l : Line). parts_taken l given) is ∙ h)
 
 pub is_made : (r : Result Core Shape) {refused : Option Shape} → IfErr r (λ why. refused ≡ Some why) → refused ≡ None → IsOk r
-is_made (Ok core) h e = tt
+is_made (Ok core) h e = refl
 is_made (Err why) h e = absurd (none-some why (sym e ∙ h))
 
 -- What an instruction of the core holds its row takes.

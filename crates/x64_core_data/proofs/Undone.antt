@@ -1,5 +1,5 @@
 use Rattle.std.proofs.Common.{◌≡◌, ◌≤◌, ◌<◌, ℕ, refl, sym, ap, ◌∙◌, subst, arith, Bool, true, false, Option, Some, None, Ok, ℤ}
-use Rattle.std.specs.Prelude.{◌&&◌, ◌==◌, not, if◌then◌else◌, is_some, nat_lt, IsSome, Result}
+use Rattle.std.specs.Prelude.{◌&&◌, ◌==◌, not, if◌then◌else◌, is_some, nat_lt, IfOk, IfSome, IsSome, Result}
 use Rattle.std.proofs.lemmas.Bool.Decides.{nat_tests}
 use Rattle.std.proofs.lemmas.Option.{same_Some}
 use Rattle.cax64_encoder.specs.Role.{roles_of}
@@ -19,6 +19,7 @@ use Rattle.cax64_table.proofs.Table.{number_below}
 use Rattle.x64_core.specs.View.{CoreView, core_view, place_operand}
 use Rattle.x64_core.specs.declared.instruction.Core.{Core}
 use Rattle.x64_core.specs.declared.place.CorePlace.{CorePlace}
+use Rattle.x64_core.specs.declared.refused.Shape.{Shape}
 use Rattle.x64_core_data.specs.Refusal.{core_refusal, data_refusal, is_nop_number}
 use Rattle.x64_core_data.specs.View.{parts_view}
 use Rattle.x64_core_data.specs.declared.refused.NotCore.{NotCore}
@@ -116,3 +117,21 @@ found_is x y h = same_Some x y h
 
 pub is_made : (some : Bool) (row : Row) (taken : Bool) (nop : Bool) → some ≡ (not nop && taken) → nop ≡ false → taken ≡ true → some ≡ true
 is_made some row taken nop e n t = e ∙ rw (n, t) refl
+
+pub there : (o : Option InstData) → is_some o ≡ true → IsSome o
+there None h = cc
+there (Some d) h = refl
+
+true_false : true ≡ false → ⊥
+true_false h = cc
+
+pub never_nop : (c : Core) (d : InstData) (row : Row) → core_view c ≡ data_view d → number_of row ≡ c.op.number → is_nop_row (data_row d) ≡ false → is_nop_row row ≡ true → ⊥
+never_nop c d row h n plain nop = true_false (sym (ap (λ (r : Row). is_nop_row r) (row_of_view c d row h n) ∙ nop) ∙ plain)
+
+-- What is said of the value of an option or a result that is there.
+
+pub of_some : (o : Option InstData) (d : InstData) (P : InstData → Type 0) → IfSome o P → o ≡ Some d → P d
+of_some o d P h e = rw e at h
+
+pub of_ok : (r : Result Core Shape) (core : Core) (P : Core → Type 0) → IfOk r P → r ≡ Ok core → P core
+of_ok r core P h e = rw e at h
