@@ -1,6 +1,6 @@
 //! Rows of the assembler, instructions of the core and jumps to labels in one buffer, which is finished and read.
 
-use crate::every_row::data_of;
+use crate::every_row::{data_of, has_nops};
 use cax64_address::amode::{Amode, Scale};
 use cax64_address::offset::{AmodeOffset, AmodeOffsetPlusKnownOffset};
 use cax64_encoder::Instruction;
@@ -123,10 +123,7 @@ const NOPS: [Nop; 9] = [
 /// Each row but those of no-operations, with memory where that may stand.
 fn push_rows(mixed: &mut Mixed, alloc: Global) -> Option<()> {
     for row in Row::all() {
-        if !matches!(
-            *row,
-            Row::nop_1b | Row::nop_2b | Row::nopl_rm | Row::nopw_rm
-        ) {
+        if !has_nops(*row) {
             mixed.row(&data_of(alloc, *row, true)?)?;
         }
     }
