@@ -1,10 +1,9 @@
-use Rattle.std.proofs.Common.{◌≡◌, ℕ, refl, sym, ap, ◌∙◌, arith, Bool, true, false, Option, Some, None, ℤ, pos, List, [], ◌∷◌}
+use Rattle.std.proofs.Common.{◌≡◌, ℕ, refl, sym, ap, ◌∙◌, Bool, true, false, Option, Some, None, ℤ, List}
 use Rattle.std.specs.Prelude.{◌&&◌, ◌==◌, nat_lt, option_map}
 use Rattle.std.proofs.lemmas.Bool.{and_parts}
 use Rattle.cax64_address.specs.Offset.{sum_fits}
 use Rattle.cax64_encoder.specs.Fault as fault
 use Rattle.cax64_encoder.specs.Fault.{all_met, late_offset_fits}
-use Rattle.cax64_encoder.specs.ImmActions.{imm_named}
 use Rattle.cax64_encoder.specs.Meant.{Meant, first, imm_in, low, meant_of, nop_or, numbers_in, operands_meant, place_in}
 use Rattle.cax64_encoder.specs.Number.{number_value}
 use Rattle.cax64_encoder.specs.Numbered.{plain}
@@ -12,15 +11,13 @@ use Rattle.cax64_encoder.specs.Place.{displacement_in, memory_in, place_read}
 use Rattle.cax64_encoder.specs.Role.{roles_of}
 use Rattle.cax64_encoder.specs.declared.fault.Visited.{Visited}
 use Rattle.cax64_encoder.specs.declared.number.Number.{Number}
-use Rattle.cax64_encoder.specs.declared.role.PlaceOperand.{PlaceOperand}
 use Rattle.cax64_encoder.specs.declared.role.Role.{Role}
 use Rattle.cax64_inst_data.specs.Data.{data_operands, data_row}
-use Rattle.cax64_inst_data.specs.Encodable.{all_real, matches, numbers_met, real}
+use Rattle.cax64_inst_data.specs.Encodable.{matches, numbers_met, real}
 use Rattle.cax64_inst_data.specs.Fits.{expected_of}
 use Rattle.cax64_inst_data.specs.Form.{operand_by}
 use Rattle.cax64_inst_data.specs.Form as form
 use Rattle.cax64_inst_data.specs.OfReading.{all_own}
-use Rattle.cax64_inst_data.specs.Operands.{amode_by}
 use Rattle.cax64_inst_data.specs.Parts.{OperandParts, roles_parts}
 use Rattle.cax64_inst_data.specs.Place.{is_plain}
 use Rattle.cax64_inst_data.specs.Registers.{registers_met}
@@ -42,13 +39,13 @@ use Rattle.cax64_machine_code.specs.declared.reading.Place.{Place}
 use Rattle.cax64_machine_code.specs.declared.reading.RegView.{RegView}
 use Rattle.cax64_machine_code.specs.declared.reading.RegView.TheVariants.{Low}
 use Rattle.cax64_machine_code.specs.declared.row.Row.{Row}
-use Rattle.cax64_operand.specs.Immediate.{imm_size, imm_value}
+use Rattle.cax64_operand.specs.Immediate.{imm_size}
 use Rattle.cax64_operand.specs.OperandList.{list_of, nop_of}
 use Rattle.cax64_operand.specs.Signature.{signature_of}
 use Rattle.cax64_operand.specs.declared.nop.Nop.{Nop}
 use Rattle.cax64_table.specs.Numbers.{has_register, has_vvvv}
 use Rattle.cax64_table.specs.Packed.{number_of}
-use Rattle.x64_core.specs.Core.{LineMeant, core_meant, is_encodable, place_visited, register_before, visited_of}
+use Rattle.x64_core.specs.Core.{core_meant, is_encodable, place_visited, register_before, visited_of}
 use Rattle.x64_core.specs.Line.{core_line}
 use Rattle.x64_core.specs.View.{CoreView}
 use Rattle.x64_core_data.specs.View.{parts_view, row_parts}

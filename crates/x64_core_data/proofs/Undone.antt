@@ -1,12 +1,11 @@
-use Rattle.std.proofs.Common.{◌≡◌, ◌≤◌, ◌<◌, ℕ, refl, sym, ap, ◌∙◌, subst, arith, Bool, true, false, Option, Some, None, Ok, ℤ}
+use Rattle.std.proofs.Common.{◌≡◌, ◌≤◌, ℕ, refl, sym, ap, ◌∙◌, arith, Bool, true, false, Option, Some, None, Ok}
 use Rattle.std.specs.Prelude.{◌&&◌, ◌==◌, not, if◌then◌else◌, is_some, nat_lt, IfOk, IfSome, IsSome, Result}
 use Rattle.std.proofs.lemmas.Bool.Decides.{nat_tests}
 use Rattle.std.proofs.lemmas.Option.{same_Some}
 use Rattle.cax64_encoder.specs.Role.{roles_of}
-use Rattle.cax64_encoder.specs.declared.role.PlaceOperand.{PlaceOperand}
 use Rattle.cax64_inst_data.specs.Data.{data_operands, data_row}
 use Rattle.cax64_inst_data.specs.OfReading.{all_own}
-use Rattle.cax64_inst_data.specs.Parts.{OperandParts, given_parts, parts_taken, plain_operand, roles_parts}
+use Rattle.cax64_inst_data.specs.Parts.{OperandParts, given_parts, plain_operand, roles_parts}
 use Rattle.cax64_inst_data.specs.Refusal.{is_nop_row}
 use Rattle.cax64_inst_data.specs.declared.data.InstData.{InstData}
 use Rattle.cax64_inst_data.specs.declared.parts.DataParts.{DataParts}

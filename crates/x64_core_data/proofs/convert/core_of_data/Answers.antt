@@ -1,7 +1,6 @@
 use Rattle.std.proofs.Common.{◌≡◌, ◌∙◌, ap, sym, None, true}
 use Rattle.cax64_inst_data.specs.Data.{data_operands, data_row}
 use Rattle.cax64_inst_data.specs.OfReading.{all_own}
-use Rattle.cax64_inst_data.specs.Parts.{OperandParts}
 use Rattle.cax64_machine_code.specs.Rows.{line_of}
 use Rattle.cax64_machine_code.specs.declared.row.Row.{Row}
 use Rattle.cax64_operand.specs.OperandList.{list_of, nop_of}

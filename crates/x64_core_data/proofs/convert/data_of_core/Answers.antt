@@ -1,13 +1,10 @@
-use Rattle.std.proofs.Common.{◌≡◌, ◌∙◌, ◌≤◌, ap, sym, None, true, false, Ok, arith}
+use Rattle.std.proofs.Common.{◌≡◌, ◌∙◌, ◌≤◌, ap, sym, None, true, Ok, arith}
 use Rattle.cax64_inst_data.specs.Data.{data_operands, data_row}
 use Rattle.cax64_inst_data.specs.OfReading.{all_own}
-use Rattle.cax64_inst_data.specs.Parts.{given_parts}
-use Rattle.cax64_inst_data.specs.Refusal.{is_nop_row}
 use Rattle.cax64_inst_data.specs.declared.data.InstData.{InstData}
 use Rattle.cax64_inst_data.specs.declared.parts.DataParts.{DataParts}
 use Rattle.cax64_machine_code.specs.Rows.{line_of}
 use Rattle.cax64_operand.specs.OperandList.{list_of, nop_of}
-use Rattle.cax64_table.specs.Packed.{number_of}
 use Rattle.x64_core.specs.Line.{core_line}
 use Rattle.x64_core.specs.View.{core_view}
 use Rattle.x64_core_data.proofs.Means.{data_view, view_encodable, view_parts}

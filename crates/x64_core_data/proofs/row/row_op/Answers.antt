@@ -1,4 +1,4 @@
-use Rattle.std.proofs.Common.{◌≡◌, ◌∙◌, ℕ, Option, Some, ap, sym}
+use Rattle.std.proofs.Common.{◌≡◌, ◌∙◌, ℕ, Option, Some, ap}
 use Rattle.std.specs.Prelude.{IfSome}
 use Rattle.cax64_table.specs.Packed.{number_of}
 use Rattle.x64_core.specs.Line.{core_line}
