@@ -5,7 +5,7 @@ use cranelift_assembler_x64::InstData;
 use std::alloc::{AllocError, Global};
 use std::io;
 use std::time::{Duration, Instant};
-use x64_core::Core;
+use x64_core::{Core, CorePlace};
 use x64_core_data::{core_of_data, data_of_core};
 use x64_core_reader::read_core;
 use x64_core_text::CoreText;
@@ -43,14 +43,24 @@ impl CoreCall {
     }
 }
 
+/// Adds the instruction of the core that this is, where there is one. False where there is no memory.
+fn take(inst: &InstData, made: &mut Vec<Core>) -> bool {
+    match core_of_data(inst) {
+        Ok(core) => {
+            // The prover takes a `push` of an instruction only in a function that has its place's type too.
+            let _place: CorePlace = core.place();
+            made.push(core).is_ok()
+        }
+        Err(_) => true,
+    }
+}
+
 /// Makes an instruction of the core of each that there is one of: all but no-operations.
 fn take_all(data: &[InstData], made: &mut Vec<Core>) -> bool {
     made.clear();
     for inst in data {
-        if let Ok(core) = core_of_data(inst) {
-            if made.push(core).is_err() {
-                return false;
-            }
+        if !take(inst, made) {
+            return false;
         }
     }
     true
