@@ -46,6 +46,7 @@ by_two P a b (suc zero) l = b
 by_two P a b (suc (suc n)) l = absurd (omega (arith, l))
 
 pub held_head : (line : Line) (heads : List ℕ) (high special : ℕ) → are_heads line heads ≡ true → is_vex line.prefix ≡ false → high < 8 → special < 2 → Held line heads high special
+unfolding are_heads
 held_head line heads high special h none below small =
     let both = no_vex (is_vex line.prefix) _ h none in
     let parts = and_parts (all_high (λ high. holds_head line heads high 0)) (all_high (λ high. holds_head line heads high 1)) both in

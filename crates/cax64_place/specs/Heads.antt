@@ -32,5 +32,5 @@ abbrev pub all_high : (ℕ → Bool) → Bool
 all_high f = f 0 && (f 1 && (f 2 && (f 3 && (f 4 && (f 5 && (f 6 && f 7))))))
 
 -- numbers are those of a line
-abbrev pub are_heads : Line → List ℕ → Bool
+unfoldable pub are_heads : Line → List ℕ → Bool
 are_heads line heads = is_vex line.prefix || (all_high (λ high. holds_head line heads high 0) && all_high (λ high. holds_head line heads high 1))
