@@ -5,9 +5,9 @@ pub mod Operand
 pub mod Homes
 pub mod Renamed
 pub mod When
--- Steps of the proofs.
-pub mod Tail
-pub mod TailPart
 pub mod Head
 pub mod Heads
 pub mod Code
+-- Steps of the proofs.
+pub mod Tail
+pub mod TailPart
