@@ -25,7 +25,7 @@ SECTIONS = (
     ("Immediates", "Imm8 Imm16 Imm32 Imm64 Simm8 Simm16 Simm32 Extension OutOfRange"),
     ("Sinks", "CodeSink Recorder FixedSink Notice TrapCode DeferredTarget Label Constant KnownOffset SinkError"),
     ("The code buffer", "CodeBuffer Jump Condition BindError FinishError patched_field"),
-    ("Instructions as data", "InstData DataOperand DataOperands DataError"),
+    ("Instructions as data", "InstData DataOperand DataOperands DataParts DataError"),
     ("Reading", "reader::read_inst reader::Reading reader::Place reader::RegView"),
     ("Features", "Feature AvailableFeatures Features"),
     ("Instructions of your own", "HasOperands RowAndOperands Task FromOperands Made Operand Operands Immediate ImmOperand Nop "

@@ -6,12 +6,7 @@ use Rattle.std.proofs.lemmas.Bool.{ltb-true, lt-ltb, cases_lt}
 use Rattle.std.proofs.lemmas.List.{take_more, take_more_set, length-take-le}
 use Rattle.std.proofs.lemmas.List.Elements.{All-push}
 use Rattle.std.proofs.lemmas.Option.{slice_get_read, slice_get_past, slice_get_within, same_Some}
-use Rattle.cax64_encoder.proofs.Faults.{no_fault, none_is}
-use Rattle.cax64_encoder.specs.Fault.{fault_of_meant}
-use Rattle.cax64_encoder.specs.Instruction.{Meaning, fault_in}
-use Rattle.cax64_encoder.specs.Meant.{Meant}
 use Rattle.cax64_encoder.specs.declared.fault.Fault.{Fault}
-use Rattle.cax64_sink.specs.Sink.{State}
 use Rattle.cax64_sink.specs.declared.DeferredTarget.{DeferredTarget}
 use Rattle.cax64_sink.specs.declared.DeferredTarget.TheVariants as target
 use Rattle.cax64_sink.specs.declared.Label.{Label}
@@ -26,7 +21,8 @@ use Rattle.x64_code_buffer.specs.declared.jump.Jump.TheVariants.{Always, Call, I
 use Rattle.x64_layout.specs.Layout.{AreSpans, IsLayout, IsSpan, Stands}
 use Rattle.x64_layout.specs.declared.span.Span.{Span}
 use Rattle.x64_assemble.specs.Assembled.{distance_in, entries, long_len, span_of, spans_of, spot_of}
-use Rattle.x64_assemble.specs.Putting.{AreFree, CanEncode}
+use Rattle.x64_assemble.specs.Listed.{Listed}
+use Rattle.x64_assemble.specs.Putting.{AreFree, CanPut}
 use Rattle.x64_assemble.specs.Refused.{IsFirstRefusal, bind_refusal, error_in, item_refusal, number_in, refusal_at}
 use Rattle.x64_assemble.specs.declared.errors.LayoutError.{LayoutError}
 use Rattle.x64_assemble.specs.declared.errors.LayoutError.TheVariants as refusal
@@ -78,11 +74,10 @@ are_free fault given places items tested = λ k label is.
     let h : option_map (refusal.Bind k) (bind_refusal given places (take k items) label.0) ≡ None = sym (ap (option_and_then (item_refusal fault given places (take k items) k)) is) ∙ tested k in
     free_label given places (take k items) label (map_none (refusal.Bind k) (bind_refusal given places (take k items) label.0) h)
 
-pub can_encode_all : {I M : Type 0} (meant : I → Meaning M) (state : State) (given : ℕ) (places : DeferredTarget → Option ℕ) (items : List (Item I)) → ((n : ℕ) → refusal_at (λ i. fault_in state (meant i)) given places items n ≡ None) → CanEncode meant state items
-can_encode_all {I = I} {M = M} meant state given places items tested = λ k i is.
-    let m : Meant M = meant i state.offsets in
-    let h : option_map (refusal.Fault k) (fault_of_meant state.offsets m) ≡ None = sym (ap (option_and_then (item_refusal (λ (j : I). fault_in state (meant j)) given places (take k items) k)) is) ∙ tested k in
-    (none_is (fault_of_meant state.offsets m) _ (no_fault state.offsets m.visited m.memory)).0 (map_none (refusal.Fault k) (fault_of_meant state.offsets m) h)
+pub can_put_all : {I : Type 0} (meant : I → Listed) (given : ℕ) (places : DeferredTarget → Option ℕ) (items : List (Item I)) → ((n : ℕ) → refusal_at (λ i. (meant i).fault) given places items n ≡ None) → CanPut meant items
+can_put_all {I = I} meant given places items tested = λ k i is.
+    let h : option_map (refusal.Fault k) (meant i).fault ≡ None = sym (ap (option_and_then (item_refusal (λ (j : I). (meant j).fault) given places (take k items) k)) is) ∙ tested k in
+    map_none (refusal.Fault k) (meant i).fault h
 
 -- Spans.
 

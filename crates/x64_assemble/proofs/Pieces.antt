@@ -4,7 +4,6 @@ use Rattle.std.specs.Option.{option_or}
 use Rattle.std.proofs.lemmas.Bool.{cases_eq, eq-eqb, ne_eqb}
 use Rattle.std.proofs.lemmas.List.{length_push}
 use Rattle.std.proofs.lemmas.List.Sums.{sum_by-drop_more}
-use Rattle.cax64_encoder.specs.Meant.{Meant}
 use Rattle.cax64_sink.specs.Keeps.{Keeps}
 use Rattle.cax64_sink.specs.Room.{Room, HasRoom, endless, count}
 use Rattle.cax64_sink.specs.Sink.{State}
@@ -16,8 +15,9 @@ use Rattle.x64_code_buffer.specs.Binding.{AddsBinding}
 use Rattle.x64_code_buffer.specs.Laid.{Laid, Piece, reading_in}
 use Rattle.x64_layout.specs.Layout.{place_in}
 use Rattle.x64_layout.proofs.Places.{place_more}
-use Rattle.x64_assemble.specs.Assembled.{EachReads, InstReads, IsNoLabelOf, JumpReads, all_told, entries, spot_of}
-use Rattle.x64_assemble.specs.Putting.{GotEntry, Put}
+use Rattle.x64_assemble.specs.Assembled.{EachReads, IsNoLabelOf, JumpReads, WholeReads, all_told, entries, spot_of}
+use Rattle.x64_assemble.specs.Listed.{GotEntry, Listed}
+use Rattle.x64_assemble.specs.Putting.{Put}
 use Rattle.x64_assemble.specs.declared.item.Item.{Item}
 use Rattle.x64_assemble.specs.declared.item.Item.TheVariants as item
 use Rattle.x64_assemble.proofs.Items.{counted, entries_push, spot_push}
@@ -29,17 +29,17 @@ last_length : (ps : List Piece) (p : Piece) (s t : State) (old new : DeferredTar
 last_length ps p s t old new n h k more = omega (arith, laid_total ps s old h, laid_total (ps ++ p ∷ []) t new k, pieces_push ps p)
 
 -- what an item is read as, if it is an entry
-abbrev pub ItemReads : {I M : Type 0} → (I → Meant M) → List ℕ → List (Item I) → ℕ → Item I → Piece → Type 0
-ItemReads meant lens all n (item.Inst inst) p = InstReads (meant inst).parts p
+abbrev pub ItemReads : {I : Type 0} → (I → Listed) → List ℕ → List (Item I) → ℕ → Item I → Piece → Type 0
+ItemReads meant lens all n (item.Inst inst) p = WholeReads (meant inst).parts p
 ItemReads meant lens all n (item.Jump jump to) p = JumpReads lens n jump (spot_of to.0 all) p
 ItemReads meant lens all n (item.Bind bound) p = ⊥
 
-reads_one : {I M : Type 0} (meant : I → Meant M) (lens : List ℕ) (all : List (Item I)) (n : ℕ) (x : Item I) (p : Piece) → ItemReads meant lens all n x p → (reading_in p).length ≡ slice_index lens n → EachReads meant lens all n (x ∷ []) (p ∷ [])
+reads_one : {I : Type 0} (meant : I → Listed) (lens : List ℕ) (all : List (Item I)) (n : ℕ) (x : Item I) (p : Piece) → ItemReads meant lens all n x p → (reading_in p).length ≡ slice_index lens n → EachReads meant lens all n (x ∷ []) (p ∷ [])
 reads_one meant lens all n (item.Inst inst) p reads len = (reads, len, refl)
 reads_one meant lens all n (item.Jump jump to) p reads len = (reads, len, refl)
 reads_one meant lens all n (item.Bind bound) p reads len = absurd reads
 
-reads_push : {I M : Type 0} (meant : I → Meant M) (lens : List ℕ) (all : List (Item I)) (n m : ℕ) (xs : List (Item I)) (ps : List Piece) (x : Item I) (p : Piece) → m ≡ n + entries xs → EachReads meant lens all n xs ps → ItemReads meant lens all m x p → (reading_in p).length ≡ slice_index lens m → EachReads meant lens all n (xs ++ x ∷ []) (ps ++ p ∷ [])
+reads_push : {I : Type 0} (meant : I → Listed) (lens : List ℕ) (all : List (Item I)) (n m : ℕ) (xs : List (Item I)) (ps : List Piece) (x : Item I) (p : Piece) → m ≡ n + entries xs → EachReads meant lens all n xs ps → ItemReads meant lens all m x p → (reading_in p).length ≡ slice_index lens m → EachReads meant lens all n (xs ++ x ∷ []) (ps ++ p ∷ [])
 reads_push meant lens all n m [] ps x p e h reads len =
     let here : m ≡ n = omega arith in
     rw h (reads_one meant lens all n x p (subst (λ (k : ℕ). ItemReads meant lens all k x p) here reads) (subst (λ (k : ℕ). (reading_in p).length ≡ slice_index lens k) here len))
@@ -49,7 +49,7 @@ reads_push meant lens all n m (item.Jump jump to ∷ xs) [] x p e h reads len = 
 reads_push meant lens all n m (item.Jump jump to ∷ xs) (q ∷ ps) x p e h reads len = (h.0, h.1, reads_push meant lens all (n + 1) m xs ps x p (omega arith) h.2 reads len)
 reads_push meant lens all n m (item.Bind bound ∷ xs) ps x p e h reads len = reads_push meant lens all n m xs ps x p e h reads len
 
-reads_bind : {I M : Type 0} (meant : I → Meant M) (lens : List ℕ) (all : List (Item I)) (n : ℕ) (xs : List (Item I)) (ps : List Piece) (bound : Label) → EachReads meant lens all n xs ps → EachReads meant lens all n (xs ++ item.Bind bound ∷ []) ps
+reads_bind : {I : Type 0} (meant : I → Listed) (lens : List ℕ) (all : List (Item I)) (n : ℕ) (xs : List (Item I)) (ps : List Piece) (bound : Label) → EachReads meant lens all n xs ps → EachReads meant lens all n (xs ++ item.Bind bound ∷ []) ps
 reads_bind meant lens all n [] ps bound h = h
 reads_bind meant lens all n (item.Inst inst ∷ xs) [] bound h = absurd h
 reads_bind meant lens all n (item.Inst inst ∷ xs) (q ∷ ps) bound h = (h.0, h.1, reads_bind meant lens all (n + 1) xs ps bound h.2)
@@ -80,7 +80,7 @@ no_label xs x (target.Constant constant) one h = tt
 no_label xs x target.None one h = tt
 
 -- Nothing is put yet.
-pub put_none : {I M : Type 0} (meant : I → Meant M) (lens : List ℕ) (all : List (Item I)) (s : State) (places : DeferredTarget → Option ℕ) → HasRoom s.byte_room (13 + sum lens) → HasRoom s.notice_room (1 + length all) → Put meant lens all [] s s places places
+pub put_none : {I : Type 0} (meant : I → Listed) (lens : List ℕ) (all : List (Item I)) (s : State) (places : DeferredTarget → Option ℕ) → HasRoom s.byte_room (13 + sum lens) → HasRoom s.notice_room (1 + length all) → Put meant lens all [] s s places places
 put_none meant lens all s places bytes notices = record {
   laid = λ pieces h. ([], refl, subst (λ (z : List Piece). Laid z (length s.bytes) s places) (sym (append-nil pieces)) h, sym (append-nil s.notices));
   size = omega arith;
@@ -92,7 +92,7 @@ put_none meant lens all s places bytes notices = record {
 }
 
 -- An entry more.
-pub put_entry : {I M : Type 0} (meant : I → Meant M) (lens : List ℕ) (all xs : List (Item I)) (x : Item I) (s u t : State) (old mid new : DeferredTarget → Option ℕ) → counted x ≡ 1 → entries xs < length lens → length xs < length all → Put meant lens all xs s u old mid → GotEntry (ItemReads meant lens all (entries xs) x) (item_told meant all x) (slice_index lens (entries xs)) u t mid new → Put meant lens all (xs ++ x ∷ []) s t old new
+pub put_entry : {I : Type 0} (meant : I → Listed) (lens : List ℕ) (all xs : List (Item I)) (x : Item I) (s u t : State) (old mid new : DeferredTarget → Option ℕ) → counted x ≡ 1 → entries xs < length lens → length xs < length all → Put meant lens all xs s u old mid → GotEntry (ItemReads meant lens all (entries xs) x) (item_told meant all x) (slice_index lens (entries xs)) u t mid new → Put meant lens all (xs ++ x ∷ []) s t old new
 put_entry {I = I} meant lens all xs x s u t old mid new one within few held got =
     let e : entries (xs ++ x ∷ []) ≡ entries xs + 1 = omega (arith, entries_push xs x, one) in
     let left : sum (drop (entries xs) lens) ≡ get_or lens (entries xs) 0 + sum (drop (entries xs + 1) lens) = sum_by-drop_more (λ (n : ℕ). n) lens (entries xs) 0 within in
@@ -137,7 +137,7 @@ spot_itself xs bound free =
     let it : (bound.0 == bound.0) ≡ true = eq-eqb bound.0 bound.0 refl in
     spot_push bound.0 xs (item.Bind bound) ∙ ap (λ (b : Bool). option_or (spot_of bound.0 xs) (if b then Some (entries xs) else None)) it ∙ ap (λ (o : Option ℕ). option_or o (Some (entries xs))) free
 
-bound_by : {I M : Type 0} (meant : I → Meant M) (lens : List ℕ) (all xs : List (Item I)) (bound : Label) (s u : State) (old mid new : DeferredTarget → Option ℕ) (label spot : ℕ) → spot_of bound.0 xs ≡ None → AddsBinding (target.Label bound) (length u.bytes) mid new → Put meant lens all xs s u old mid → spot_of label (xs ++ item.Bind bound ∷ []) ≡ Some spot → (label ≡ bound.0) ⊎ (label ≡ bound.0 → ⊥) → new (target.Label (record { 0 = label })) ≡ Some (length s.bytes + place_in lens spot)
+bound_by : {I : Type 0} (meant : I → Listed) (lens : List ℕ) (all xs : List (Item I)) (bound : Label) (s u : State) (old mid new : DeferredTarget → Option ℕ) (label spot : ℕ) → spot_of bound.0 xs ≡ None → AddsBinding (target.Label bound) (length u.bytes) mid new → Put meant lens all xs s u old mid → spot_of label (xs ++ item.Bind bound ∷ []) ≡ Some spot → (label ≡ bound.0) ⊎ (label ≡ bound.0 → ⊥) → new (target.Label (record { 0 = label })) ≡ Some (length s.bytes + place_in lens spot)
 bound_by meant lens all xs bound s u old mid new label spot free adds held is (inl e) =
     let at : spot_of bound.0 (xs ++ item.Bind bound ∷ []) ≡ Some spot = subst (λ (n : ℕ). spot_of n (xs ++ item.Bind bound ∷ []) ≡ Some spot) e is in
     let same : Some (entries xs) ≡ Some spot = sym (spot_itself xs bound free) ∙ at in
@@ -146,7 +146,7 @@ bound_by meant lens all xs bound s u old mid new label spot free adds held is (i
 bound_by meant lens all xs bound s u old mid new label spot free adds held is (inr ne) =
     adds.others (target.Label (record { 0 = label })) (λ e. ne (ap number_of e)) ∙ held.bound label spot (sym (spot_other label xs bound ne) ∙ is)
 
-others_by : {I M : Type 0} (meant : I → Meant M) (lens : List ℕ) (all xs : List (Item I)) (bound : Label) (s u : State) (old mid new : DeferredTarget → Option ℕ) (label : Label) → spot_of bound.0 xs ≡ None → AddsBinding (target.Label bound) (length u.bytes) mid new → Put meant lens all xs s u old mid → spot_of label.0 (xs ++ item.Bind bound ∷ []) ≡ None → (label.0 ≡ bound.0) ⊎ (label.0 ≡ bound.0 → ⊥) → new (target.Label label) ≡ old (target.Label label)
+others_by : {I : Type 0} (meant : I → Listed) (lens : List ℕ) (all xs : List (Item I)) (bound : Label) (s u : State) (old mid new : DeferredTarget → Option ℕ) (label : Label) → spot_of bound.0 xs ≡ None → AddsBinding (target.Label bound) (length u.bytes) mid new → Put meant lens all xs s u old mid → spot_of label.0 (xs ++ item.Bind bound ∷ []) ≡ None → (label.0 ≡ bound.0) ⊎ (label.0 ≡ bound.0 → ⊥) → new (target.Label label) ≡ old (target.Label label)
 others_by meant lens all xs bound s u old mid new label free adds held none (inl e) =
     let at : spot_of bound.0 (xs ++ item.Bind bound ∷ []) ≡ None = subst (λ (n : ℕ). spot_of n (xs ++ item.Bind bound ∷ []) ≡ None) e none in
     let same : Some (entries xs) ≡ None = sym (spot_itself xs bound free) ∙ at in
@@ -154,12 +154,12 @@ others_by meant lens all xs bound s u old mid new label free adds held none (inl
 others_by meant lens all xs bound s u old mid new label free adds held none (inr ne) =
     adds.others (target.Label label) (λ e. ne (ap number_of e)) ∙ held.others (target.Label label) (sym (spot_other label.0 xs bound ne) ∙ none)
 
-others_bind : {I M : Type 0} (meant : I → Meant M) (lens : List ℕ) (all xs : List (Item I)) (bound : Label) (s u : State) (old mid new : DeferredTarget → Option ℕ) (goes_to : DeferredTarget) → spot_of bound.0 xs ≡ None → AddsBinding (target.Label bound) (length u.bytes) mid new → Put meant lens all xs s u old mid → IsNoLabelOf (xs ++ item.Bind bound ∷ []) goes_to → new goes_to ≡ old goes_to
+others_bind : {I : Type 0} (meant : I → Listed) (lens : List ℕ) (all xs : List (Item I)) (bound : Label) (s u : State) (old mid new : DeferredTarget → Option ℕ) (goes_to : DeferredTarget) → spot_of bound.0 xs ≡ None → AddsBinding (target.Label bound) (length u.bytes) mid new → Put meant lens all xs s u old mid → IsNoLabelOf (xs ++ item.Bind bound ∷ []) goes_to → new goes_to ≡ old goes_to
 others_bind meant lens all xs bound s u old mid new (target.Label label) free adds held none = others_by meant lens all xs bound s u old mid new label free adds held none (cases_eq label.0 bound.0)
 others_bind meant lens all xs bound s u old mid new (target.Constant constant) free adds held none = adds.others (target.Constant constant) (λ e. cc) ∙ held.others (target.Constant constant) tt
 others_bind meant lens all xs bound s u old mid new target.None free adds held none = adds.others target.None (λ e. cc) ∙ held.others target.None tt
 
-pub put_bind : {I M : Type 0} (meant : I → Meant M) (lens : List ℕ) (all xs : List (Item I)) (bound : Label) (s u t : State) (old mid new : DeferredTarget → Option ℕ) → spot_of bound.0 xs ≡ None → AddsBinding (target.Label bound) (length u.bytes) mid new → t ≡ u → ((pieces : List Piece) (n : ℕ) → Laid pieces n u mid → Laid pieces n t new) → Put meant lens all xs s u old mid → Put meant lens all (xs ++ item.Bind bound ∷ []) s t old new
+pub put_bind : {I : Type 0} (meant : I → Listed) (lens : List ℕ) (all xs : List (Item I)) (bound : Label) (s u t : State) (old mid new : DeferredTarget → Option ℕ) → spot_of bound.0 xs ≡ None → AddsBinding (target.Label bound) (length u.bytes) mid new → t ≡ u → ((pieces : List Piece) (n : ℕ) → Laid pieces n u mid → Laid pieces n t new) → Put meant lens all xs s u old mid → Put meant lens all (xs ++ item.Bind bound ∷ []) s t old new
 put_bind meant lens all xs bound s u t old mid new free adds same stays held =
     let e : entries xs ≡ entries (xs ++ item.Bind bound ∷ []) = omega (arith, entries_push xs (item.Bind bound)) in
     subst (λ (z : State). Put meant lens all (xs ++ item.Bind bound ∷ []) s z old new) (sym same)

@@ -1,7 +1,9 @@
 use Rattle.std.proofs.Common.{◌≡◌, ℕ, ◌+◌, ◌<◌, ◌≤◌, arith, refl, ◌∙◌, ap, sym, subst, Option, Some, None, List, [], ◌∷◌, ◌++◌, ◌-◌, true, length, ◌^◌, ℤ, pos, ◌-ℤ◌, length-append, Result, Ok, Err, FitsSigned, to_z, of_z}
 use Rattle.std.proofs.lemmas.Int.{ints, to_z-of_z}
 use Rattle.std.specs.Int.{w8, w32, w64}
-use Rattle.std.specs.Prelude.{IfSome, IsSome, OnOk, unwrap_or, slice_index}
+use Rattle.std.specs.Prelude.{IfSome, IsSome, IsTrue, OnOk, unwrap_or, slice_index}
+use Rattle.cax64_encoder.proofs.Faults.{no_fault, none_is}
+use Rattle.cax64_encoder.specs.Fault.{fault_of_meant, is_encodable}
 use Rattle.cax64_encoder.specs.Instruction.{AddsInstruction}
 use Rattle.cax64_encoder.specs.Meant.{Meant, len}
 use Rattle.cax64_machine_code.specs.Len.{len_of, line_len}
@@ -25,8 +27,8 @@ use Rattle.x64_code_buffer.specs.Laid.{Laid, LaidOn, Piece, open_jump, parts_in,
 use Rattle.x64_code_buffer.specs.declared.jump.Condition.TheVariants as cond
 use Rattle.x64_code_buffer.specs.declared.jump.Jump.{Jump}
 use Rattle.x64_code_buffer.specs.declared.jump.Jump.TheVariants.{Always, Call, If}
-use Rattle.x64_assemble.specs.Assembled.{InstReads, JumpReads, distance_in, inst_told, jump_told, long_len, row_of_len}
-use Rattle.x64_assemble.specs.Putting.{GotEntry}
+use Rattle.x64_assemble.specs.Assembled.{JumpReads, WholeReads, distance_in, jump_told, long_len, row_of_len}
+use Rattle.x64_assemble.specs.Listed.{GotEntry, inst_told}
 use Rattle.x64_assemble.proofs.Pieces.{fewer}
 use Rattle.x64_assemble.proofs.Told.{tells_inst, tells_nothing, tells_use}
 
@@ -49,10 +51,14 @@ got_from kind meant reads tells size told s t old new added as_meant bytes len p
   notice_room = falls_more s.notice_room t.notice_room told 1 one notices;
 }
 
-pub got_inst : {M : Type 0} (m : Meant M) (n told : ℕ) (s t : State) (old new : DeferredTarget → Option ℕ) → n ≡ len m → s.records ≡ true → AddsInstruction m s t → SamePlaces old new → Keeps s t → FallsBy s.byte_room t.byte_room (len m) → FallsBy s.notice_room t.notice_room told → told ≤ 1 → ((pieces : List Piece) → Laid pieces (length s.bytes) s old → LaidOn whole (parts_as (line_of m.parts.row) m.parts) pieces t new) → GotEntry (InstReads m.parts) (inst_told m.memory) n s t old new
+pub got_inst : {M : Type 0} (m : Meant M) (n told : ℕ) (s t : State) (old new : DeferredTarget → Option ℕ) → n ≡ len m → s.records ≡ true → AddsInstruction m s t → SamePlaces old new → Keeps s t → FallsBy s.byte_room t.byte_room (len m) → FallsBy s.notice_room t.notice_room told → told ≤ 1 → ((pieces : List Piece) → Laid pieces (length s.bytes) s old → LaidOn whole (parts_as (line_of m.parts.row) m.parts) pieces t new) → GotEntry (WholeReads (parts_as (line_of m.parts.row) m.parts)) (inst_told m.memory) n s t old new
 got_inst m n told s t old new size records adds places keeps room notices one laid =
-    subst (λ (k : ℕ). GotEntry (InstReads m.parts) (inst_told m.memory) k s t old new) (sym size)
-    (got_from whole (parts_as (line_of m.parts.row) m.parts) (InstReads m.parts) (inst_told m.memory) (len m) told s t old new adds.added (λ r e. e) adds.bytes adds.length places keeps room notices one laid (tells_inst m s t old new records adds))
+    subst (λ (k : ℕ). GotEntry (WholeReads (parts_as (line_of m.parts.row) m.parts)) (inst_told m.memory) k s t old new) (sym size)
+    (got_from whole (parts_as (line_of m.parts.row) m.parts) (WholeReads (parts_as (line_of m.parts.row) m.parts)) (inst_told m.memory) (len m) told s t old new adds.added (λ r e. e) adds.bytes adds.length places keeps room notices one laid (tells_inst m s t old new records adds))
+
+-- an instruction of a row without a fault can be encoded
+pub row_fits : {M : Type 0} (offsets : ℕ → Option ℤ) (m : Meant M) → fault_of_meant offsets m ≡ None → IsTrue (is_encodable offsets m)
+row_fits offsets m h = (none_is (fault_of_meant offsets m) _ (no_fault offsets m.visited m.memory)).0 h
 
 -- how many bytes a longer form has
 long_line_len : (jump : Jump) (z : ℤ) → line_len (line_of (long_row jump)) (jump_parts (line_of (long_row jump)) z) ≡ long_len jump

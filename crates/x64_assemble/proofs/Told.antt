@@ -16,7 +16,8 @@ use Rattle.x64_code_buffer.proofs.Laying.{uses_more}
 use Rattle.x64_code_buffer.specs.Filled.{places_told}
 use Rattle.x64_code_buffer.specs.Laid.{Laid, LinesRead, Piece, piece_field, piece_fields, reading_in, readings_in}
 use Rattle.x64_code_buffer.specs.Use.{uses_of}
-use Rattle.x64_assemble.specs.Assembled.{EachReads, all_told, inst_told, jump_told, spot_of, use_told}
+use Rattle.x64_assemble.specs.Assembled.{EachReads, all_told, jump_told, spot_of}
+use Rattle.x64_assemble.specs.Listed.{Listed, inst_told, use_told}
 use Rattle.x64_assemble.specs.declared.item.Item.{Item}
 use Rattle.x64_assemble.specs.declared.item.Item.TheVariants as item
 
@@ -82,36 +83,36 @@ tells_inst {M = M} m s t old new records adds ps p h k = by_memory m.memory (add
 -- A list that is one item longer.
 
 -- what an item tells, if it is an entry
-abbrev pub item_told : {I M : Type 0} → (I → Meant M) → List (Item I) → Item I → ℕ → Piece → List Notice
-item_told meant all (item.Inst inst) at p = inst_told (meant inst).memory at p
+abbrev pub item_told : {I : Type 0} → (I → Listed) → List (Item I) → Item I → ℕ → Piece → List Notice
+item_told meant all (item.Inst inst) at p = (meant inst).tells at p
 item_told meant all (item.Jump jump to) at p = jump_told (spot_of to.0 all) to at p
 item_told meant all (item.Bind bound) at p = []
 
-told_one : {I M : Type 0} (meant : I → Meant M) (all : List (Item I)) (at : ℕ) (x : Item I) (p : Piece) → all_told meant all at (x ∷ []) (p ∷ []) ≡ item_told meant all x at p
-told_one meant all at (item.Inst inst) p = append-nil (inst_told (meant inst).memory at p)
+told_one : {I : Type 0} (meant : I → Listed) (all : List (Item I)) (at : ℕ) (x : Item I) (p : Piece) → all_told meant all at (x ∷ []) (p ∷ []) ≡ item_told meant all x at p
+told_one meant all at (item.Inst inst) p = append-nil ((meant inst).tells at p)
 told_one meant all at (item.Jump jump to) p = append-nil (jump_told (spot_of to.0 all) to at p)
 told_one meant all at (item.Bind bound) p = refl
 
-told_behind : {I M : Type 0} (meant : I → Meant M) (all : List (Item I)) (at : ℕ) (first : List Notice) (later longer : List Notice) (q : Piece) (ps : List Piece) (x : Item I) (p : Piece) → longer ≡ later ++ item_told meant all x (at + (reading_in q).length + pieces_length ps) p → first ++ longer ≡ (first ++ later) ++ item_told meant all x (at + pieces_length (q ∷ ps)) p
+told_behind : {I : Type 0} (meant : I → Listed) (all : List (Item I)) (at : ℕ) (first : List Notice) (later longer : List Notice) (q : Piece) (ps : List Piece) (x : Item I) (p : Piece) → longer ≡ later ++ item_told meant all x (at + (reading_in q).length + pieces_length ps) p → first ++ longer ≡ (first ++ later) ++ item_told meant all x (at + pieces_length (q ∷ ps)) p
 told_behind meant all at first later longer q ps x p h =
     let e : at + (reading_in q).length + pieces_length ps ≡ at + ((reading_in q).length + pieces_length ps) = omega arith in
     ap (λ (z : List Notice). first ++ z) (h ∙ ap (λ (n : ℕ). later ++ item_told meant all x n p) e)
     ∙ sym (append_assoc first later (item_told meant all x (at + ((reading_in q).length + pieces_length ps)) p))
 
-pub told_push : {I M : Type 0} (meant : I → Meant M) (lens : List ℕ) (all : List (Item I)) (n at : ℕ) (xs : List (Item I)) (ps : List Piece) (x : Item I) (p : Piece) → EachReads meant lens all n xs ps → all_told meant all at (xs ++ x ∷ []) (ps ++ p ∷ []) ≡ all_told meant all at xs ps ++ item_told meant all x (at + pieces_length ps) p
+pub told_push : {I : Type 0} (meant : I → Listed) (lens : List ℕ) (all : List (Item I)) (n at : ℕ) (xs : List (Item I)) (ps : List Piece) (x : Item I) (p : Piece) → EachReads meant lens all n xs ps → all_told meant all at (xs ++ x ∷ []) (ps ++ p ∷ []) ≡ all_told meant all at xs ps ++ item_told meant all x (at + pieces_length ps) p
 told_push meant lens all n at [] ps x p h =
     let e : at + 0 ≡ at = omega arith in
     rw (h, e) (told_one meant all at x p)
 told_push meant lens all n at (item.Inst inst ∷ xs) [] x p h = absurd h
-told_push meant lens all n at (item.Inst inst ∷ xs) (q ∷ ps) x p h = told_behind meant all at (inst_told (meant inst).memory at q) (all_told meant all (at + (reading_in q).length) xs ps) (all_told meant all (at + (reading_in q).length) (xs ++ x ∷ []) (ps ++ p ∷ [])) q ps x p (told_push meant lens all (n + 1) (at + (reading_in q).length) xs ps x p h.2)
+told_push meant lens all n at (item.Inst inst ∷ xs) (q ∷ ps) x p h = told_behind meant all at ((meant inst).tells at q) (all_told meant all (at + (reading_in q).length) xs ps) (all_told meant all (at + (reading_in q).length) (xs ++ x ∷ []) (ps ++ p ∷ [])) q ps x p (told_push meant lens all (n + 1) (at + (reading_in q).length) xs ps x p h.2)
 told_push meant lens all n at (item.Jump jump to ∷ xs) [] x p h = absurd h
 told_push meant lens all n at (item.Jump jump to ∷ xs) (q ∷ ps) x p h = told_behind meant all at (jump_told (spot_of to.0 all) to at q) (all_told meant all (at + (reading_in q).length) xs ps) (all_told meant all (at + (reading_in q).length) (xs ++ x ∷ []) (ps ++ p ∷ [])) q ps x p (told_push meant lens all (n + 1) (at + (reading_in q).length) xs ps x p h.2)
 told_push meant lens all n at (item.Bind bound ∷ xs) ps x p h = told_push meant lens all n at xs ps x p h
 
-pub told_bind : {I M : Type 0} (meant : I → Meant M) (lens : List ℕ) (all : List (Item I)) (n at : ℕ) (xs : List (Item I)) (ps : List Piece) (bound : Label) → EachReads meant lens all n xs ps → all_told meant all at (xs ++ item.Bind bound ∷ []) ps ≡ all_told meant all at xs ps
+pub told_bind : {I : Type 0} (meant : I → Listed) (lens : List ℕ) (all : List (Item I)) (n at : ℕ) (xs : List (Item I)) (ps : List Piece) (bound : Label) → EachReads meant lens all n xs ps → all_told meant all at (xs ++ item.Bind bound ∷ []) ps ≡ all_told meant all at xs ps
 told_bind meant lens all n at [] ps bound h = refl
 told_bind meant lens all n at (item.Inst inst ∷ xs) [] bound h = absurd h
-told_bind meant lens all n at (item.Inst inst ∷ xs) (q ∷ ps) bound h = ap (λ (z : List Notice). inst_told (meant inst).memory at q ++ z) (told_bind meant lens all (n + 1) (at + (reading_in q).length) xs ps bound h.2)
+told_bind meant lens all n at (item.Inst inst ∷ xs) (q ∷ ps) bound h = ap (λ (z : List Notice). (meant inst).tells at q ++ z) (told_bind meant lens all (n + 1) (at + (reading_in q).length) xs ps bound h.2)
 told_bind meant lens all n at (item.Jump jump to ∷ xs) [] bound h = absurd h
 told_bind meant lens all n at (item.Jump jump to ∷ xs) (q ∷ ps) bound h = ap (λ (z : List Notice). jump_told (spot_of to.0 all) to at q ++ z) (told_bind meant lens all (n + 1) (at + (reading_in q).length) xs ps bound h.2)
 told_bind meant lens all n at (item.Bind other ∷ xs) ps bound h = told_bind meant lens all n at xs ps bound h

@@ -1,11 +1,6 @@
 -- What a list of instructions, jumps to labels and places of labels becomes in a buffer.
-use Rattle.std.specs.Prelude.{◌≡◌, ℕ, suc, ◌+◌, ℤ, pos, ◌-ℤ◌, ◌==◌, if◌then◌else◌, Option, Some, None, option_map, unwrap_or, List, [], ◌∷◌, ◌++◌, map, length, sum, slice_index}
-use Rattle.cax64_address.specs.declared.amode.Amode.{Amode}
-use Rattle.cax64_address.specs.declared.amode.Amode.TheVariants.{ImmReg, ImmRegRegShift, RipRelative}
-use Rattle.cax64_encoder.specs.Meant.{Meant, len}
-use Rattle.cax64_encoder.specs.Notices.{trap_notice}
-use Rattle.cax64_machine_code.specs.ReadLine.{parts_as}
-use Rattle.cax64_machine_code.specs.Reading.{Parts, PartsOf}
+use Rattle.std.specs.Prelude.{◌≡◌, ℕ, suc, ◌+◌, ℤ, pos, ◌-ℤ◌, ◌==◌, if◌then◌else◌, Option, Some, None, option_map, unwrap_or, List, [], ◌∷◌, ◌++◌, length, sum, slice_index}
+use Rattle.cax64_machine_code.specs.Reading.{PartsOf}
 use Rattle.cax64_machine_code.specs.Rows.{line_of}
 use Rattle.cax64_machine_code.specs.declared.line.Line.{Line}
 use Rattle.cax64_machine_code.specs.declared.row.Row.{Row}
@@ -14,13 +9,13 @@ use Rattle.cax64_sink.specs.declared.DeferredTarget.{DeferredTarget}
 use Rattle.cax64_sink.specs.declared.DeferredTarget.TheVariants as target
 use Rattle.cax64_sink.specs.declared.Label.{Label}
 use Rattle.cax64_sink.specs.declared.Notice.{Notice}
-use Rattle.cax64_sink.specs.declared.Notice.TheVariants.{Target}
 use Rattle.x64_code_buffer.specs.Jump.{jump_parts, long_row, short_row}
-use Rattle.x64_code_buffer.specs.Laid.{Laid, Piece, open_jump, parts_in, piece_field, reading_in, whole}
+use Rattle.x64_code_buffer.specs.Laid.{Laid, Piece, open_jump, parts_in, reading_in, whole}
 use Rattle.x64_code_buffer.specs.declared.jump.Jump.{Jump}
 use Rattle.x64_code_buffer.specs.declared.jump.Jump.TheVariants.{Always, Call, If}
 use Rattle.x64_layout.specs.Layout.{IsLeast, place_in}
 use Rattle.x64_layout.specs.declared.span.Span.{Span}
+use Rattle.x64_assemble.specs.Listed.{Listed, use_told}
 use Rattle.x64_assemble.specs.declared.item.Item.{Item}
 use Rattle.x64_assemble.specs.declared.item.Item.TheVariants as item
 
@@ -76,10 +71,6 @@ abbrev pub OpenReads : PartsOf Line → Piece → Type 0
 OpenReads meant (whole r) = ⊥
 OpenReads meant (open_jump r) = ◌≡◌ {A = PartsOf Line} (parts_in r) meant
 
--- what an instruction is read as: by the line of its row
-abbrev pub InstReads : Parts → Piece → Type 0
-InstReads meant p = WholeReads (parts_as (line_of meant.row) meant) p
-
 -- what a jump that is the n-th entry is read as: by its distance to its spot; or open, if the list doesn't bind its label
 abbrev pub JumpReads : List ℕ → ℕ → Jump → Option ℕ → Piece → Type 0
 JumpReads lens n jump None p = OpenReads (jump_parts (line_of (long_row jump)) (pos 0)) p
@@ -87,24 +78,13 @@ JumpReads lens n jump (Some spot) p = WholeReads (jump_parts (line_of (row_of_le
 
 -- each instruction and jump, in order, with what it is read as, where the first is the n-th entry; each has the length that
 -- the layout gives it
-abbrev pub EachReads : {I M : Type 0} → (I → Meant M) → List ℕ → List (Item I) → ℕ → List (Item I) → List Piece → Type 0
+abbrev pub EachReads : {I : Type 0} → (I → Listed) → List ℕ → List (Item I) → ℕ → List (Item I) → List Piece → Type 0
 EachReads meant lens all n [] pieces = pieces ≡ []
 EachReads meant lens all n (item.Bind bound ∷ later) pieces = EachReads meant lens all n later pieces
 EachReads meant lens all n (item.Inst inst ∷ later) [] = ⊥
-EachReads meant lens all n (item.Inst inst ∷ later) (p ∷ pieces) = InstReads (meant inst).parts p × ((reading_in p).length ≡ slice_index lens n) × EachReads meant lens all (n + 1) later pieces
+EachReads meant lens all n (item.Inst inst ∷ later) (p ∷ pieces) = WholeReads (meant inst).parts p × ((reading_in p).length ≡ slice_index lens n) × EachReads meant lens all (n + 1) later pieces
 EachReads meant lens all n (item.Jump jump to ∷ later) [] = ⊥
 EachReads meant lens all n (item.Jump jump to ∷ later) (p ∷ pieces) = JumpReads lens n jump (spot_of to.0 all) p × ((reading_in p).length ≡ slice_index lens n) × EachReads meant lens all (n + 1) later pieces
-
--- the use of a target at the field of a piece that begins after so many bytes
-abbrev pub use_told : DeferredTarget → ℕ → Piece → List Notice
-use_told goes_to at p = map (λ field. Target field goes_to) (piece_field at p)
-
--- what an instruction tells, by its memory operand: the trap where it begins, or the use of its target
-abbrev pub inst_told : {M : Type 0} → Option (Amode M) → ℕ → Piece → List Notice
-inst_told None at p = []
-inst_told (Some (ImmReg base simm32 trap)) at p = trap_notice trap at
-inst_told (Some (ImmRegRegShift base index scale simm32 trap)) at p = trap_notice trap at
-inst_told (Some (RipRelative goes_to)) at p = use_told goes_to at p
 
 -- what a jump tells: the use of its label, if the list doesn't bind it
 abbrev pub jump_told : Option ℕ → Label → ℕ → Piece → List Notice
@@ -112,11 +92,11 @@ jump_told None to at p = use_told (target.Label to) at p
 jump_told (Some spot) to at p = []
 
 -- what all of them tell, in order, where the first begins after so many bytes
-abbrev pub all_told : {I M : Type 0} → (I → Meant M) → List (Item I) → ℕ → List (Item I) → List Piece → List Notice
+abbrev pub all_told : {I : Type 0} → (I → Listed) → List (Item I) → ℕ → List (Item I) → List Piece → List Notice
 all_told meant all at [] pieces = []
 all_told meant all at (item.Bind bound ∷ later) pieces = all_told meant all at later pieces
 all_told meant all at (item.Inst inst ∷ later) [] = []
-all_told meant all at (item.Inst inst ∷ later) (p ∷ pieces) = inst_told (meant inst).memory at p ++ all_told meant all (at + (reading_in p).length) later pieces
+all_told meant all at (item.Inst inst ∷ later) (p ∷ pieces) = (meant inst).tells at p ++ all_told meant all (at + (reading_in p).length) later pieces
 all_told meant all at (item.Jump jump to ∷ later) [] = []
 all_told meant all at (item.Jump jump to ∷ later) (p ∷ pieces) = jump_told (spot_of to.0 all) to at p ++ all_told meant all (at + (reading_in p).length) later pieces
 
@@ -129,9 +109,9 @@ IsNoLabelOf items target.None = Unit {0}
 -- A buffer has got a list: behind the pieces that were there one for each instruction and jump; behind what was told of them
 -- what each of these tells, in order; each label of the list is bound to the place of its spot, and no other binding
 -- changes; the lengths are the least.
-pub record Assembled {I M : Type 0} (meant : I → Meant M) (items : List (Item I)) (pieces : List Piece) (before after : State) (old new : DeferredTarget → Option ℕ) : Type 0 where
+pub record Assembled {I : Type 0} (meant : I → Listed) (items : List (Item I)) (pieces : List Piece) (before after : State) (old new : DeferredTarget → Option ℕ) : Type 0 where
   pub lens : List ℕ
-  pub least : IsLeast (spans_of (λ i. len (meant i)) items items) lens
+  pub least : IsLeast (spans_of (λ i. (meant i).len) items items) lens
   pub more : List Piece
   pub reads : EachReads meant lens items 0 items more
   pub laid : Laid (pieces ++ more) (length after.bytes) after new

@@ -1,4 +1,5 @@
 -- What the clauses say.
+pub mod Listed
 pub mod Assembled
 pub mod Refused
 pub mod Message

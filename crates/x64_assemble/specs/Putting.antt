@@ -1,18 +1,15 @@
 -- Steps of the proofs: where labels of a list are noted, and a list on its way into a buffer.
-use Rattle.std.specs.Prelude.{◌≡◌, ◌<◌, ℕ, ◌+◌, ◌-◌, ◌==◌, Bool, false, IsTrue, take, if◌then◌else◌, Option, Some, None, option_and_then, List, [], ◌∷◌, ◌++◌, length, sum, drop, slice_get}
-use Rattle.cax64_encoder.specs.Instruction.{Meaning, can_encode_in}
-use Rattle.cax64_encoder.specs.Meant.{Meant}
+use Rattle.std.specs.Prelude.{◌≡◌, ◌<◌, ℕ, ◌+◌, ◌-◌, ◌==◌, Bool, false, take, if◌then◌else◌, Option, Some, None, option_and_then, List, ◌++◌, length, sum, drop, slice_get}
 use Rattle.cax64_sink.specs.Keeps.{Keeps}
-use Rattle.cax64_sink.specs.Room.{FallsBy, HasRoom}
+use Rattle.cax64_sink.specs.Room.{HasRoom}
 use Rattle.cax64_sink.specs.Sink.{State}
 use Rattle.cax64_sink.specs.declared.Label.{Label}
 use Rattle.cax64_sink.specs.declared.DeferredTarget.{DeferredTarget}
 use Rattle.cax64_sink.specs.declared.DeferredTarget.TheVariants as target
-use Rattle.cax64_sink.specs.declared.Notice.{Notice}
-use Rattle.x64_code_buffer.specs.Binding.{SamePlaces}
 use Rattle.x64_code_buffer.specs.Laid.{Laid, Piece}
 use Rattle.x64_layout.specs.Layout.{place_in}
 use Rattle.x64_assemble.specs.Assembled.{EachReads, IsNoLabelOf, all_told, entries, spot_of}
+use Rattle.x64_assemble.specs.Listed.{Listed}
 use Rattle.x64_assemble.specs.declared.binders.Binder.{Binder}
 use Rattle.x64_assemble.specs.declared.item.Item.{Item}
 use Rattle.x64_assemble.specs.declared.item.Item.TheVariants as item
@@ -31,25 +28,16 @@ spot_noted items binders label = option_and_then (λ b. option_and_then (λ x. i
 abbrev pub AreBinders : {I : Type 0} → List (Item I) → List Binder → Type 0
 AreBinders items binders = (label : ℕ) → spot_noted items binders label ≡ spot_of label items
 
--- each instruction of a list can be encoded
-abbrev pub CanEncode : {I M : Type 0} → (I → Meaning M) → State → List (Item I) → Type 0
-CanEncode {I = I} meant state items = (k : ℕ) (i : I) → slice_get items k ≡ Some (item.Inst i) → IsTrue (can_encode_in state (meant i))
+-- each instruction of a list can be put
+abbrev pub CanPut : {I : Type 0} → (I → Listed) → List (Item I) → Type 0
+CanPut {I = I} meant items = (k : ℕ) (i : I) → slice_get items k ≡ Some (item.Inst i) → (meant i).fault ≡ None
 
 -- each label that a list binds was given, and nothing binds it before
 abbrev pub AreFree : {I : Type 0} → ℕ → (DeferredTarget → Option ℕ) → List (Item I) → Type 0
 AreFree given places items = (k : ℕ) (label : Label) → slice_get items k ≡ Some (item.Bind label) → (label.0 < given) × (places (target.Label label) ≡ None) × (spot_of label.0 (take k items) ≡ None)
 
--- A buffer has got an entry: a piece that reads so, of so many bytes, that tells this where it begins.
-pub record GotEntry (reads : Piece → Type 0) (tells : ℕ → Piece → List Notice) (size : ℕ) (s t : State) (old new : DeferredTarget → Option ℕ) : Type 0 where
-  pub laid : (pieces : List Piece) → Laid pieces (length s.bytes) s old → (p : Piece) × reads p × Laid (pieces ++ p ∷ []) (length t.bytes) t new × (t.notices ≡ s.notices ++ tells (length s.bytes) p)
-  pub more : length t.bytes ≡ length s.bytes + size
-  pub places : SamePlaces old new
-  pub keeps : Keeps s t
-  pub byte_room : FallsBy s.byte_room t.byte_room size
-  pub notice_room : FallsBy s.notice_room t.notice_room 1
-
--- It has got the first items of a list, and has room for the others, and 13 bytes and a notice more.
-pub record Put {I M : Type 0} (meant : I → Meant M) (lens : List ℕ) (all done : List (Item I)) (s t : State) (old new : DeferredTarget → Option ℕ) : Type 0 where
+-- A buffer has got the first items of a list, and has room for the others, and 13 bytes and a notice more.
+pub record Put {I : Type 0} (meant : I → Listed) (lens : List ℕ) (all done : List (Item I)) (s t : State) (old new : DeferredTarget → Option ℕ) : Type 0 where
   pub laid : (pieces : List Piece) → Laid pieces (length s.bytes) s old → (more : List Piece) × EachReads meant lens all 0 done more × Laid (pieces ++ more) (length t.bytes) t new × (t.notices ≡ s.notices ++ all_told meant all (length s.bytes) done more)
   pub size : length t.bytes ≡ length s.bytes + place_in lens (entries done)
   pub bound : (label spot : ℕ) → spot_of label done ≡ Some spot → new (target.Label (record { 0 = label })) ≡ Some (length s.bytes + place_in lens spot)

@@ -1,7 +1,6 @@
 //! The entries of a list: instructions and jumps, by what may be their lengths.
 
 ghost use Rattle.std.specs.Prelude.{◌≡◌, ◌≤◌, ℕ, None, All, length, take};
-ghost use Rattle.cax64_encoder.specs.Instruction.{fault_in, len_in};
 ghost use Rattle.x64_code_buffer.specs.Buffer.{buffer_state, label_count, places_of};
 ghost use Rattle.x64_layout.specs.Layout.{IsSpan};
 ghost use Rattle.x64_assemble.specs.Assembled.{entries, span_of, spans_of};
@@ -10,7 +9,7 @@ ghost use Rattle.x64_assemble.specs.Refused.{refusal_at};
 
 use crate::binders::{Binder, spot_in};
 use crate::item::Item;
-use cax64_encoder::instruction::Instruction;
+use crate::put_by::PutBy;
 use std::alloc::Allocator;
 use x64_code_buffer::{CodeBuffer, Jump};
 use x64_layout::Span;
@@ -39,25 +38,25 @@ pub(crate) fn span_of(jump: Jump, spot: Option<u32>) -> Span
 }
 
 /// Notes the entries of a list, and says how many there are.
-pub(crate) fn note_spans<I: Instruction, B: Allocator>(
+pub(crate) fn note_spans<W: PutBy<I>, I, B: Allocator>(
     items: &[Item<I>],
     buffer: &CodeBuffer<B>,
     binders: &[Binder],
     spans: &mut [Span],
 ) -> usize
-    requires tested { (n : ℕ) → refusal_at (λ i. fault_in (buffer_state buffer.now) (I.meant i)) (label_count buffer.now) (places_of buffer.now) items.now n ≡ None }
+    requires tested { (n : ℕ) → refusal_at (λ i. (W.listed i (buffer_state buffer.now).offsets).fault) (label_count buffer.now) (places_of buffer.now) items.now n ≡ None }
     requires binders { AreBinders items.now binders.now }
     requires room { length items.now ≤ length spans.old }
     ensures count { result ≡ entries items.now }
     ensures most { result ≤ length items.now }
-    ensures spans { take result spans.new ≡ spans_of (λ i. len_in (buffer_state buffer.now) (I.meant i)) items.now items.now }
+    ensures spans { take result spans.new ≡ spans_of (λ i. (W.listed i (buffer_state buffer.now).offsets).len) items.now items.now }
     ensures each { All (IsSpan (entries items.now)) (take result spans.new) }
 {
     let mut count: usize = 0;
     for item in items {
         let span = match item {
             Item::Inst(inst) => Span {
-                least: inst.encoded_len(buffer),
+                least: W::len(inst, buffer),
                 more: 0,
                 spot: None,
             },

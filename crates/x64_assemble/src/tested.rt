@@ -1,7 +1,6 @@
 //! The items of a list, tested before any is put.
 
 ghost use Rattle.std.specs.Prelude.{◌≡◌, ◌<◌, ◌≤◌, ℕ, None, OnOk, IfErr, length};
-ghost use Rattle.cax64_encoder.specs.Instruction.{fault_in};
 ghost use Rattle.x64_code_buffer.specs.Buffer.{buffer_state, label_count, places_of};
 ghost use Rattle.x64_assemble.specs.Putting.{AreBinders};
 ghost use Rattle.x64_assemble.specs.Refused.{IsFirstRefusal, bind_refusal, refusal_at};
@@ -9,7 +8,7 @@ ghost use Rattle.x64_assemble.specs.Refused.{IsFirstRefusal, bind_refusal, refus
 use crate::binders::{Binder, spot_in};
 use crate::errors::LayoutError;
 use crate::item::Item;
-use cax64_encoder::instruction::Instruction;
+use crate::put_by::PutBy;
 use cax64_sink::{DeferredTarget, Label};
 use std::alloc::Allocator;
 use x64_code_buffer::{BindError, CodeBuffer};
@@ -37,7 +36,7 @@ fn bind_refusal<I, B: Allocator>(
 }
 
 /// Finds the first item that can't be put, if there is one, and notes where labels are bound.
-pub(crate) fn test_items<I: Instruction, B: Allocator>(
+pub(crate) fn test_items<W: PutBy<I>, I, B: Allocator>(
     items: &[Item<I>],
     buffer: &CodeBuffer<B>,
     binders: &mut [Binder],
@@ -45,14 +44,14 @@ pub(crate) fn test_items<I: Instruction, B: Allocator>(
     requires few { length items.now ≤ 165191049 }
     requires room { label_count buffer.now ≤ length binders.old }
     ensures binders { OnOk result (AreBinders items.now binders.new) }
-    ensures tested { OnOk result ((n : ℕ) → refusal_at (λ i. fault_in (buffer_state buffer.now) (I.meant i)) (label_count buffer.now) (places_of buffer.now) items.now n ≡ None) }
-    ensures first { IfErr result (λ e. (n : ℕ) × IsFirstRefusal (λ i. fault_in (buffer_state buffer.now) (I.meant i)) (label_count buffer.now) (places_of buffer.now) items.now n e) }
+    ensures tested { OnOk result ((n : ℕ) → refusal_at (λ i. (W.listed i (buffer_state buffer.now).offsets).fault) (label_count buffer.now) (places_of buffer.now) items.now n ≡ None) }
+    ensures first { IfErr result (λ e. (n : ℕ) × IsFirstRefusal (λ i. (W.listed i (buffer_state buffer.now).offsets).fault) (label_count buffer.now) (places_of buffer.now) items.now n e) }
 {
     let mut spot = 0;
     for (n, item) in items.iter().enumerate() {
         match item {
             Item::Inst(inst) => {
-                if let Some(fault) = inst.first_fault(buffer) {
+                if let Some(fault) = W::fault(inst, buffer) {
                     return Err(LayoutError::Fault(n, fault));
                 }
                 spot += 1;

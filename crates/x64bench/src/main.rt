@@ -4,9 +4,13 @@
 //! nanoseconds that it takes for one instruction, in the best of 15 rounds over the whole list.
 #![tactic(auto)]
 
+mod core_calls;
 mod data;
 mod timing;
 
+use crate::core_calls::{
+    CORE_CALLS, best_time_of_core, best_time_of_giving, best_time_of_taking_core,
+};
 use crate::data::{
     DATA_CALLS, best_time_of_data, best_time_of_making, best_time_of_taking, memory_and_register,
 };
@@ -77,6 +81,21 @@ fn time_data(rt: &HostRuntime, data: &mut [InstData], code: &mut Vec<u8>) -> io:
     print_time(rt, "data_", "of_mem_reg", best, fields.len())
 }
 
+/// Times those that are instructions of the core.
+fn time_core(rt: &HostRuntime, data: &[InstData], code: &mut Vec<u8>) -> io::Result<()> {
+    let mut insts = Vec::new(rt.alloc());
+    let best = best_time_of_taking_core(rt, data, &mut insts)?;
+    print_time(rt, "core_", "of_data", best, data.len())?;
+    let best = best_time_of_giving(rt, insts.as_slice())?;
+    print_time(rt, "core_", "to_data", best, insts.len())?;
+    let count = insts.len();
+    for call in CORE_CALLS {
+        let best = best_time_of_core(rt, call, insts.as_mut_slice(), code)?;
+        print_time(rt, "core_", call.name(), best, count)?;
+    }
+    Ok(())
+}
+
 fn time_list<I: RowAndOperands<Family = Numbers>>(
     rt: &HostRuntime,
     insts: &[I],
@@ -100,6 +119,7 @@ fn time_list<I: RowAndOperands<Family = Numbers>>(
     let best = best_time_of_taking(rt, insts, &mut data)?;
     print_time(rt, "data_", "of", best, count)?;
     time_data(rt, data.as_mut_slice(), &mut code)?;
+    time_core(rt, data.as_slice(), &mut code)?;
     Ok(ExitCode::SUCCESS)
 }
 

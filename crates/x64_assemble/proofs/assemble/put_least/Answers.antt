@@ -1,6 +1,5 @@
 use Rattle.std.proofs.Common.{◌≡◌, ℕ, ◌+◌, arith, ◌∙◌, sym, subst, Option, List, length, sum, ℤ}
 use Rattle.std.specs.Prelude.{slice_index}
-use Rattle.cax64_encoder.specs.Meant.{len}
 use Rattle.cax64_sink.specs.Room.{HasRoom}
 use Rattle.cax64_sink.specs.Sink.{State}
 use Rattle.cax64_sink.specs.declared.DeferredTarget.{DeferredTarget}
@@ -25,8 +24,8 @@ put_items-requires-clause-spans g c =
     let s : State = buffer_state c.args.buffer.now in
     let u : State = buffer_state c.reserve.new.self in
     let offsets : u.offsets ≡ s.offsets = c.reserve.ensures.as_before.offsets in
-    let before : AreSpans (spans_of (λ i. len (g.I.Instruction.meant i s.offsets)) items items) = subst AreSpans c.requires.spans c.requires.are_spans in
-    subst (λ (o : ℕ → Option ℤ). AreSpans (spans_of (λ i. len (g.I.Instruction.meant i o)) items items)) (sym offsets) before
+    let before : AreSpans (spans_of (λ i. (g.W.PutBy.listed i s.offsets).len) items items) = subst AreSpans c.requires.spans c.requires.are_spans in
+    subst (λ (o : ℕ → Option ℤ). AreSpans (spans_of (λ i. (g.W.PutBy.listed i o).len) items items)) (sym offsets) before
 
 pub put_items-requires-clause-layout : goal.put_items-requires-clause-layout
 put_items-requires-clause-layout g c =
@@ -35,8 +34,8 @@ put_items-requires-clause-layout g c =
     let s : State = buffer_state c.args.buffer.now in
     let u : State = buffer_state c.reserve.new.self in
     let offsets : u.offsets ≡ s.offsets = c.reserve.ensures.as_before.offsets in
-    let before : IsLayout (spans_of (λ i. len (g.I.Instruction.meant i s.offsets)) items items) lens = subst (λ (z : List Span). IsLayout z lens) c.requires.spans c.least_layout.ensures.least.layout in
-    subst (λ (o : ℕ → Option ℤ). IsLayout (spans_of (λ i. len (g.I.Instruction.meant i o)) items items) lens) (sym offsets) before
+    let before : IsLayout (spans_of (λ i. (g.W.PutBy.listed i s.offsets).len) items items) lens = subst (λ (z : List Span). IsLayout z lens) c.requires.spans c.least_layout.ensures.least.layout in
+    subst (λ (o : ℕ → Option ℤ). IsLayout (spans_of (λ i. (g.W.PutBy.listed i o).len) items items) lens) (sym offsets) before
 
 pub put_items-requires-clause-byte_room : goal.put_items-requires-clause-byte_room
 put_items-requires-clause-byte_room g c =
@@ -60,6 +59,6 @@ returns-clause-assembled g c = λ pieces h.
     let mid : DeferredTarget → Option ℕ = places_of c.reserve.new.self in
     let new : DeferredTarget → Option ℕ = places_of c.put_items.new.buffer in
     let offsets : u.offsets ≡ s.offsets = c.reserve.ensures.as_before.offsets in
-    let least : IsLeast (spans_of (λ i. len (g.I.Instruction.meant i s.offsets)) items items) lens = subst (λ (z : List Span). IsLeast z lens) c.requires.spans c.least_layout.ensures.least in
-    let put : Put (λ i. g.I.Instruction.meant i s.offsets) lens items items u t mid new = subst (λ (o : ℕ → Option ℤ). Put (λ i. g.I.Instruction.meant i o) lens items items u t mid new) offsets c.put_items.ensures.put in
-    assembled (λ i. g.I.Instruction.meant i s.offsets) items lens pieces s u t old mid new least c.reserve.ensures.as_before.bytes c.reserve.ensures.as_before.notices c.reserve.ensures.places (c.reserve.ensures.filled.laid pieces (length s.bytes) h) put
+    let least : IsLeast (spans_of (λ i. (g.W.PutBy.listed i s.offsets).len) items items) lens = subst (λ (z : List Span). IsLeast z lens) c.requires.spans c.least_layout.ensures.least in
+    let put : Put (λ i. g.W.PutBy.listed i s.offsets) lens items items u t mid new = subst (λ (o : ℕ → Option ℤ). Put (λ i. g.W.PutBy.listed i o) lens items items u t mid new) offsets c.put_items.ensures.put in
+    assembled (λ i. g.W.PutBy.listed i s.offsets) items lens pieces s u t old mid new least c.reserve.ensures.as_before.bytes c.reserve.ensures.as_before.notices c.reserve.ensures.places (c.reserve.ensures.filled.laid pieces (length s.bytes) h) put

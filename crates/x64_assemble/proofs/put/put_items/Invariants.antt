@@ -7,6 +7,6 @@ use Rattle.x64_assemble.proofs.put.put_items.Given as goal
 abbrev pub invariant-loop-item : goal.invariant-loop-item
 invariant-loop-item g l = record {
   n : l.n ≡ entries (take l.item-index l.items);
-  put : Put (λ i. g.I.Instruction.meant i (buffer_state l.initial.buffer).offsets) l.lens l.items (take l.item-index l.items) (buffer_state l.initial.buffer) (buffer_state l.buffer) (places_of l.initial.buffer) (places_of l.buffer);
+  put : Put (λ i. g.W.PutBy.listed i (buffer_state l.initial.buffer).offsets) l.lens l.items (take l.item-index l.items) (buffer_state l.initial.buffer) (buffer_state l.buffer) (places_of l.initial.buffer) (places_of l.buffer);
   labels : label_count l.buffer ≡ label_count l.initial.buffer;
 }

@@ -6,7 +6,7 @@ use Rattle.cax64_sink.specs.Sink.{State}
 use Rattle.x64_code_buffer.specs.Buffer.{buffer_state, places_of}
 use Rattle.x64_layout.specs.Layout.{Stands, place_in}
 use Rattle.x64_assemble.specs.Assembled.{JumpReads, distance_in, jump_told, span_of}
-use Rattle.x64_assemble.specs.Putting.{GotEntry}
+use Rattle.x64_assemble.specs.Listed.{GotEntry}
 use Rattle.x64_assemble.proofs.Entries.{far_stands, near_stands, open_len}
 use Rattle.x64_assemble.proofs.Steps.{far_is, given_ok, got_far, got_near, got_open, near_is}
 use Rattle.x64_assemble.proofs.put.put_jump.Goals as goal

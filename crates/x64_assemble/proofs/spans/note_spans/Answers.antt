@@ -1,28 +1,27 @@
 use Rattle.std.proofs.Common.{◌≡◌, ℕ, ◌+◌, ◌<◌, arith, ◌∙◌, ap, sym, subst, All, List, [], ◌∷◌, ◌++◌, length, set, take, append-nil}
-use Rattle.cax64_encoder.specs.Instruction.{len_in}
 use Rattle.x64_code_buffer.specs.Buffer.{buffer_state, label_count, places_of}
 use Rattle.x64_layout.specs.Layout.{IsSpan}
 use Rattle.x64_layout.specs.declared.span.Span.{Span}
 use Rattle.x64_assemble.specs.Assembled.{entries, span_of, spans_of, spot_of}
 use Rattle.x64_assemble.specs.declared.item.Item.{Item}
 use Rattle.x64_assemble.specs.declared.item.Item.TheVariants as item
-use Rattle.x64_assemble.proofs.Entries.{can_encode_all, each_more, entries_next, get_item, inst_span, item_spans, jump_span, noted_more, plain, spans_push, take_next}
+use Rattle.x64_assemble.proofs.Entries.{can_put_all, each_more, entries_next, get_item, inst_span, item_spans, jump_span, noted_more, plain, spans_push, take_next}
 use Rattle.x64_assemble.proofs.Items.{spot_most}
 use Rattle.x64_assemble.proofs.spans.note_spans.Goals as goal
 use Rattle.x64_assemble.proofs.spans.note_spans.Goals.{in-Inst, in-Jump}
 
-pub encoded_len-requires : goal.encoded_len-requires
-encoded_len-requires g c =
+pub len-requires : goal.len-requires
+len-requires g c =
     let items : List (Item g.row.I.Denot) = c.args.items.now in
     let k : ℕ = c.loop-item.item-index in
     let y : Item g.row.I.Denot = item.Inst c.in-Inst.inst in
     let e : c.item-item.result ≡ y = cc in
-    can_encode_all g.I.Instruction.meant (buffer_state c.args.buffer.now) (label_count c.args.buffer.now) (places_of c.args.buffer.now) items c.requires.tested k c.in-Inst.inst (get_item items k c.item-item.result y c.loop-item-test.true c.item-item.is e)
+    can_put_all (λ i. g.W.PutBy.listed i (buffer_state c.args.buffer.now).offsets) (label_count c.args.buffer.now) (places_of c.args.buffer.now) items c.requires.tested k c.in-Inst.inst (get_item items k c.item-item.result y c.loop-item-test.true c.item-item.is e)
 
 pub loop-item-preserved-in-Bind : goal.loop-item-preserved-in-Bind
 loop-item-preserved-in-Bind g c =
     let items : List (Item g.row.I.Denot) = c.args.items.now in
-    let len : g.row.I.Denot → ℕ = λ i. len_in (buffer_state c.args.buffer.now) (g.I.Instruction.meant i) in
+    let len : g.row.I.Denot → ℕ = λ i. (g.W.PutBy.listed i (buffer_state c.args.buffer.now).offsets).len in
     let k : ℕ = c.loop-item.item-index in
     let y : Item g.row.I.Denot = item.Bind c.in-Bind.field-0 in
     let e : c.item-item.result ≡ y = cc in
@@ -39,7 +38,7 @@ loop-item-preserved-in-Bind g c =
 pub loop-item-preserved : goal.loop-item-preserved
 loop-item-preserved g c =
     let items : List (Item g.row.I.Denot) = c.args.items.now in
-    let len : g.row.I.Denot → ℕ = λ i. len_in (buffer_state c.args.buffer.now) (g.I.Instruction.meant i) in
+    let len : g.row.I.Denot → ℕ = λ i. (g.W.PutBy.listed i (buffer_state c.args.buffer.now).offsets).len in
     let k : ℕ = c.loop-item.item-index in
     let x : Item g.row.I.Denot = c.item-item.result in
     let within : k < length items = c.loop-item-test.true in
@@ -50,12 +49,12 @@ loop-item-preserved g c =
     let before : List Span = spans_of len items (take k items) in
     elim c.match-item.branch [
       | in-Inst w ↦
-          let s : Span = plain w.encoded_len.result in
+          let s : Span = plain w.len.result in
           let y : Item g.row.I.Denot = item.Inst w.in-Inst.inst in
           let e : x ≡ y = cc in
-          let as_is : item_spans len items y ≡ s ∷ [] = ap (λ (m : ℕ). plain m ∷ []) (sym w.encoded_len.ensures.value) in
+          let as_is : item_spans len items y ≡ s ∷ [] = ap (λ (m : ℕ). plain m ∷ []) (sym w.len.ensures.value) in
           let next : take (n + 1) (set spans n s) ≡ spans_of len items (take (k + 1) items) = noted_more spans before n s in_spans held.spans ∙ sym (ap (spans_of len items) (take_next items k x y within c.item-item.is e) ∙ spans_push len items (take k items) y ∙ ap (λ (z : List Span). before ++ z) as_is) in
-          let each : All (IsSpan (entries items)) (take (n + 1) (set spans n s)) = each_more (IsSpan (entries items)) spans n s in_spans held.each (inst_span (entries items) w.encoded_len.result w.encoded_len.ensures.most) in
+          let each : All (IsSpan (entries items)) (take (n + 1) (set spans n s)) = each_more (IsSpan (entries items)) spans n s in_spans held.each (inst_span (entries items) w.len.result w.len.ensures.most) in
           record {
             count = omega (arith, held.count, entries_next items k x y within c.item-item.is e);
             most = omega (arith, held.most);

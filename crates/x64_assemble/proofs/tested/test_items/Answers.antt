@@ -1,7 +1,6 @@
 use Rattle.std.proofs.Common.{◌≡◌, ℕ, ◌+◌, ◌<◌, arith, refl, ap, sym, subst, Option, Some, None, List, [], ◌∷◌, ◌++◌, length, take, set, slice_get, below_more}
 use Rattle.std.specs.Prelude.{option_map}
 use Rattle.std.proofs.lemmas.List.{length-set, length-take-le}
-use Rattle.cax64_encoder.specs.Instruction.{fault_in}
 use Rattle.cax64_encoder.specs.declared.fault.Fault.{Fault}
 use Rattle.cax64_sink.specs.declared.DeferredTarget.{DeferredTarget}
 use Rattle.x64_code_buffer.specs.Buffer.{buffer_state, label_count, places_of}
@@ -29,7 +28,7 @@ overflow_add-spot-in-Jump g c =
 pub returns-in-Some-bind_refusal-clause-first : goal.returns-in-Some-bind_refusal-clause-first
 returns-in-Some-bind_refusal-clause-first g c =
     let items : List (Item g.row.I.Denot) = c.args.items.now in
-    let fault : g.row.I.Denot → Option Fault = λ i. fault_in (buffer_state c.args.buffer.now) (g.I.Instruction.meant i) in
+    let fault : g.row.I.Denot → Option Fault = λ i. (g.W.PutBy.listed i (buffer_state c.args.buffer.now).offsets).fault in
     let given : ℕ = label_count c.args.buffer.now in
     let places : DeferredTarget → Option ℕ = places_of c.args.buffer.now in
     let n : ℕ = c.loop-n.n in
@@ -42,7 +41,7 @@ returns-in-Some-bind_refusal-clause-first g c =
 pub loop-n-preserved : goal.loop-n-preserved
 loop-n-preserved g c =
     let items : List (Item g.row.I.Denot) = c.args.items.now in
-    let fault : g.row.I.Denot → Option Fault = λ i. fault_in (buffer_state c.args.buffer.now) (g.I.Instruction.meant i) in
+    let fault : g.row.I.Denot → Option Fault = λ i. (g.W.PutBy.listed i (buffer_state c.args.buffer.now).offsets).fault in
     let given : ℕ = label_count c.args.buffer.now in
     let places : DeferredTarget → Option ℕ = places_of c.args.buffer.now in
     let n : ℕ = c.loop-n.n in
@@ -53,7 +52,7 @@ loop-n-preserved g c =
       | in-Inst+in_default w ↦
           let y : Item g.row.I.Denot = item.Inst w.in-Inst.inst in
           let e : x ≡ y = cc in
-          let none : refusal_at fault given places items n ≡ None = refused_at fault given places items n y None (get_item items n x y within c.index-items-n.is e) (ap (option_map (refusal.Fault n)) (sym w.in_default.ensures.fault)) in
+          let none : refusal_at fault given places items n ≡ None = refused_at fault given places items n y None (get_item items n x y within c.index-items-n.is e) (ap (option_map (refusal.Fault n)) (sym w.in_default.ensures)) in
           let noted : AreBinders (take n items ++ y ∷ []) c.loop-n.binders = noted_inst c.loop-n.binders (take n items) y refl held.binders in
           let next : AreBinders (take (n + 1) items) c.loop-n.binders = subst (λ (z : List (Item g.row.I.Denot)). AreBinders z c.loop-n.binders) (sym (take_next items n x y within c.index-items-n.is e)) noted in
           record {
@@ -96,5 +95,5 @@ loop-n-preserved g c =
 
 pub returns-clause-tested : goal.returns-clause-tested
 returns-clause-tested g c =
-    let fault : g.row.I.Denot → Option Fault = λ i. fault_in (buffer_state c.args.buffer.now) (g.I.Instruction.meant i) in
+    let fault : g.row.I.Denot → Option Fault = λ i. (g.W.PutBy.listed i (buffer_state c.args.buffer.now).offsets).fault in
     all_tested fault (label_count c.args.buffer.now) (places_of c.args.buffer.now) c.args.items.now c.loop-n.n c.loop-n.invariant.tested (search arith)

@@ -1,5 +1,4 @@
 use Rattle.std.proofs.Common.{◌≡◌, ℕ, ◌<◌, ◌≤◌, None, take, length}
-use Rattle.cax64_encoder.specs.Instruction.{fault_in}
 use Rattle.x64_code_buffer.specs.Buffer.{buffer_state, label_count, places_of}
 use Rattle.x64_assemble.specs.Assembled.{entries}
 use Rattle.x64_assemble.specs.Putting.{AreBinders}
@@ -11,5 +10,5 @@ invariant-loop-n g l = record {
   spot : l.spot ≡ entries (take l.n l.items);
   binders : AreBinders (take l.n l.items) l.binders;
   room : label_count l.buffer ≤ length l.binders;
-  tested : (k : ℕ) → k < l.n → refusal_at (λ i. fault_in (buffer_state l.buffer) (g.I.Instruction.meant i)) (label_count l.buffer) (places_of l.buffer) l.items k ≡ None;
+  tested : (k : ℕ) → k < l.n → refusal_at (λ i. (g.W.PutBy.listed i (buffer_state l.buffer).offsets).fault) (label_count l.buffer) (places_of l.buffer) l.items k ≡ None;
 }

@@ -1,29 +1,28 @@
 use Rattle.std.proofs.Common.{◌≡◌, ℕ, arith, rules, List, Option, take, subst}
 use Rattle.std.proofs.lemmas.Grind.{common_steps}
-use Rattle.cax64_encoder.specs.Instruction.{fault_in, len_in}
 use Rattle.cax64_encoder.specs.declared.fault.Fault.{Fault}
 use Rattle.x64_code_buffer.specs.Buffer.{buffer_state, label_count, places_of}
 use Rattle.x64_layout.specs.Layout.{AreSpans}
 use Rattle.x64_layout.specs.declared.span.Span.{Span}
-use Rattle.x64_assemble.proofs.Entries.{are_free, can_encode_all, first_named, spans_are}
-use Rattle.x64_assemble.proofs.assemble.Layout.assemble.Goals as goal
+use Rattle.x64_assemble.proofs.Entries.{are_free, can_put_all, first_named, spans_are}
+use Rattle.x64_assemble.proofs.assemble.Layout.assemble_by.Goals as goal
 
 pub returns-in-Err-clause-first : goal.returns-in-Err-clause-first
 returns-in-Err-clause-first g c =
-    let fault : g.row.I.Denot → Option Fault = λ i. fault_in (buffer_state c.args.buffer.now) (g.I.Instruction.meant i) in
+    let fault : g.row.I.Denot → Option Fault = λ i. (g.W.PutBy.listed i (buffer_state c.args.buffer.now).offsets).fault in
     first_named fault (label_count c.args.buffer.now) (places_of c.args.buffer.now) c.args.items.now c.in-Err.error c.in-Err.ensures.first
 
-pub put_least-requires-clause-encodable : goal.put_least-requires-clause-encodable
-put_least-requires-clause-encodable g c = can_encode_all g.I.Instruction.meant (buffer_state c.args.buffer.now) (label_count c.args.buffer.now) (places_of c.args.buffer.now) c.args.items.now c.in_default.ensures.tested
+pub put_least-requires-clause-can_put : goal.put_least-requires-clause-can_put
+put_least-requires-clause-can_put g c = can_put_all (λ i. g.W.PutBy.listed i (buffer_state c.args.buffer.now).offsets) (label_count c.args.buffer.now) (places_of c.args.buffer.now) c.args.items.now c.in_default.ensures.tested
 
 pub put_least-requires-clause-free : goal.put_least-requires-clause-free
 put_least-requires-clause-free g c =
-    let fault : g.row.I.Denot → Option Fault = λ i. fault_in (buffer_state c.args.buffer.now) (g.I.Instruction.meant i) in
+    let fault : g.row.I.Denot → Option Fault = λ i. (g.W.PutBy.listed i (buffer_state c.args.buffer.now).offsets).fault in
     are_free fault (label_count c.args.buffer.now) (places_of c.args.buffer.now) c.args.items.now c.in_default.ensures.tested
 
 pub put_least-requires-clause-are_spans : goal.put_least-requires-clause-are_spans
 put_least-requires-clause-are_spans g c =
-    let size : g.row.I.Denot → ℕ = λ i. len_in (buffer_state c.args.buffer.now) (g.I.Instruction.meant i) in
+    let size : g.row.I.Denot → ℕ = λ i. (g.W.PutBy.listed i (buffer_state c.args.buffer.now).offsets).len in
     let there : AreSpans (take c.note_spans-count.result c.note_spans-count.new.spans) = spans_are size c.args.items.now (take c.note_spans-count.result c.note_spans-count.new.spans) c.note_spans-count.ensures.spans c.note_spans-count.ensures.each (omega arith) in
     let same : c.note_spans-count.new.spans ≡ c.deref-3.result.now = first_of (cc, search rules, grind (arith, common_steps)) in
     subst (λ (z : List Span). AreSpans (take c.note_spans-count.result z)) same there

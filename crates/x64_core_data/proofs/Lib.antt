@@ -1,0 +1,4 @@
+pub mod Rows
+pub mod Taken
+pub mod Means
+pub mod Undone
