@@ -4,10 +4,11 @@ from itertools import groupby
 
 from core_lines import CORE, CoreGroup, immediate_type, shape_of
 from formatting import CALL_WIDTH, in_order, use
-from rows import hexadecimal, packed
+from rows import hexadecimal, packed, uses_8bit
 
 SPECS = "crates/x64_core/specs/Lines.antt"
 NUMBERS = "crates/x64_core/src/lines.rt"
+HEADS = "crates/x64_core/src/heads.rt"
 SHAPES = "crates/x64_core/src/shapes.rt"
 KIND_LISTS = "crates/x64_core/src/kind_lists.rt"
 KIND_SPANS = "crates/x64_core/src/kind_spans.rt"
@@ -126,6 +127,26 @@ def numbers(rows):
         "];",
     ]
 
+
+def head(line, is_special, is_high):
+    """What stands in front of the tail, by whether a register that may be one of 8 bits has a number of 4 to 7, and whether
+    R, X or B is 1; the layout stands above `HEADS` in heads.rt. A line with VEX has 0, which nobody asks for."""
+    code = line.code
+    if code.vex:
+        return 0
+    rex = 0x40 | (code.w == 1) << 3
+    has_rex = rex != 0x40 or is_high or is_special and uses_8bit(line)
+    held = [*code.legacy_bytes, *([rex] if has_rex else []), *code.opcode_bytes]
+    return int.from_bytes(held, "little") << 16 | 8 * len(code.legacy_bytes) << 8 | len(held)
+
+
+def heads(lines):
+    """Four numbers a line, which the formatter would put one by one."""
+    found = ["#[rattlefmt::skip]", f"const HEADS: [[u64; 4]; {len(lines)}] = ["]
+    for line in lines:
+        numbers = [hexadecimal(head(line, is_special, is_high)) for is_special in (False, True) for is_high in (False, True)]
+        found.append(f"    [{', '.join(numbers)}], // {line.name}")
+    return [*found, "];"]
 
 
 def shapes(lines):
@@ -271,6 +292,7 @@ def write(table, core, sources):
     lines = [*table.rows, *core.lines]
     sources.whole(SPECS, spec(core), CORE)
     sources.part(NUMBERS, "numbers", numbers(lines))
+    sources.part(HEADS, "heads", heads(lines))
     sources.part(SHAPES, "shapes", shapes(lines))
     lists, spans = kinds(lines)
     sources.part(KIND_LISTS, "kinds", lists)

@@ -16,6 +16,7 @@ use Rattle.x64_core.specs.Fits.{core_fits, place_fits}
 use Rattle.x64_core.specs.Refusal.{imm_refusal, refusal, signed_below}
 use Rattle.x64_core.specs.Shape.{has_reg, has_vvvv, imm_field, shape_of}
 use Rattle.x64_core.specs.View.{CoreView, core_view, place_operand, when}
+use Rattle.x64_core.specs.Viewed.{viewed}
 use Rattle.x64_core.specs.declared.instruction.Core.{Core}
 use Rattle.x64_core.specs.declared.place.CorePlace.{CorePlace}
 use Rattle.cax64_sink.specs.declared.DeferredTarget.TheVariants as target
@@ -97,16 +98,16 @@ abbrev given : OpShape → ℕ → CorePlace → HqInst → CoreView
 given s number p i = record { op = number; reg = when (has_reg s.fields) i.reg; vvvv = when (has_vvvv s.fields) i.vvvv; place = place_operand p; imm = word_named s.imm i.imm }
 
 abbrev view_of : OpShape → Core → CoreView
-view_of s c = record { op = c.op.number; reg = when (has_reg s.fields) c.reg; vvvv = when (has_vvvv s.fields) c.vvvv; place = place_operand c.place; imm = option_map imm_value (imm_named (imm_field s.imm) c.imm) }
+view_of s c = record { op = c.op.number; reg = when (has_reg s.fields) c.reg; vvvv = when (has_vvvv s.fields) c.vvvv; place = place_operand (viewed c.place); imm = option_map imm_value (imm_named (imm_field s.imm) c.imm) }
 
 is_view : (c : Core) → core_view c ≡ view_of (shape_of c.op.number) c
-is_view c = view_by c.op (shape_of c.op.number).fields (shape_of c.op.number).imm c.reg c.vvvv c.place c.imm refl refl
+is_view c = view_by c.op (shape_of c.op.number).fields (shape_of c.op.number).imm c.reg c.vvvv (viewed c.place) c.imm refl refl
 
-given_is : (s : OpShape) (c : Core) → core_fits s c.reg c.vvvv c.place c.imm ≡ true → given s c.op.number c.place (plain (view_of s c)) ≡ view_of s c
-given_is s c h = rw (when_back (has_reg s.fields) c.reg, when_back (has_vvvv s.fields) c.vvvv, imm_back s.imm c.imm (word_fits s c.reg c.vvvv c.imm c.place h)) refl
+given_is : (s : OpShape) (c : Core) → core_fits s c.reg c.vvvv (viewed c.place) c.imm ≡ true → given s c.op.number (viewed c.place) (plain (view_of s c)) ≡ view_of s c
+given_is s c h = rw (when_back (has_reg s.fields) c.reg, when_back (has_vvvv s.fields) c.vvvv, imm_back s.imm c.imm (word_fits s c.reg c.vvvv c.imm (viewed c.place) h)) refl
 
-given_core : (c : Core) → given (shape_of c.op.number) c.op.number c.place (plain (core_view c)) ≡ core_view c
-given_core c = ap (λ (v : CoreView). given (shape_of c.op.number) c.op.number c.place (plain v)) (is_view c) ∙ given_is (shape_of c.op.number) c c.shape ∙ sym (is_view c)
+given_core : (c : Core) → given (shape_of c.op.number) c.op.number (viewed c.place) (plain (core_view c)) ≡ core_view c
+given_core c = ap (λ (v : CoreView). given (shape_of c.op.number) c.op.number (viewed c.place) (plain v)) (is_view c) ∙ given_is (shape_of c.op.number) c c.shape ∙ sym (is_view c)
 
 -- a place has nothing where the struct has its own
 
@@ -123,15 +124,15 @@ place_again (Relative (target.Label label)) = refl
 place_again (Relative (target.Constant constant)) = refl
 place_again (Relative target.None) = refl
 
-place_in : (c : Core) (i : HqInst) → plain (core_view c) ≡ i → plain_place (place_operand c.place) ≡ place_of i
+place_in : (c : Core) (i : HqInst) → plain (core_view c) ≡ i → plain_place (place_operand (viewed c.place)) ≡ place_of i
 unfolding again
-place_in c i h = place_again c.place ∙ ap place_of h
+place_in c i h = place_again (viewed c.place) ∙ ap place_of h
 
 given_at : (i : HqInst) (number : ℕ) (q : CorePlace) → number ≡ i.line → ((p : CorePlace) → plain_place (place_operand p) ≡ place_of i → q ≡ p) → (c : Core) → plain (core_view c) ≡ i → given (shape_of number) number q i ≡ core_view c
 given_at i number q n there c h =
-    let place : q ≡ c.place = there c.place (place_in c i h) in
+    let place : q ≡ (viewed c.place) = there (viewed c.place) (place_in c i h) in
     let number_is : number ≡ c.op.number = n ∙ ap (λ (x : HqInst). x.line) (sym h) in
-    ap (λ (m : ℕ). given (shape_of m) m q i) number_is ∙ ap (λ (p : CorePlace). given (shape_of c.op.number) c.op.number p i) place ∙ ap (λ (x : HqInst). given (shape_of c.op.number) c.op.number c.place x) (sym h) ∙ given_core c
+    ap (λ (m : ℕ). given (shape_of m) m q i) number_is ∙ ap (λ (p : CorePlace). given (shape_of c.op.number) c.op.number p i) place ∙ ap (λ (x : HqInst). given (shape_of c.op.number) c.op.number (viewed c.place) x) (sym h) ∙ given_core c
 
 -- what is made of integers is the instruction that has them
 pub given_all : (i : HqInst) (number : ℕ) (q : CorePlace) (pp : HqPlace) (s : OpShape) (b d : Bool) (reg vvvv : Option ℕ) (value : Option ℤ)
@@ -145,17 +146,17 @@ given_all i number q pp s b d reg vvvv value ep es eb ed er ev ei n there c h = 
 abbrev refused : OpShape → CorePlace → HqInst → Option Shape
 refused s p i = refusal s (when (has_reg s.fields) i.reg) (when (has_vvvv s.fields) i.vvvv) p (word_named s.imm i.imm)
 
-taken_view : (s : OpShape) (c : Core) → core_fits s c.reg c.vvvv c.place c.imm ≡ true → refused s c.place (plain (view_of s c)) ≡ None
-taken_view s c h = rw (imm_back s.imm c.imm (word_fits s c.reg c.vvvv c.imm c.place h)) (taken s (or_0 (when (has_reg s.fields) c.reg)) (or_0 (when (has_vvvv s.fields) c.vvvv)) c.reg c.vvvv c.imm c.place h)
+taken_view : (s : OpShape) (c : Core) → core_fits s c.reg c.vvvv (viewed c.place) c.imm ≡ true → refused s (viewed c.place) (plain (view_of s c)) ≡ None
+taken_view s c h = rw (imm_back s.imm c.imm (word_fits s c.reg c.vvvv c.imm (viewed c.place) h)) (taken s (or_0 (when (has_reg s.fields) c.reg)) (or_0 (when (has_vvvv s.fields) c.vvvv)) c.reg c.vvvv c.imm (viewed c.place) h)
 
-taken_core : (c : Core) → refused (shape_of c.op.number) c.place (plain (core_view c)) ≡ None
-taken_core c = ap (λ (v : CoreView). refused (shape_of c.op.number) c.place (plain v)) (is_view c) ∙ taken_view (shape_of c.op.number) c c.shape
+taken_core : (c : Core) → refused (shape_of c.op.number) (viewed c.place) (plain (core_view c)) ≡ None
+taken_core c = ap (λ (v : CoreView). refused (shape_of c.op.number) (viewed c.place) (plain v)) (is_view c) ∙ taken_view (shape_of c.op.number) c c.shape
 
 taken_at : (i : HqInst) (number : ℕ) (q : CorePlace) → number ≡ i.line → ((p : CorePlace) → plain_place (place_operand p) ≡ place_of i → q ≡ p) → (c : Core) → plain (core_view c) ≡ i → refused (shape_of number) q i ≡ None
 taken_at i number q n there c h =
-    let place : q ≡ c.place = there c.place (place_in c i h) in
+    let place : q ≡ (viewed c.place) = there (viewed c.place) (place_in c i h) in
     let number_is : number ≡ c.op.number = n ∙ ap (λ (x : HqInst). x.line) (sym h) in
-    ap (λ (m : ℕ). refused (shape_of m) q i) number_is ∙ ap (λ (p : CorePlace). refused (shape_of c.op.number) p i) place ∙ ap (λ (x : HqInst). refused (shape_of c.op.number) c.place x) (sym h) ∙ taken_core c
+    ap (λ (m : ℕ). refused (shape_of m) q i) number_is ∙ ap (λ (p : CorePlace). refused (shape_of c.op.number) p i) place ∙ ap (λ (x : HqInst). refused (shape_of c.op.number) (viewed c.place) x) (sym h) ∙ taken_core c
 
 pub taken_all : (i : HqInst) (number : ℕ) (q : CorePlace) (pp : HqPlace) (s : OpShape) (b d : Bool) (reg vvvv : Option ℕ) (value : Option ℤ) (why : Shape)
     → pp ≡ place_of i → s ≡ shape_of number → b ≡ has_reg s.fields → d ≡ has_vvvv s.fields → reg ≡ when b i.reg → vvvv ≡ when d i.vvvv → value ≡ word_named s.imm i.imm

@@ -12,10 +12,10 @@ use x64_core::ops::rows::{CMPPS_A, LOCK_ADDQ_MI_SXB, LOCK_CMPXCHG16B_M, MULXQ_RV
 use x64_core::shapes::{OpFields, OpImm, OpShape};
 use x64_core::{Core, CorePlace, Extension};
 
-/// An instruction fits in the 24 bytes that data of a row takes.
+/// An instruction has 24 bytes.
 #[test]
-fn an_instruction_has_20_bytes(rt: HostRuntime) {
-    assert!(rt; size_of::<Core>() == 20);
+fn an_instruction_has_24_bytes(rt: HostRuntime) {
+    assert!(rt; size_of::<Core>() == 24);
 }
 
 /// An immediate of each type: `addb al, 255`; `retq 8`; `addl eax, 0x89ABCDEF`; `pushq -1`; `pushq -2`.

@@ -32,6 +32,7 @@ use Rattle.cax64_operand.specs.Immediate.{imm_size, signed_below}
 use Rattle.cax64_operand.specs.Shape.{imm_fits}
 use Rattle.cax64_sink.specs.Call.{Action}
 use Rattle.cax64_sink.specs.Run.{all_bytes}
+use Rattle.cax64_place.specs.Code.{placed_form}
 use Rattle.cax64_table.specs.Numbers as line
 use Rattle.x64_core.specs.Core.{core_meant, core_len}
 use Rattle.x64_core.specs.Fits.{place_fits}
@@ -39,6 +40,7 @@ use Rattle.x64_core.specs.Form.{core_form}
 use Rattle.x64_core.specs.Line.{core_line}
 use Rattle.x64_core.specs.Shape.{shape_of, has_reg, has_mem, has_rm, imm_field, tail_takes, field_takes}
 use Rattle.x64_core.specs.View.{core_view, place_operand, when}
+use Rattle.x64_core.specs.Viewed.{viewed}
 use Rattle.x64_core.specs.declared.instruction.Core.{Core}
 use Rattle.x64_core.specs.declared.place.CorePlace.{CorePlace}
 use Rattle.x64_core.specs.declared.place.CorePlace.TheVariants.{Absent, Register, Base, BaseAndIndex, Relative}
@@ -47,6 +49,7 @@ use Rattle.x64_core.specs.declared.shapes.OpFields.TheVariants.{Bare, Rm, Mem, R
 use Rattle.x64_core.specs.declared.shapes.OpImm.{OpImm}
 use Rattle.x64_core.specs.declared.shapes.OpImm.TheVariants as imm
 use Rattle.x64_core.proofs.MadeOf.{facts}
+use Rattle.x64_core.proofs.Viewed.{viewed_numbers}
 
 -- What the encoder is given has the line's shape.
 
@@ -157,12 +160,12 @@ imm_sized imm.I32 word = refl
 -- An instruction of the core.
 
 record Parts (c : Core) : Type 0 where
-  place : place_fits (shape_of c.op.number).fields c.place ≡ true
+  place : place_fits (shape_of c.op.number).fields (viewed c.place) ≡ true
   word : nat_lt c.imm (256 ^ imm_bytes (imm_field (shape_of c.op.number).imm)) ≡ true
 
 parts : (c : Core) → Parts c
 parts c =
-    let a = and_parts (place_fits (shape_of c.op.number).fields c.place) _ c.shape in
+    let a = and_parts (place_fits (shape_of c.op.number).fields (viewed c.place)) _ c.shape in
     let b = and_parts (nat_lt c.imm (256 ^ imm_bytes (imm_field (shape_of c.op.number).imm))) _ a.1 in
     record { place = a.0; word = b.0 }
 
@@ -175,7 +178,7 @@ form_fits c =
     let f = facts c.op in
     let p = parts c in
     let imm_h : imm_fits found.imm (imm_named found.imm c.imm) ≡ true = rw f.imm (imm_fit (shape_of c.op.number).imm c.imm p.word) in
-    let tail_h : tail_fits found.tail (option_map Settled (when (line.has_register found.tail) c.reg)) (place_named (numbered_place plain (place_operand c.place))) ≡ true = rw (place_back c.place) (tail_fit found.tail (shape_of c.op.number).fields c.reg c.place f.tail p.place) in
+    let tail_h : tail_fits found.tail (option_map Settled (when (line.has_register found.tail) c.reg)) (place_named (numbered_place plain (place_operand (viewed c.place)))) ≡ true = rw (place_back (viewed c.place)) (tail_fit found.tail (shape_of c.op.number).fields c.reg (viewed c.place) f.tail p.place) in
     three _ _ _ tail_h (vvvv_fit found.prefix c.vvvv) imm_h
 
 pub form_word : (c : Core) → c.imm ≡ optional_imm_word (imm_named (core_line c.op.number).imm c.imm)
@@ -196,16 +199,23 @@ value_when false n = refl
 size_in : (c : Core) → imm_size (imm_named (core_line c.op.number).imm c.imm) ≡ imm_bytes (core_line c.op.number).imm
 size_in c = rw (facts c.op).imm (imm_sized (shape_of c.op.number).imm c.imm)
 
-pub parts_are : (c : Core) (offsets : ℕ → Option ℤ) → line_form_parts plain.enc (core_line c.op.number) (displacement_in offsets (place_operand c.place)) (form_named (core_line c.op.number) (core_form c)) ≡ (core_meant (core_view c) offsets).parts
+pub parts_are : (c : Core) (offsets : ℕ → Option ℤ) → line_form_parts plain.enc (core_line c.op.number) (displacement_in offsets (place_operand (viewed c.place))) (form_named (core_line c.op.number) (core_form c)) ≡ (core_meant (core_view c) offsets).parts
 parts_are c offsets =
-    rw (low_when (line.has_register (core_line c.op.number).tail) c.reg, value_when (line.has_vvvv (core_line c.op.number).prefix) c.vvvv, place_back c.place, size_in c) refl
+    rw (low_when (line.has_register (core_line c.op.number).tail) c.reg, value_when (line.has_vvvv (core_line c.op.number).prefix) c.vvvv, place_back (viewed c.place), size_in c) refl
 
-pub encodes_core : (c : Core) (offsets : ℕ → Option ℤ) (acts : List Action) (found : Line) (given : NumberedForm) (disp : ℤ) → found ≡ core_line c.op.number → given ≡ core_form c → disp ≡ displacement_in offsets (place_operand c.place) → EncodesLine (line_form_parts plain.enc found disp (form_named found given)) (memory_in (place_named given.place)) acts → EncodesLine (core_meant (core_view c) offsets).parts (core_meant (core_view c) offsets).memory acts
-encodes_core c offsets acts found given disp e f d h = rw (parts_are c offsets, place_back c.place) at (rw (e, f, d) at h)
+pub encodes_core : (c : Core) (offsets : ℕ → Option ℤ) (acts : List Action) (found : Line) (given : NumberedForm) (disp : ℤ) → found ≡ core_line c.op.number → given ≡ core_form c → disp ≡ displacement_in offsets (place_operand (viewed c.place)) → EncodesLine (line_form_parts plain.enc found disp (form_named found given)) (memory_in (place_named given.place)) acts → EncodesLine (core_meant (core_view c) offsets).parts (core_meant (core_view c) offsets).memory acts
+encodes_core c offsets acts found given disp e f d h = rw (parts_are c offsets, place_back (viewed c.place)) at (rw (e, f, d) at h)
 
-pub length_core : (c : Core) (offsets : ℕ → Option ℤ) (acts : List Action) (found : Line) (given : NumberedForm) (disp : ℤ) → found ≡ core_line c.op.number → given ≡ core_form c → disp ≡ displacement_in offsets (place_operand c.place) → length (all_bytes acts) ≡ line_len found (line_form_parts plain.enc found disp (form_named found given)) → length (all_bytes acts) ≡ core_len offsets (core_view c)
+pub length_core : (c : Core) (offsets : ℕ → Option ℤ) (acts : List Action) (found : Line) (given : NumberedForm) (disp : ℤ) → found ≡ core_line c.op.number → given ≡ core_form c → disp ≡ displacement_in offsets (place_operand (viewed c.place)) → length (all_bytes acts) ≡ line_len found (line_form_parts plain.enc found disp (form_named found given)) → length (all_bytes acts) ≡ core_len offsets (core_view c)
 length_core c offsets acts found given disp e f d h =
     (rw (e, f, d) at h) ∙ ap (λ (p : PartsOf Line). line_len (core_line c.op.number) p) (parts_are c offsets)
+
+-- what is given to the encoder is its form
+placed_is : (c : Core) → placed_form (core_line c.op.number) c.reg c.vvvv c.place c.imm ≡ core_form c
+placed_is c = rw (viewed_numbers c.place) refl
+
+pub given_is : (c : Core) (found : Line) → found ≡ core_line c.op.number → placed_form found c.reg c.vvvv c.place c.imm ≡ core_form c
+given_is c found e = rw e (placed_is c)
 
 -- The same of what is equal to its line and its form.
 

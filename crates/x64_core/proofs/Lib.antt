@@ -1,5 +1,6 @@
 pub mod Table
 pub mod MadeOf
+pub mod Viewed
 pub mod Forms
 pub mod Reals
 pub mod Runs

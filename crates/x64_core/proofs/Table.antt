@@ -1,16 +1,18 @@
 use Rattle.std.proofs.Common.{◌≡◌, ℕ, zero, suc, ◌+◌, ◌<◌, refl, sym, ap, ◌∙◌, true, List, [], ◌∷◌, length, slice_index, slice_index_or, arith}
-use Rattle.std.specs.Prelude.{map, nat_lt, nat_le}
-use Rattle.std.proofs.lemmas.Bool.{agree_below, agree_below_at}
+use Rattle.std.specs.Prelude.{Bool, false, map, nat_lt, nat_le, ◌&&◌}
+use Rattle.std.proofs.lemmas.Bool.{agree_below, agree_below_at, and_parts}
 use Rattle.std.proofs.lemmas.Bool.Decides.{nat_tests}
 use Rattle.cax64_machine_code.specs.Apart.{each_two}
 use Rattle.cax64_machine_code.specs.Rows.{line_of, all_rows}
 use Rattle.cax64_machine_code.specs.declared.line.Line.{Line}
+use Rattle.cax64_place.specs.Heads.{are_heads}
 use Rattle.cax64_table.specs.Entry.{is_entry}
 use Rattle.cax64_table.specs.Packed.{unpacked}
 use Rattle.x64_core.specs.Lines.{core_lines, arithmetic_lines, moves_lines, multiplication_lines, shifts_lines, conditions_lines, control_lines, bits_lines, scalar_lines}
 use Rattle.x64_core.specs.Line.{core_line, no_line}
 use Rattle.x64_core.specs.Kinds.{kinds_fit, kinds_of, span_of}
 use Rattle.x64_core.specs.Shape.{has_shape, shape_of}
+use Rattle.x64_core.specs.declared.heads.TheConstants.{HEADS}
 use Rattle.x64_core.specs.declared.kind_lists.TheConstants.{KINDS}
 use Rattle.x64_core.specs.declared.lines.TheConstants.{COUNT, NUMBERS}
 use Rattle.x64_core.specs.declared.op.Op.{Op}
@@ -39,6 +41,30 @@ mapped (x ∷ xs) (suc n) h = mapped xs n (omega (arith, h))
 
 pub line_is : (n : ℕ) → n < COUNT → unpacked (slice_index NUMBERS n) ≡ core_line n
 line_is n h = sym (mapped NUMBERS n h) ∙ ap (λ (lines : List Line). slice_index_or lines n no_line) numbers_are
+
+-- each line's heads stand beside its number
+
+abbrev every : List Line → List (List ℕ) → Bool
+every [] heads = true
+every (line ∷ lines) [] = false
+every (line ∷ lines) (four ∷ heads) = are_heads line four && every lines heads
+
+every_at : (lines : List Line) (heads : List (List ℕ)) (n : ℕ) → every lines heads ≡ true → n < length lines → are_heads (slice_index_or lines n no_line) (slice_index_or heads n []) ≡ true
+every_at [] heads n h l = absurd (omega (arith, l))
+every_at (line ∷ lines) [] n h l = cc
+every_at (line ∷ lines) (four ∷ heads) zero h l = (and_parts (are_heads line four) (every lines heads) h).0
+every_at (line ∷ lines) (four ∷ heads) (suc n) h l = every_at lines heads n (and_parts (are_heads line four) (every lines heads) h).1 (omega (arith, l))
+
+heads_are : every core_lines HEADS ≡ true
+unfolding core_lines arithmetic_lines moves_lines multiplication_lines shifts_lines conditions_lines control_lines bits_lines scalar_lines line_of all_rows are_heads
+heads_are = refl
+
+so_many : length core_lines ≡ COUNT
+unfolding core_lines arithmetic_lines moves_lines multiplication_lines shifts_lines conditions_lines control_lines bits_lines scalar_lines all_rows
+so_many = refl
+
+pub heads_is : (n : ℕ) → n < COUNT → are_heads (core_line n) (slice_index_or HEADS n []) ≡ true
+heads_is n h = every_at core_lines HEADS n heads_are (omega (arith, so_many, h))
 
 -- each line takes the operands that stand beside its number
 shapes_are : agree_below (λ n. has_shape (core_line n) (shape_of n)) (λ _. true) COUNT ≡ true

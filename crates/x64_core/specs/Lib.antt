@@ -1,6 +1,7 @@
 -- What the clauses of public functions say.
 pub mod Lines
 pub mod Line
+pub mod Viewed
 pub mod View
 pub mod Core
 pub mod Shape

@@ -7,6 +7,7 @@ use Rattle.cax64_encoder.specs.declared.role.PlaceOperand.{PlaceOperand}
 use Rattle.cax64_operand.specs.Immediate.{imm_value}
 use Rattle.cax64_table.specs.Numbers.{has_register, has_vvvv}
 use Rattle.x64_core.specs.Line.{core_line}
+use Rattle.x64_core.specs.Viewed.{viewed}
 use Rattle.x64_core.specs.declared.instruction.Core.{Core}
 use Rattle.x64_core.specs.declared.place.CorePlace.{CorePlace}
 use Rattle.x64_core.specs.declared.place.CorePlace.TheVariants.{Absent, Register, Base, BaseAndIndex, Relative}
@@ -38,6 +39,6 @@ core_view c = record {
   op = c.op.number;
   reg = when (has_register (core_line c.op.number).tail) c.reg;
   vvvv = when (has_vvvv (core_line c.op.number).prefix) c.vvvv;
-  place = place_operand c.place;
+  place = place_operand (viewed c.place);
   imm = option_map imm_value (imm_named (core_line c.op.number).imm c.imm);
 }

@@ -16,8 +16,8 @@ ghost use Rattle.x64_core.specs.View.{core_view};
 use crate::faults::plain_fault;
 use crate::instruction::Core;
 use cax64_encoder::code::Code;
-use cax64_encoder::encoder::code_of_entry;
 use cax64_encoder::{EncodeError, Fault, RoomNeeded};
+use cax64_place::code_of;
 use cax64_sink::{CodeSink, SinkError};
 
 impl Core {
@@ -55,19 +55,32 @@ impl Core {
             }
             at += 1;
         }
-        self.place.fault(at)
+        self.place().fault(at)
+    }
+
+    /// The fault, looked for register by register, which is seldom done.
+    #[cold]
+    #[inline(never)]
+    fn found_fault<S: CodeSink>(&self, sink: &S) -> Option<Fault>
+        ensures { result ≡ fault_of (S.state sink.now).offsets (core_view self.now) }
+    {
+        match self.register_fault() {
+            Some(fault) => Some(fault),
+            None => self.place().late_fault(sink),
+        }
     }
 
     /// Why the instruction can't be encoded for this sink: the first register that isn't as it has to be, counted from 0 in
     /// the order reg, vvvv, base, index, or else the late offset. `None` where it can.
+    #[inline(always)]
     pub fn first_fault<S: CodeSink>(&self, sink: &S) -> Option<Fault>
         ensures fault { result ≡ fault_of (S.state sink.now).offsets (core_view self.now) }
         ensures none { (result ≡ None) ↔ IsTrue (is_encodable (S.state sink.now).offsets (core_view self.now)) }
     {
-        match self.register_fault() {
-            Some(fault) => Some(fault),
-            None => self.place.late_fault(sink),
+        if self.is_encodable(sink) {
+            return None;
         }
+        self.found_fault(sink)
     }
 
     /// The code of an instruction that can be encoded for this sink.
@@ -79,7 +92,15 @@ impl Core {
         ensures is { IsCode result }
     {
         let displacement = self.place.displacement(sink);
-        code_of_entry(self.op.entry(), &self.form(), displacement)
+        code_of(
+            self.op.entry(),
+            self.op.heads(),
+            self.reg,
+            self.vvvv,
+            &self.place,
+            self.imm,
+            displacement,
+        )
     }
 
     /// The number of bytes that `encode` adds, 1 to 13.
@@ -124,6 +145,7 @@ impl Core {
     /// The instruction has to be encodable for the sink, as [`is_encodable`](Self::is_encodable) tells. Where it isn't,
     /// a build that wasn't proved may put a wrong instruction and answer Ok, or abort.
     /// [`encode_checked`](Self::encode_checked) tests first, and has no condition.
+    #[inline(always)]
     pub fn encode<S: CodeSink>(&self, sink: &mut S) -> Result<(), SinkError>
         requires { IsTrue (is_encodable (S.state sink.old).offsets (core_view self.now)) }
         ensures adds { OnOk result (AddsCore (core_view self.now) (S.state sink.old) (S.state sink.new)) }
@@ -144,6 +166,7 @@ impl Core {
     /// Tests the instruction and puts it: what `first_fault` gives, and where that is `None` what `encode` does.
     ///
     /// At a fault nothing is put or told, and the sink is as before. A refusal of the sink leaves what `encode` leaves.
+    #[inline(always)]
     pub fn encode_checked<S: CodeSink>(&self, sink: &mut S) -> Result<(), EncodeError>
         ensures fault { fault_found result ≡ fault_of (S.state sink.old).offsets (core_view self.now) }
         ensures unchanged { OnFault result (sink.new ≡ sink.old) }

@@ -3,16 +3,18 @@
 ghost use Rattle.std.specs.Prelude.{◌≡◌, true};
 ghost use Rattle.x64_core.specs.Fits.{core_fits};
 ghost use Rattle.x64_core.specs.Shape.{shape_of};
+ghost use Rattle.x64_core.specs.Viewed.{viewed};
 
 use crate::op::Op;
 use crate::place::CorePlace;
-use cax64_encoder::numbered::NumberedForm;
+use cax64_place::DataPlace;
 
 /// An instruction of the core: its line, and each number where it stands in the bytes. Registers are numbers, of which
 /// those from 16 up are virtual. A register that the line fixes isn't held: the line has it.
 #[derive(Clone, Copy, Debug, PartialEq)]
 pub struct Core {
-    pub(crate) place: CorePlace,
+    /// Flat, so that what is asked of it takes no branch on what it is.
+    pub(crate) place: DataPlace,
     /// The bytes of the immediate as one word, the first one the lowest; 0 where there is none.
     pub(crate) imm: u32,
     pub(crate) op: Op,
@@ -20,11 +22,10 @@ pub struct Core {
     pub(crate) reg: u8,
     /// 0 where nothing stands in vvvv.
     pub(crate) vvvv: u8,
-    ghost shape: { core_fits (shape_of op.number) reg vvvv place imm ≡ true },
+    ghost shape: { core_fits (shape_of op.number) reg vvvv (viewed place) imm ≡ true },
 }
 
 impl Core {
-    ghost use Rattle.x64_core.specs.Form.{core_form};
     ghost use Rattle.x64_core.specs.View.{core_view, place_operand};
 
     /// Its line.
@@ -62,19 +63,6 @@ impl Core {
     pub fn place(&self) -> CorePlace
         ensures { place_operand result ≡ (core_view self.now).place }
     {
-        self.place
-    }
-
-    /// What the encoder is given.
-    #[inline(always)]
-    pub(crate) fn form(&self) -> NumberedForm
-        ensures { result ≡ core_form self.now }
-    {
-        NumberedForm {
-            reg: self.reg(),
-            vvvv: self.vvvv(),
-            place: self.place.numbered(),
-            imm: self.imm,
-        }
+        CorePlace::of_numbers(&self.place)
     }
 }

@@ -8,6 +8,7 @@
 pub mod encode;
 pub mod extension;
 mod faults;
+mod heads;
 pub mod immediate;
 pub mod instruction;
 mod kind_lists;

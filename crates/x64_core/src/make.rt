@@ -115,7 +115,7 @@ impl Core {
         }
         let word = imm_word(shape.imm, imm)?;
         Ok(Core {
-            place,
+            place: place.numbers(),
             imm: word,
             op,
             reg: reg.unwrap_or(0),

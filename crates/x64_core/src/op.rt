@@ -1,11 +1,13 @@
 //! A line of the core, by its number.
 
 ghost use Rattle.std.specs.Prelude.{◌≡◌, ◌≤◌, ◌<◌, true, IfNone, IfSome, nat_lt};
+ghost use Rattle.cax64_place.specs.Heads.{are_heads};
 ghost use Rattle.cax64_table.specs.EntryLine.{entry_line};
 ghost use Rattle.x64_core.specs.Line.{core_line};
 ghost use Rattle.x64_core.specs.Shape.{shape_of};
 ghost use Rattle.x64_core.specs.declared.lines.TheConstants.{COUNT};
 
+use crate::heads::heads;
 use crate::lines::{COUNT, entry};
 use crate::shapes::{OpShape, shape};
 use cax64_table::entry::Entry;
@@ -51,5 +53,12 @@ impl Op {
         ensures { entry_line result ≡ core_line self.number }
     {
         entry(self.number)
+    }
+
+    #[inline(always)]
+    pub(crate) fn heads(self) -> &'static [u64; 4]
+        ensures { are_heads (core_line self.number) result.now ≡ true }
+    {
+        heads(self.number)
     }
 }

@@ -1,21 +1,20 @@
 //! The place of an instruction of the core: a register, memory, or nothing.
 
-ghost use Rattle.std.specs.Prelude.{◌≡◌, ◌<◌, IsTrue, slice_index};
+ghost use Rattle.std.specs.Prelude.{◌≡◌, ◌<◌};
 ghost use Rattle.cax64_address.specs.declared.amode.Amode.{Amode};
-ghost use Rattle.cax64_encoder.specs.Fault.{first_unmet, late_fault, late_offset_fits};
-ghost use Rattle.cax64_encoder.specs.Numbered.{numbered_place, plain};
-ghost use Rattle.cax64_encoder.specs.Place.{displacement_in, memory_in};
-ghost use Rattle.cax64_encoder.specs.Real.{place_is_real};
-ghost use Rattle.cax64_encoder.specs.Notices.{memory_notices};
+ghost use Rattle.cax64_encoder.specs.Fault.{first_unmet, late_fault};
+ghost use Rattle.cax64_encoder.specs.Place.{memory_in};
 ghost use Rattle.cax64_encoder.specs.declared.role.PlaceOperand.TheVariants.{Memory};
+ghost use Rattle.x64_core.specs.Viewed.{viewed};
+ghost use Rattle.x64_core.specs.declared.place.CorePlace.TheVariants.{Relative};
 
 use crate::faults::{index_fault, offset_fault, plain_fault};
 use cax64_address::amode::{Amode, Scale};
-use cax64_address::offset::{AmodeOffset, AmodeOffsetPlusKnownOffset};
+use cax64_address::offset::AmodeOffset;
 use cax64_encoder::Fault;
-use cax64_encoder::numbered::NumberedPlace;
+use cax64_place::{DataPlace, PlaceKind};
 use cax64_register::gpr;
-use cax64_sink::{CodeSink, DeferredTarget, KnownOffset, TrapCode};
+use cax64_sink::{CodeSink, Constant, DeferredTarget, KnownOffset, Label, TrapCode};
 
 /// What stands in the rest of the tail, by numbers. (Intel SDM, volume 1, 3.7.5.)
 #[derive(Clone, Copy, Debug, PartialEq)]
@@ -43,12 +42,48 @@ pub enum CorePlace {
     Relative(DeferredTarget),
 }
 
+/// The numbers of a place relative to the end.
+#[inline(always)]
+fn relative(target: DeferredTarget) -> DataPlace
+    ensures { viewed result ≡ Relative target }
+{
+    match target {
+        DeferredTarget::Label(Label(number)) => DataPlace {
+            kind: PlaceKind::Label,
+            base: 0,
+            index: 0,
+            scale: Scale::One,
+            trap: None,
+            offset: None,
+            displacement: AmodeOffset::ZERO,
+            target: number,
+        },
+        DeferredTarget::Constant(Constant(number)) => DataPlace {
+            kind: PlaceKind::Constant,
+            base: 0,
+            index: 0,
+            scale: Scale::One,
+            trap: None,
+            offset: None,
+            displacement: AmodeOffset::ZERO,
+            target: number,
+        },
+        DeferredTarget::None => DataPlace {
+            kind: PlaceKind::NoTarget,
+            base: 0,
+            index: 0,
+            scale: Scale::One,
+            trap: None,
+            offset: None,
+            displacement: AmodeOffset::ZERO,
+            target: 0,
+        },
+    }
+}
+
 impl CorePlace {
     ghost use Rattle.x64_core.specs.Core.{place_visited};
-    ghost use Rattle.x64_core.specs.Fits.{place_fits};
-    ghost use Rattle.x64_core.specs.Rename.{renamed_place};
     ghost use Rattle.x64_core.specs.View.{place_operand};
-    ghost use Rattle.x64_core.specs.declared.shapes.OpFields.{OpFields};
 
     /// Memory of this address.
     #[inline(always)]
@@ -79,138 +114,93 @@ impl CorePlace {
         }
     }
 
-    /// A place of which nothing is there yet.
+    /// The place that these numbers are.
     #[inline(always)]
-    fn nothing() -> NumberedPlace
-        ensures { result ≡ numbered_place plain (place_operand CorePlace.Absent) }
+    pub(crate) fn of_numbers(place: &DataPlace) -> CorePlace
+        ensures { result ≡ viewed place.now }
     {
-        NumberedPlace {
-            stands: false,
-            is_register: false,
-            has_index: false,
-            relative: None,
-            base: 0,
-            index: 0,
-            register: 0,
-            scale: Scale::One,
-            displacement: AmodeOffsetPlusKnownOffset::ZERO,
-            trap: None,
+        match place.kind {
+            PlaceKind::Absent => CorePlace::Absent,
+            PlaceKind::Register => CorePlace::Register(place.base),
+            PlaceKind::Base => CorePlace::Base {
+                base: place.base,
+                trap: place.trap,
+                offset: place.offset,
+                displacement: place.displacement,
+            },
+            PlaceKind::BaseAndIndex => CorePlace::BaseAndIndex {
+                base: place.base,
+                index: place.index,
+                scale: place.scale,
+                trap: place.trap,
+                displacement: place.displacement,
+            },
+            PlaceKind::Label => CorePlace::Relative(DeferredTarget::Label(Label(place.target))),
+            PlaceKind::Constant => {
+                CorePlace::Relative(DeferredTarget::Constant(Constant(place.target)))
+            }
+            PlaceKind::NoTarget => CorePlace::Relative(DeferredTarget::None),
         }
     }
 
-    /// The numbers, as the encoder takes them.
+    /// Its numbers.
     #[inline(always)]
-    pub(crate) fn numbered(&self) -> NumberedPlace
-        ensures { result ≡ numbered_place plain (place_operand self.now) }
+    pub(crate) fn numbers(&self) -> DataPlace
+        ensures { viewed result ≡ self.now }
     {
-        let mut numbers = CorePlace::nothing();
-        numbers.stands = !matches!(self, CorePlace::Absent);
         match *self {
-            CorePlace::Absent => {}
-            CorePlace::Register(number) => {
-                numbers.is_register = true;
-                numbers.base = number;
-                numbers.register = number;
-            }
+            CorePlace::Absent => DataPlace {
+                kind: PlaceKind::Absent,
+                base: 0,
+                index: 0,
+                scale: Scale::One,
+                trap: None,
+                offset: None,
+                displacement: AmodeOffset::ZERO,
+                target: 0,
+            },
+            CorePlace::Register(number) => DataPlace {
+                kind: PlaceKind::Register,
+                base: number,
+                index: 0,
+                scale: Scale::One,
+                trap: None,
+                offset: None,
+                displacement: AmodeOffset::ZERO,
+                target: 0,
+            },
             CorePlace::Base {
                 base,
                 trap,
                 offset,
                 displacement,
-            } => {
-                numbers.base = base;
-                numbers.index = gpr::enc::RSP;
-                numbers.displacement = AmodeOffsetPlusKnownOffset {
-                    simm32: displacement,
-                    offset,
-                };
-                numbers.trap = trap;
-            }
+            } => DataPlace {
+                kind: PlaceKind::Base,
+                base,
+                index: gpr::enc::RSP,
+                scale: Scale::One,
+                trap,
+                offset,
+                displacement,
+                target: 0,
+            },
             CorePlace::BaseAndIndex {
                 base,
                 index,
                 scale,
                 trap,
                 displacement,
-            } => {
-                numbers.has_index = true;
-                numbers.base = base;
-                numbers.index = index;
-                numbers.scale = scale;
-                numbers.displacement.simm32 = displacement;
-                numbers.trap = trap;
-            }
-            CorePlace::Relative(target) => numbers.relative = Some(target),
-        }
-        numbers
-    }
-
-    /// Whether each register is below 16, and an index isn't the stack pointer.
-    #[inline(always)]
-    pub(crate) fn is_met(&self) -> bool
-        ensures { result ≡ place_is_real plain.settled plain.enc (place_operand self.now) }
-    {
-        match *self {
-            CorePlace::Absent | CorePlace::Relative(_) => true,
-            CorePlace::Register(number) => number < 16,
-            CorePlace::Base { base, .. } => base < 16,
-            CorePlace::BaseAndIndex { base, index, .. } => {
-                (base < 16) & ((index < 16) & (index != gpr::enc::RSP))
-            }
-        }
-    }
-
-    /// Whether the late offset is absent, or known to the sink with a sum that is an `i32`.
-    #[inline(always)]
-    pub(crate) fn offset_fits<S: CodeSink>(&self, sink: &S) -> bool
-        ensures { result ≡ late_offset_fits (S.state sink.now).offsets (memory_in (place_operand self.now)) }
-    {
-        match *self {
-            CorePlace::Base {
-                offset,
+            } => DataPlace {
+                kind: PlaceKind::BaseAndIndex,
+                base,
+                index,
+                scale,
+                trap,
+                offset: None,
                 displacement,
-                ..
-            } => AmodeOffsetPlusKnownOffset {
-                simm32: displacement,
-                offset,
-            }
-            .fits(sink),
-            _ => true,
-        }
-    }
-
-    /// The displacement in bytes, with the late offset added; 0 where there is none.
-    #[inline(always)]
-    pub(crate) fn displacement<S: CodeSink>(&self, sink: &S) -> i32
-        requires { IsTrue (late_offset_fits (S.state sink.now).offsets (memory_in (place_operand self.now))) }
-        ensures { result ≡ displacement_in (S.state sink.now).offsets (place_operand self.now) }
-    {
-        match *self {
-            CorePlace::Absent | CorePlace::Register(_) | CorePlace::Relative(_) => 0,
-            CorePlace::Base {
-                offset,
-                displacement,
-                ..
-            } => AmodeOffsetPlusKnownOffset {
-                simm32: displacement,
-                offset,
-            }
-            .value(sink),
-            CorePlace::BaseAndIndex { displacement, .. } => displacement.value(),
-        }
-    }
-
-    /// How many notices an instruction with this place has: of a trap, or of a target.
-    #[inline(always)]
-    pub(crate) fn notice_count(&self) -> u8
-        ensures { result ≡ memory_notices (memory_in (place_operand self.now)) }
-    {
-        match *self {
-            CorePlace::Absent | CorePlace::Register(_) => 0,
-            CorePlace::Base { trap, .. } | CorePlace::BaseAndIndex { trap, .. } => {
-                u8::from(trap.is_some())
-            }
-            CorePlace::Relative(_) => 1,
+                target: 0,
+            },
+            CorePlace::Relative(target) => relative(target),
         }
     }
 
@@ -244,43 +234,6 @@ impl CorePlace {
                 ..
             } => offset_fault(offset, displacement, sink),
             _ => None,
-        }
-    }
-
-    /// With others in the place of its registers, each by its number in this table.
-    #[inline(always)]
-    pub(crate) fn renamed(&self, homes: &[u8; 256]) -> CorePlace
-        ensures operand { place_operand result ≡ renamed_place (slice_index homes.now) (place_operand self.now) }
-        ensures fits { (fields : OpFields) → place_fits fields result ≡ place_fits fields self.now }
-    {
-        match *self {
-            CorePlace::Absent => CorePlace::Absent,
-            CorePlace::Register(number) => CorePlace::Register(homes[usize::from(number)]),
-            CorePlace::Base {
-                base,
-                trap,
-                offset,
-                displacement,
-            } => CorePlace::Base {
-                base: homes[usize::from(base)],
-                trap,
-                offset,
-                displacement,
-            },
-            CorePlace::BaseAndIndex {
-                base,
-                index,
-                scale,
-                trap,
-                displacement,
-            } => CorePlace::BaseAndIndex {
-                base: homes[usize::from(base)],
-                index: homes[usize::from(index)],
-                scale,
-                trap,
-                displacement,
-            },
-            CorePlace::Relative(target) => CorePlace::Relative(target),
         }
     }
 }

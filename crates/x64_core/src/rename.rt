@@ -1,22 +1,11 @@
 //! Other registers in an instruction of the core.
 
 ghost use Rattle.std.specs.Prelude.{◌≡◌, slice_index};
-ghost use Rattle.x64_core.specs.Rename.{home_if, renamed};
+ghost use Rattle.x64_core.specs.Rename.{renamed};
 ghost use Rattle.x64_core.specs.View.{core_view};
 
 use crate::instruction::Core;
-
-/// The number that a table gives for a register, where there is one.
-#[inline(always)]
-fn home_if(present: bool, homes: &[u8; 256], reg: u8) -> u8
-    ensures { result ≡ home_if present homes.now reg }
-{
-    if present {
-        homes[usize::from(reg)]
-    } else {
-        reg
-    }
-}
+use cax64_place::place::home_if;
 
 impl Core {
     /// Puts others in the place of all its registers, each by its number in this table. All else stays.
@@ -25,8 +14,10 @@ impl Core {
         ensures { core_view self.new ≡ renamed (slice_index homes.now) (core_view self.old) }
     {
         let fields = self.op.shape().fields;
+        let mut place = self.place;
+        place.rename(homes);
         *self = Core {
-            place: self.place.renamed(homes),
+            place,
             imm: self.imm,
             op: self.op,
             reg: home_if(fields.has_reg(), homes, self.reg),

@@ -32,6 +32,7 @@ use Rattle.x64_core.specs.Refusal as lines
 use Rattle.x64_core.specs.Refusal.{imm_refusal, refusal}
 use Rattle.x64_core.specs.Shape.{shape_of, has_reg, has_mem, imm_field, field_takes, tail_takes}
 use Rattle.x64_core.specs.View.{core_view, place_operand, when}
+use Rattle.x64_core.specs.Viewed.{viewed}
 use Rattle.x64_core.specs.declared.instruction.Core.{Core}
 use Rattle.x64_core.specs.declared.op.Op.{Op}
 use Rattle.x64_core.specs.declared.place.CorePlace.{CorePlace}
@@ -164,16 +165,16 @@ word_fits imm.I32 word h = h
 
 word_of : (c : Core) → nat_lt c.imm (256 ^ imm_bytes (imm_field (shape_of c.op.number).imm)) ≡ true
 word_of c =
-    let a = and_parts (place_fits (shape_of c.op.number).fields c.place) _ c.shape in
+    let a = and_parts (place_fits (shape_of c.op.number).fields (viewed c.place)) _ c.shape in
     (and_parts (nat_lt c.imm (256 ^ imm_bytes (imm_field (shape_of c.op.number).imm))) _ a.1).0
 
 four_true : (a b c d : Bool) → a ≡ true → b ≡ true → c ≡ true → d ≡ true → (a && (b && (c && d))) ≡ true
 four_true a b c d e f g h = rw (e, f, g, h) refl
 
-place_held : (c : Core) → place_taken (core_line c.op.number).tail (place_operand c.place) ≡ true
+place_held : (c : Core) → place_taken (core_line c.op.number).tail (place_operand (viewed c.place)) ≡ true
 place_held c =
-    let h = and_parts (tail_fits (core_line c.op.number).tail (option_map Settled (when (line.has_register (core_line c.op.number).tail) c.reg)) (place_named (numbered_place plain (place_operand c.place)))) _ (form_fits c) in
-    tail_taken (core_line c.op.number).tail _ (place_operand c.place) (rw (place_back c.place) at h.0)
+    let h = and_parts (tail_fits (core_line c.op.number).tail (option_map Settled (when (line.has_register (core_line c.op.number).tail) c.reg)) (place_named (numbered_place plain (place_operand (viewed c.place))))) _ (form_fits c) in
+    tail_taken (core_line c.op.number).tail _ (place_operand (viewed c.place)) (rw (place_back (viewed c.place)) at h.0)
 
 imm_held : (c : Core) → imm_given (core_line c.op.number).imm (core_view c).imm ≡ true
 imm_held c =

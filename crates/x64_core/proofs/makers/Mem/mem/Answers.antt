@@ -5,7 +5,7 @@ use Rattle.x64_core.proofs.MadeOf.{fits_by, view_by, mem_fits}
 use Rattle.x64_core.proofs.makers.Mem.mem.Goals as goal
 
 pub invariant_of-result : goal.invariant_of-result
-invariant_of-result c = record { shape = fits_by _ Mem None 0 0 c.of_amode.result 0 c.args.self.fields c.args.self.imm (rw (mem_fits Mem c.of_amode.result _ refl c.of_amode.ensures) refl) }
+invariant_of-result c = record { shape = rw c.numbers.ensures (fits_by _ Mem None 0 0 c.of_amode.result 0 c.args.self.fields c.args.self.imm (rw (mem_fits Mem c.of_amode.result _ refl c.of_amode.ensures) refl)) }
 
 pub returns : goal.returns
-returns c = view_by c.args.self.op Mem None 0 0 c.of_amode.result 0 c.args.self.fields c.args.self.imm ∙ rw (c.of_amode.ensures) refl
+returns c = rw c.numbers.ensures (view_by c.args.self.op Mem None 0 0 c.of_amode.result 0 c.args.self.fields c.args.self.imm ∙ rw (c.of_amode.ensures) refl)

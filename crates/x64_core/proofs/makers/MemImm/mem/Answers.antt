@@ -4,7 +4,7 @@ use Rattle.x64_core.proofs.MadeOf.{fits_by, view_by, mem_fits}
 use Rattle.x64_core.proofs.makers.MemImm.mem.Goals as goal
 
 pub invariant_of-result : goal.invariant_of-result
-invariant_of-result g c = record { shape = fits_by _ Mem g.I.CoreImm.kind 0 0 c.of_amode.result c.word.result c.args.self.fields c.args.self.imm (rw (mem_fits Mem c.of_amode.result _ refl c.of_amode.ensures, c.word.ensures.fits) refl) }
+invariant_of-result g c = record { shape = rw c.numbers.ensures (fits_by _ Mem g.I.CoreImm.kind 0 0 c.of_amode.result c.word.result c.args.self.fields c.args.self.imm (rw (mem_fits Mem c.of_amode.result _ refl c.of_amode.ensures, c.word.ensures.fits) refl)) }
 
 pub returns : goal.returns
-returns g c = view_by c.args.self.op Mem g.I.CoreImm.kind 0 0 c.of_amode.result c.word.result c.args.self.fields c.args.self.imm ∙ rw (c.of_amode.ensures, c.word.ensures.value) refl
+returns g c = rw c.numbers.ensures (view_by c.args.self.op Mem g.I.CoreImm.kind 0 0 c.of_amode.result c.word.result c.args.self.fields c.args.self.imm ∙ rw (c.of_amode.ensures, c.word.ensures.value) refl)

@@ -5,7 +5,7 @@ use Rattle.x64_core.proofs.MadeOf.{fits_by, view_by}
 use Rattle.x64_core.proofs.makers.RegVvvvRmImm.regs.Goals as goal
 
 pub invariant_of-result : goal.invariant_of-result
-invariant_of-result g c = record { shape = fits_by _ RegVvvvRm g.I.CoreImm.kind c.args.reg c.args.vvvv (Register c.args.rm) c.word.result c.args.self.fields c.args.self.imm (rw c.word.ensures.fits refl) }
+invariant_of-result g c = record { shape = rw c.numbers.ensures (fits_by _ RegVvvvRm g.I.CoreImm.kind c.args.reg c.args.vvvv (Register c.args.rm) c.word.result c.args.self.fields c.args.self.imm (rw c.word.ensures.fits refl)) }
 
 pub returns : goal.returns
-returns g c = rw c.word.ensures.value at (view_by c.args.self.op RegVvvvRm g.I.CoreImm.kind c.args.reg c.args.vvvv (Register c.args.rm) c.word.result c.args.self.fields c.args.self.imm)
+returns g c = rw c.numbers.ensures (rw c.word.ensures.value at (view_by c.args.self.op RegVvvvRm g.I.CoreImm.kind c.args.reg c.args.vvvv (Register c.args.rm) c.word.result c.args.self.fields c.args.self.imm))

@@ -6,7 +6,7 @@ use Rattle.x64_core.proofs.MadeOf.{fits_by, view_by}
 use Rattle.x64_core.proofs.makers.Rm.reg.Goals as goal
 
 pub invariant_of-result : goal.invariant_of-result
-invariant_of-result c = record { shape = fits_by _ Rm None 0 0 (Register c.args.rm) 0 c.args.self.fields c.args.self.imm (refl) }
+invariant_of-result c = record { shape = rw c.numbers.ensures (fits_by _ Rm None 0 0 (Register c.args.rm) 0 c.args.self.fields c.args.self.imm (refl)) }
 
 pub returns : goal.returns
-returns c = view_by c.args.self.op Rm None 0 0 (Register c.args.rm) 0 c.args.self.fields c.args.self.imm
+returns c = rw c.numbers.ensures (view_by c.args.self.op Rm None 0 0 (Register c.args.rm) 0 c.args.self.fields c.args.self.imm)

@@ -17,6 +17,14 @@ returns-in_err-reserve-clause-byte_room g c =
     let none : FallsBy u.byte_room u.byte_room n = λ k. omega arith in
     falls_after_none s.byte_room u.byte_room u.byte_room n c.reserve.ensures.as_before.byte_room none
 
+pub returns-in_err-reserve-clause-notice_room : goal.returns-in_err-reserve-clause-notice_room
+returns-in_err-reserve-clause-notice_room g c =
+    let s = buffer_state c.args.self.now in
+    let u = buffer_state c.reserve.new.self in
+    let n = core_notices (core_view c.args.inst.now) in
+    let none : FallsBy u.notice_room u.notice_room n = λ k. omega arith in
+    falls_after_none s.notice_room u.notice_room u.notice_room n c.reserve.ensures.as_before.notice_room none
+
 pub returns-clause-adds : goal.returns-clause-adds
 returns-clause-adds g c =
     let v = core_view c.args.inst.now in

@@ -1,16 +1,25 @@
-use Rattle.std.proofs.Common.{◌≡◌, ◌∙◌, ℕ, refl, Bool, true, false, Option, Some, None}
+use Rattle.std.proofs.Common.{◌≡◌, ◌∙◌, ℕ, ℤ, refl, subst, sym, Bool, true, false, Option, Some, None}
 use Rattle.std.specs.Prelude.{◌&&◌, if◌then◌else◌, is_none, is_some, option_map}
+use Rattle.std.proofs.lemmas.Bool.{and_parts}
+use Rattle.cax64_address.specs.Offset.{sum_fits}
+use Rattle.cax64_address.specs.declared.amode.Amode.TheVariants.{ImmReg, ImmRegRegShift, RipRelative}
+use Rattle.cax64_encoder.specs.Fault.{all_met, late_offset_fits}
+use Rattle.cax64_encoder.specs.Place.{memory_in}
+use Rattle.cax64_encoder.specs.declared.role.PlaceOperand.{PlaceOperand}
+use Rattle.cax64_encoder.specs.declared.role.PlaceOperand.TheVariants as operand
 use Rattle.cax64_machine_code.specs.Line.{same_bool}
 use Rattle.cax64_machine_code.specs.declared.reading.RegView.{RegView}
 use Rattle.cax64_machine_code.specs.declared.reading.RegView.TheVariants.{Low}
+use Rattle.x64_core.specs.Core.{is_encodable, place_visited, register_before}
 use Rattle.x64_core.specs.Fits.{place_fits}
 use Rattle.x64_core.specs.Refusal.{imm_refusal, refusal}
 use Rattle.x64_core.specs.Shape.{has_reg, has_vvvv, shape_of}
+use Rattle.x64_core.specs.View.{CoreView, place_operand}
 use Rattle.x64_core.specs.declared.place.CorePlace.{CorePlace}
 use Rattle.x64_core.specs.declared.refused.Shape.{Shape}
 use Rattle.x64_core.specs.declared.shapes.OpFields.{OpFields}
 use Rattle.x64_core.specs.declared.shapes.OpShape.{OpShape}
-use Rattle.x64_core_reader.specs.OfReading.{is_taken, is_taken_by, place_taken}
+use Rattle.x64_core_reader.specs.OfReading.{is_bare, is_taken, is_taken_by, number_given, place_taken}
 use Rattle.x64_core_reader.specs.declared.reading.CoreReading.{CoreReading}
 use Rattle.x64_core_reader.proofs.reading.CoreReading.core.Goals as goal
 
@@ -42,3 +51,33 @@ returns-in-Err-clause-some c =
     let r = c.args.self.now in
     let taken : is_none (refusal (shape_of r.op.number) c.in_ok-reg.reg c.in_ok-vvvv.vvvv c.in_ok-place.place r.imm) ≡ is_taken r = taken_is (shape_of r.op.number) r c.in_ok-reg.reg c.in_ok-vvvv.vvvv c.in_ok-place.place c.in_ok-reg.ensures.number c.in_ok-vvvv.ensures.number c.in_ok-place.ensures.fits in
     rw (← c.in_ok-reg.ensures.some, ← c.in_ok-vvvv.ensures.some, ← c.in_ok-place.ensures.some, ← taken, c.in-Err.ensures.refused) refl
+
+-- what is given can be encoded
+
+met : (reg vvvv : Option ℕ) (o : PlaceOperand ℕ) → number_given reg ≡ true → number_given vvvv ≡ true → all_met (place_visited o) ≡ true → all_met (register_before reg (register_before vvvv (place_visited o))) ≡ true
+met None None o h k l = l
+met None (Some vvvv) o h k l = rw (k, l) refl
+met (Some reg) None o h k l = rw (h, l) refl
+met (Some reg) (Some vvvv) o h k l = rw (h, k, l) refl
+
+no_offset : (offset : Option ℕ) (simm32 : ℤ) (offsets : ℕ → Option ℤ) → is_none offset ≡ true → sum_fits offsets offset simm32 ≡ true
+no_offset None simm32 offsets h = refl
+no_offset (Some key) simm32 offsets h = cc
+
+late : (o : PlaceOperand ℕ) (offsets : ℕ → Option ℤ) → is_bare o ≡ true → late_offset_fits offsets (memory_in o) ≡ true
+late operand.NoPlace offsets h = refl
+late (operand.Register n) offsets h = refl
+late (operand.Memory (ImmReg base simm32 trap)) offsets h = no_offset simm32.offset simm32.simm32 offsets (and_parts (is_none trap) (is_none simm32.offset) h).1
+late (operand.Memory (ImmRegRegShift base index scale simm32 trap)) offsets h = refl
+late (operand.Memory (RipRelative target)) offsets h = refl
+
+both : (a b : Bool) → a ≡ true → b ≡ true → (a && b) ≡ true
+both a b h k = rw (h, k) refl
+
+given_can : (v : CoreView) (op : ℕ) (reg vvvv : Option ℕ) (p : CorePlace) (imm : Option ℤ) (offsets : ℕ → Option ℤ) → v ≡ record { op = op; reg = reg; vvvv = vvvv; place = place_operand p; imm = imm } → number_given reg ≡ true → number_given vvvv ≡ true → all_met (place_visited (place_operand p)) ≡ true → is_bare (place_operand p) ≡ true → is_encodable offsets v ≡ true
+given_can v op reg vvvv p imm offsets e h k l bare =
+    subst (λ (w : CoreView). is_encodable offsets w ≡ true) (sym e) (both _ _ (met reg vvvv (place_operand p) h k l) (late (place_operand p) offsets bare))
+
+pub returns-in-Ok-clause-encodable : goal.returns-in-Ok-clause-encodable
+returns-in-Ok-clause-encodable c = λ offsets.
+    given_can _ _ _ _ c.in_ok-place.place _ offsets c.in-Ok.ensures.view c.in_ok-reg.ensures.real c.in_ok-vvvv.ensures.real c.in_ok-place.ensures.real c.in_ok-place.ensures.bare

@@ -1,0 +1,7 @@
+pub mod Cases
+pub mod Placed
+pub mod TailTable
+pub mod Tailed
+pub mod HeadParts
+pub mod Heads
+pub mod CodeParts

@@ -1,0 +1,41 @@
+use Rattle.std.proofs.Common.{◌≡◌, ℕ, zero, suc, slice_index_or, ◌+◌, ◌*◌, ◌<◌, refl, ◌∙◌, ap, arith, []}
+use Rattle.cax64_place.specs.Tail.{kind_number, tail_entry}
+use Rattle.cax64_place.specs.declared.place.PlaceKind.{PlaceKind}
+use Rattle.cax64_place.specs.declared.place.PlaceKind.TheVariants.{Absent, Register, Base, BaseAndIndex, Label, Constant, NoTarget}
+use Rattle.cax64_place.specs.declared.tails.TheConstants.{TAILS}
+
+-- The table of tails has what is said of each kind of place: it is computed for each entry.
+
+by_three : (P : ℕ → Type 0) → P 0 → P 1 → P 2 → (n : ℕ) → n < 3 → P n
+by_three P a b c zero l = a
+by_three P a b c (suc zero) l = b
+by_three P a b c (suc (suc zero)) l = c
+by_three P a b c (suc (suc (suc n))) l = absurd (omega (arith, l))
+
+pub by_eight : (P : ℕ → Type 0) → P 0 → P 1 → P 2 → P 3 → P 4 → P 5 → P 6 → P 7 → (n : ℕ) → n < 8 → P n
+by_eight P a b c d e f g h zero l = a
+by_eight P a b c d e f g h (suc zero) l = b
+by_eight P a b c d e f g h (suc (suc zero)) l = c
+by_eight P a b c d e f g h (suc (suc (suc zero))) l = d
+by_eight P a b c d e f g h (suc (suc (suc (suc zero)))) l = e
+by_eight P a b c d e f g h (suc (suc (suc (suc (suc zero))))) l = f
+by_eight P a b c d e f g h (suc (suc (suc (suc (suc (suc zero)))))) l = g
+by_eight P a b c d e f g h (suc (suc (suc (suc (suc (suc (suc zero))))))) l = h
+by_eight P a b c d e f g h (suc (suc (suc (suc (suc (suc (suc (suc n)))))))) l = absurd (omega (arith, l))
+
+abbrev pub EntryIs : PlaceKind → ℕ → ℕ → Type 0
+EntryIs kind class low = slice_index_or TAILS (kind_number kind * 32 + class * 8 + low) [] ≡ tail_entry kind class low
+
+pub entry_is : (kind : PlaceKind) (class low : ℕ) → class < 3 → low < 8 → EntryIs kind class low
+entry_is Absent class low c l = by_three (λ n. EntryIs Absent n low) (by_eight (λ n. EntryIs Absent 0 n) refl refl refl refl refl refl refl refl low l) (by_eight (λ n. EntryIs Absent 1 n) refl refl refl refl refl refl refl refl low l) (by_eight (λ n. EntryIs Absent 2 n) refl refl refl refl refl refl refl refl low l) class c
+entry_is Register class low c l = by_three (λ n. EntryIs Register n low) (by_eight (λ n. EntryIs Register 0 n) refl refl refl refl refl refl refl refl low l) (by_eight (λ n. EntryIs Register 1 n) refl refl refl refl refl refl refl refl low l) (by_eight (λ n. EntryIs Register 2 n) refl refl refl refl refl refl refl refl low l) class c
+entry_is Base class low c l = by_three (λ n. EntryIs Base n low) (by_eight (λ n. EntryIs Base 0 n) refl refl refl refl refl refl refl refl low l) (by_eight (λ n. EntryIs Base 1 n) refl refl refl refl refl refl refl refl low l) (by_eight (λ n. EntryIs Base 2 n) refl refl refl refl refl refl refl refl low l) class c
+entry_is BaseAndIndex class low c l = by_three (λ n. EntryIs BaseAndIndex n low) (by_eight (λ n. EntryIs BaseAndIndex 0 n) refl refl refl refl refl refl refl refl low l) (by_eight (λ n. EntryIs BaseAndIndex 1 n) refl refl refl refl refl refl refl refl low l) (by_eight (λ n. EntryIs BaseAndIndex 2 n) refl refl refl refl refl refl refl refl low l) class c
+entry_is Label class low c l = by_three (λ n. EntryIs Label n low) (by_eight (λ n. EntryIs Label 0 n) refl refl refl refl refl refl refl refl low l) (by_eight (λ n. EntryIs Label 1 n) refl refl refl refl refl refl refl refl low l) (by_eight (λ n. EntryIs Label 2 n) refl refl refl refl refl refl refl refl low l) class c
+entry_is Constant class low c l = by_three (λ n. EntryIs Constant n low) (by_eight (λ n. EntryIs Constant 0 n) refl refl refl refl refl refl refl refl low l) (by_eight (λ n. EntryIs Constant 1 n) refl refl refl refl refl refl refl refl low l) (by_eight (λ n. EntryIs Constant 2 n) refl refl refl refl refl refl refl refl low l) class c
+entry_is NoTarget class low c l = by_three (λ n. EntryIs NoTarget n low) (by_eight (λ n. EntryIs NoTarget 0 n) refl refl refl refl refl refl refl refl low l) (by_eight (λ n. EntryIs NoTarget 1 n) refl refl refl refl refl refl refl refl low l) (by_eight (λ n. EntryIs NoTarget 2 n) refl refl refl refl refl refl refl refl low l) class c
+
+pub found : (kind : PlaceKind) (class low k c l : ℕ) → class < 3 → low < 8 → k ≡ kind_number kind → c ≡ class → l ≡ low → slice_index_or TAILS (k * 32 + c * 8 + l) [] ≡ tail_entry kind class low
+found kind class low k c l hc hl ek ec el =
+    let at : k * 32 + c * 8 + l ≡ kind_number kind * 32 + class * 8 + low = omega (arith, ek, ec, el) in
+    ap (λ (i : ℕ). slice_index_or TAILS i []) at ∙ entry_is kind class low hc hl

@@ -1,0 +1,29 @@
+use Rattle.std.specs.Prelude.{◌≡◌, ℕ, Option, option_map, List, ◌++◌}
+use Rattle.cax64_machine_code.specs.Line.{opcode_bytes}
+use Rattle.cax64_machine_code.specs.declared.line.Line.{Line}
+use Rattle.cax64_encoder.specs.Numbered.{plain}
+use Rattle.cax64_encoder.specs.Prefix.{PrefixFor}
+use Rattle.cax64_encoder.specs.declared.number.Number.{Number}
+use Rattle.cax64_encoder.specs.declared.number.Number.TheVariants.{Settled}
+use Rattle.cax64_encoder.specs.declared.numbered.NumberedForm.{NumberedForm}
+use Rattle.cax64_encoder.specs.declared.role.PlaceOperand.{PlaceOperand}
+use Rattle.cax64_table.specs.Numbers.{has_register, has_vvvv}
+use Rattle.cax64_place.specs.Operand.{placed}
+use Rattle.cax64_place.specs.When.{when}
+use Rattle.cax64_place.specs.declared.place.DataPlace.{DataPlace}
+
+-- What the code of a line with a place is made of.
+
+-- a prefix that a line's operands go with, and the opcode
+pub record IsHead (line : Line) (reg : ℕ) (vvvv : Option Number) (operand : PlaceOperand ℕ) (bytes : List ℕ) : Type 0 where
+  pub pre : List ℕ
+  pub is : bytes ≡ pre ++ opcode_bytes line.opcode
+  pub prefix : PrefixFor plain.enc line reg vvvv operand pre
+
+-- the register in vvvv, where the line has one
+abbrev pub vvvv_in : Line → ℕ → Option Number
+vvvv_in line vvvv = option_map Settled (when (has_vvvv line.prefix) vvvv)
+
+-- what numbers stand for in a line
+abbrev pub placed_form : Line → ℕ → ℕ → DataPlace → ℕ → NumberedForm
+placed_form line reg vvvv p imm = record { reg = when (has_register line.tail) reg; vvvv = when (has_vvvv line.prefix) vvvv; place = placed p; imm = imm }
