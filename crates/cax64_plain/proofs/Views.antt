@@ -2,13 +2,13 @@ use Rattle.std.proofs.Common.{◌≡◌, ◌∙◌, ◌^◌, ◌<◌, ℕ, refl,
 use Rattle.std.proofs.Math.Facts.{sfits_to_z}
 use Rattle.std.proofs.lemmas.Bool.{and_parts}
 use Rattle.std.proofs.lemmas.Bool.Decides.{nat_tests}
-use Rattle.std.proofs.lemmas.Int.{ints, to_z-of_z}
-use Rattle.std.specs.Int.{cast_signed}
-use Rattle.std.specs.Prelude.{is_some, nat_lt, option_map}
+use Rattle.std.proofs.lemmas.Int.{ints, of_z-to_z, to_z-of_z}
+use Rattle.std.specs.Int.{cast_signed, cast_unsigned}
+use Rattle.std.specs.Prelude.{◌==◌, ◌||◌, ◌&&◌, is_some, nat_lt, option_map}
 use Rattle.cax64_encoder.specs.ImmActions.{imm_named}
 use Rattle.cax64_machine_code.specs.Line.{imm_bytes, same_bool}
 use Rattle.cax64_operand.specs.Immediate.{imm_value}
-use Rattle.cax64_plain.specs.Named.{word_named}
+use Rattle.cax64_plain.specs.Named.{has_imm, is_whole, word_named}
 use Rattle.cax64_plain.specs.Plain.{imm_word, low_word, or_0, place_of, plain, plain_place}
 use Rattle.cax64_plain.specs.declared.inst.HqInst.{HqInst}
 use Rattle.cax64_plain.specs.declared.place.HqPlace.{HqPlace}
@@ -166,4 +166,75 @@ pub taken_all : (i : HqInst) (number : ℕ) (q : CorePlace) (pp : HqPlace) (s : 
 taken_all i number q pp s b d reg vvvv value why ep es eb ed er ev ei n there r c h =
     let none : refusal (shape_of number) reg vvvv q value ≡ None = rw (er, ev, ei, eb, ed, es) (taken_at i number q n (λ p k. there p (k ∙ sym ep)) c h) in
     let same : ◌≡◌ {A = Option Shape} None (Some why) = sym none ∙ r in
+    cc
+
+-- Where what a line has nowhere is 0, the integers of what is made are those that it was made of.
+
+kept : (b : Bool) (n : ℕ) → (b || (n == 0)) ≡ true → or_0 (when b n) ≡ n
+kept true n h = refl
+kept false n h = grind (arith, nat_tests, h)
+
+low_is : (z : ℤ) → low_word z ≡ cast_unsigned w32 z
+low_is (pos n) = refl
+low_is (negsuc n) = refl
+
+imm_kept : (kind : OpImm) (n : ℕ) → n < 2 ^ 32 → (has_imm kind || (n == 0)) ≡ true → imm_word (word_named kind n) ≡ n
+imm_kept imm.None n small h = grind (arith, nat_tests, h)
+imm_kept imm.U8 n small h = refl
+imm_kept imm.U16 n small h = refl
+imm_kept imm.U32 n small h = refl
+imm_kept imm.I8 n small h = low_is (cast_signed w32 n) ∙ of_z-to_z w32 n small
+imm_kept imm.I32 n small h = low_is (cast_signed w32 n) ∙ of_z-to_z w32 n small
+
+abbrev built : ℕ → ℕ → ℕ → ℕ → ℕ → HqPlace → HqInst
+built line reg vvvv reserved word p = record { line = line; place = p.place; reg = reg; vvvv = vvvv; base = p.base; index = p.index; scale = p.scale; trap = p.trap; has_offset = p.has_offset; offset = p.offset; reserved = reserved; disp = p.disp; target = p.target; imm = word }
+
+built_is : (i : HqInst) (line reg vvvv reserved word : ℕ) (p : HqPlace) → line ≡ i.line → reg ≡ i.reg → vvvv ≡ i.vvvv → reserved ≡ i.reserved → word ≡ i.imm → p ≡ place_of i → built line reg vvvv reserved word p ≡ i
+built_is i line reg vvvv reserved word p a b c d e f = rw (a, b, c, d, e, f) refl
+
+zero : (n : ℕ) → (n == 0) ≡ true → 0 ≡ n
+zero n h = grind (arith, nat_tests, h)
+
+whole_at : (i : HqInst) (s : OpShape) (number : ℕ) (q : CorePlace) → number ≡ i.line → plain_place (place_operand q) ≡ place_of i → i.imm < 2 ^ 32 → is_whole s i ≡ true → plain (given s number q i) ≡ i
+whole_at i s number q n place small h =
+    let k = and_parts (((has_reg s.fields || (i.reg == 0)) && (has_vvvv s.fields || (i.vvvv == 0))) && (has_imm s.imm || (i.imm == 0))) _ h in
+    let l = and_parts ((has_reg s.fields || (i.reg == 0)) && (has_vvvv s.fields || (i.vvvv == 0))) _ k.0 in
+    let m = and_parts (has_reg s.fields || (i.reg == 0)) _ l.0 in
+    built_is i number (or_0 (when (has_reg s.fields) i.reg)) (or_0 (when (has_vvvv s.fields) i.vvvv)) 0 (imm_word (word_named s.imm i.imm)) (plain_place (place_operand q)) n (kept _ _ m.0) (kept _ _ m.1) (zero _ k.1) (imm_kept s.imm i.imm small l.1) place
+
+pub whole_all : (i : HqInst) (number : ℕ) (q : CorePlace) (pp : HqPlace) (s : OpShape) (b d : Bool) (reg vvvv : Option ℕ) (value : Option ℤ) (core : Core)
+    → pp ≡ place_of i → s ≡ shape_of number → b ≡ has_reg s.fields → d ≡ has_vvvv s.fields → reg ≡ when b i.reg → vvvv ≡ when d i.vvvv → value ≡ word_named s.imm i.imm
+    → number ≡ i.line → plain_place (place_operand q) ≡ pp → i.imm < 2 ^ 32
+    → core_view core ≡ record { op = number; reg = reg; vvvv = vvvv; place = place_operand q; imm = value }
+    → is_whole (shape_of core.op.number) i ≡ true → plain (core_view core) ≡ i
+whole_all i number q pp s b d reg vvvv value core ep es eb ed er ev ei n place small made h =
+    let same : ◌≡◌ {A = CoreView} (record { op = number; reg = reg; vvvv = vvvv; place = place_operand q; imm = value }) (given (shape_of number) number q i) = rw (er, ev, ei, eb, ed, es) refl in
+    let view : core_view core ≡ given (shape_of number) number q i = made ∙ same in
+    let op : core.op.number ≡ number = ap (λ (v : CoreView). v.op) view in
+    let whole : is_whole (shape_of number) i ≡ true = ap (λ (m : ℕ). is_whole (shape_of m) i) (sym op) ∙ h in
+    ap plain view ∙ whole_at i (shape_of number) number q n (place ∙ ep) small whole
+
+nowhere : (b : Bool) (n : ℕ) → (b || (or_0 (when b n) == 0)) ≡ true
+nowhere true n = refl
+nowhere false n = refl
+
+imm_nowhere : (kind : OpImm) (word : ℕ) → (has_imm kind || (imm_word (option_map imm_value (imm_named (imm_field kind) word)) == 0)) ≡ true
+imm_nowhere imm.None word = refl
+imm_nowhere imm.U8 word = refl
+imm_nowhere imm.U16 word = refl
+imm_nowhere imm.U32 word = refl
+imm_nowhere imm.I8 word = refl
+imm_nowhere imm.I32 word = refl
+
+whole_view : (s : OpShape) (c : Core) → is_whole s (plain (view_of s c)) ≡ true
+whole_view s c = rw (nowhere (has_reg s.fields) c.reg, nowhere (has_vvvv s.fields) c.vvvv, imm_nowhere s.imm c.imm) refl
+
+whole_core : (c : Core) (i : HqInst) → plain (core_view c) ≡ i → is_whole (shape_of c.op.number) i ≡ true
+whole_core c i h = ap (λ (x : HqInst). is_whole (shape_of c.op.number) x) (sym h ∙ ap plain (is_view c)) ∙ whole_view (shape_of c.op.number) c
+
+pub whole_not : (i : HqInst) (made : Core) (number : ℕ) (s : OpShape) → number ≡ made.op.number → s ≡ shape_of number → is_whole s i ≡ false → ((c : Core) → plain (core_view c) ≡ i → core_view made ≡ core_view c) → (c : Core) → plain (core_view c) ≡ i → ⊥
+whole_not i made number s n e f alone c h =
+    let op : number ≡ c.op.number = n ∙ ap (λ (v : CoreView). v.op) (alone c h) in
+    let whole : is_whole s i ≡ true = ap (λ (x : OpShape). is_whole x i) (e ∙ ap shape_of op) ∙ whole_core c i h in
+    let same : ◌≡◌ {A = Bool} true false = sym whole ∙ f in
     cc

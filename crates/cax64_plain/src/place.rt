@@ -120,6 +120,7 @@ impl HqPlace {
     }
 
     /// The place of an instruction of the core.
+    #[inline(always)]
     pub fn of(place: &CorePlace) -> HqPlace
         ensures { result ≡ plain_place (place_operand place.now) }
     {
@@ -165,6 +166,7 @@ impl HqPlace {
 
     /// The place that these integers are. `None` where they are those of none: where `place` is above 6, the scale above 3, or
     /// something that the place lacks isn't 0.
+    #[inline(always)]
     pub fn place(&self) -> Option<CorePlace>
         ensures is { IfSome result (λ p. plain_place (place_operand p) ≡ self.now) }
         ensures none { IfNone result ((p : CorePlace) → plain_place (place_operand p) ≢ self.now) }
@@ -179,7 +181,8 @@ impl HqPlace {
     }
 
     /// The place that these integers name, if any does. Of what it lacks nothing is tested.
-    pub(crate) fn named(&self) -> Option<CorePlace>
+    #[inline(always)]
+    fn named(&self) -> Option<CorePlace>
         ensures none { IfNone result ((p : CorePlace) → plain_place (place_operand p) ≢ self.now) }
         ensures some { IfSome result (λ q. (p : CorePlace) → plain_place (place_operand p) ≡ self.now → q ≡ p) }
     {

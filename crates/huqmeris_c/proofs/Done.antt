@@ -46,10 +46,10 @@ relative_told place target read reading line n size e h l z k =
 
 -- What is left of an instruction that was encoded.
 
-got : (v : CoreView) (s t : FixedSink 13) (bytes : List ℕ) → (fixed_sink_state s).bytes ≡ [] → bytes ≡ (fixed_sink_state t).bytes → (k : AddsCore v (fixed_sink_state s) (fixed_sink_state t)) → bytes ≡ k.line.added
+got : (v : CoreView) (s t : FixedSink 24) (bytes : List ℕ) → (fixed_sink_state s).bytes ≡ [] → bytes ≡ (fixed_sink_state t).bytes → (k : AddsCore v (fixed_sink_state s) (fixed_sink_state t)) → bytes ≡ k.line.added
 got v s t bytes e h k = h ∙ k.line.bytes ∙ ap (λ (b : List ℕ). b ++ k.line.added) e
 
-pub adds_written : (v : CoreView) (s t : FixedSink 13) (bytes : List ℕ) → (fixed_sink_state s).bytes ≡ [] → bytes ≡ (fixed_sink_state t).bytes → AddsCore v (fixed_sink_state s) (fixed_sink_state t) → AddsCore v (written []) (written bytes)
+pub adds_written : (v : CoreView) (s t : FixedSink 24) (bytes : List ℕ) → (fixed_sink_state s).bytes ≡ [] → bytes ≡ (fixed_sink_state t).bytes → AddsCore v (fixed_sink_state s) (fixed_sink_state t) → AddsCore v (written []) (written bytes)
 adds_written v s t bytes e h k = record {
   line = record {
     added = k.line.added;
@@ -64,10 +64,10 @@ adds_written v s t bytes e h k = record {
   shortest = k.shortest;
 }
 
-read_alone : (v : CoreView) (s t : FixedSink 13) (bytes : List ℕ) → (fixed_sink_state s).bytes ≡ [] → bytes ≡ (fixed_sink_state t).bytes → (k : AddsCore v (fixed_sink_state s) (fixed_sink_state t)) → read_of core_lines bytes ≡ Some k.line.reads.reading
+read_alone : (v : CoreView) (s t : FixedSink 24) (bytes : List ℕ) → (fixed_sink_state s).bytes ≡ [] → bytes ≡ (fixed_sink_state t).bytes → (k : AddsCore v (fixed_sink_state s) (fixed_sink_state t)) → read_of core_lines bytes ≡ Some k.line.reads.reading
 read_alone v s t bytes e h k = ap (read_of core_lines) (got v s t bytes e h k ∙ sym (append-nil k.line.added)) ∙ k.alone []
 
-pub put_done : (v : CoreView) (s t : FixedSink 13) (bytes copied code : List ℕ) (len : ℕ) (before heard : HqUse) (notice : Option Notice)
+pub put_done : (v : CoreView) (s t : FixedSink 24) (bytes copied code : List ℕ) (len : ℕ) (before heard : HqUse) (notice : Option Notice)
     → (fixed_sink_state s).bytes ≡ [] → bytes ≡ (fixed_sink_state t).bytes → None ≡ fault_of no_offsets v → AddsCore v (fixed_sink_state s) (fixed_sink_state t)
     → length bytes ≤ length code → copied ≡ bytes → heard ≡ told notice
     → ((reading : LineReading) → read_of core_lines bytes ≡ Some reading → reading.line ≡ core_line v.op → notice ≡ slice_get (line_notices_of (memory_in v.place) 0 reading) 0)

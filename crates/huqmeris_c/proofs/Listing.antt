@@ -329,7 +329,7 @@ pub next_near : (done left : List HqInst) (first code : List ℕ) (before uses :
 next_near done left first code before uses at count i h small = let m = h.most in omega (arith, m, small)
 
 -- One that is put, and what it tells.
-pub behind_put : (v : CoreView) (at : ℕ) (code copied bytes : List ℕ) (s : FixedSink 13) (heard : List HqUse) → copied ≡ bytes → bytes ≡ (fixed_sink_state s).bytes → AddsCore v (written []) (written (fixed_sink_state s).bytes) → length (fixed_sink_state s).bytes ≡ core_len no_offsets v → length bytes ≤ 13
+pub behind_put : (v : CoreView) (at : ℕ) (code copied bytes : List ℕ) (s : FixedSink 24) (heard : List HqUse) → copied ≡ bytes → bytes ≡ (fixed_sink_state s).bytes → AddsCore v (written []) (written (fixed_sink_state s).bytes) → length (fixed_sink_state s).bytes ≡ core_len no_offsets v → core_len no_offsets v ≤ 13
     → ((reading : LineReading) → read_of core_lines bytes ≡ Some reading → reading.line ≡ core_line v.op → heard ≡ uses_told (line_notices_of (memory_in v.place) at reading))
     → PutBehind v at code (take at code ++ (copied ++ drop (at + length bytes) code)) (length bytes) heard
 behind_put v at code copied bytes s heard c e adds size most told =
@@ -342,7 +342,7 @@ behind_put v at code copied bytes s heard c e adds size most told =
       added = (fixed_sink_state s).bytes;
       is = ap (λ (l : List ℕ). take at code ++ (l ++ drop (at + length bytes) code)) (c ∙ e);
       count = ap (λ (l : List ℕ). length l) e;
-      most = most;
+      most = subst (λ (n : ℕ). n ≤ 13) (sym (ap (λ (l : List ℕ). length l) e ∙ size)) most;
       size = ap (λ (l : List ℕ). length l) e ∙ size;
       adds = adds;
       tells = tells;

@@ -18,7 +18,7 @@ use Rattle.x64_core.specs.View.{CoreView}
 
 -- Bytes that are written in the middle.
 
-pub middle_put : (v : CoreView) (at : ℕ) (code copied bytes : List ℕ) (s : FixedSink 13) (heard : List HqUse) → copied ≡ bytes → bytes ≡ (fixed_sink_state s).bytes → AddsCore v (written []) (written (fixed_sink_state s).bytes) → length (fixed_sink_state s).bytes ≡ core_len no_offsets v → length bytes ≤ 13
+pub middle_put : (v : CoreView) (at : ℕ) (code copied bytes : List ℕ) (s : FixedSink 24) (heard : List HqUse) → copied ≡ bytes → bytes ≡ (fixed_sink_state s).bytes → AddsCore v (written []) (written (fixed_sink_state s).bytes) → length (fixed_sink_state s).bytes ≡ core_len no_offsets v → core_len no_offsets v ≤ 13
     → ((reading : LineReading) → read_of core_lines bytes ≡ Some reading → reading.line ≡ core_line v.op → heard ≡ uses_told (line_notices_of (memory_in v.place) at reading))
     → PutBehind v at code (take at code ++ (copied ++ drop (at + length bytes - at) (drop at code))) (length bytes) heard
 middle_put v at code copied bytes s heard c e adds size most told =

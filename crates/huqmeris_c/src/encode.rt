@@ -26,8 +26,9 @@ use x64_core::shapes::OpImm;
 use x64_core::{Core, CorePlace};
 use x64_core_reader::read_core;
 
-/// What this library encodes into.
-pub(crate) fn sink() -> FixedSink<13>
+/// What this library encodes into: at any place of an instruction, which has 13 bytes at most, there is room for a word of
+/// eight, so that no byte is put alone.
+pub(crate) fn sink() -> FixedSink<24>
     ensures { (fixed_sink_state result).bytes ≡ [] }
 {
     FixedSink::new()
@@ -88,6 +89,9 @@ pub(crate) fn notice_of(core: &Core, bytes: &[u8]) -> Option<Notice>
     ensures is { (reading : LineReading) → read_of core_lines bytes.now ≡ Some reading → reading.line ≡ core_line (core_view core.now).op → result ≡ slice_get (line_notices_of (memory_in (core_view core.now).place) 0 reading) 0 }
     ensures near { IfSome result (λ notice. place_told notice ≤ 256) }
 {
+    if core.notice_count() == 0 {
+        return None;
+    }
     match core.place() {
         CorePlace::Absent | CorePlace::Register(_) => None,
         CorePlace::Base { trap, .. } | CorePlace::BaseAndIndex { trap, .. } => match trap {

@@ -83,10 +83,11 @@ fn measure(insts: &[HqInst]) -> Result<HqDone, Stop>
 }
 
 /// An instruction that can be encoded, alone.
-fn encoded(core: &Core) -> FixedSink<13>
+fn encoded(core: &Core) -> FixedSink<24>
     requires { fault_of no_offsets (core_view core.now) ≡ None }
     ensures adds { AddsCore (core_view core.now) (written []) (written (fixed_sink_state result).bytes) }
     ensures length { length (fixed_sink_state result).bytes ≡ core_len no_offsets (core_view core.now) }
+    ensures most { core_len no_offsets (core_view core.now) ≤ 13 }
 {
     let mut sink = sink();
     core.encode(&mut sink).unwrap();
