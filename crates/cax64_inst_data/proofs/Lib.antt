@@ -37,3 +37,4 @@ pub mod Exact
 pub mod GivenBack
 pub mod HeldParts
 pub mod Folds
+pub mod PrintedText

@@ -22,6 +22,7 @@ pub mod Registers
 pub mod Alike
 pub mod Own
 pub mod Folded
+pub mod Backward
 pub mod Gathered
 pub mod ReadOperands
 pub mod Class

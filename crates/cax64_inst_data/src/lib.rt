@@ -16,6 +16,7 @@ pub mod operand;
 pub mod operands;
 pub mod parts;
 pub mod place;
+mod printed;
 mod reading;
 mod short;
 mod tails;

@@ -18,7 +18,7 @@ use cax64_register::NonRspGpr;
 use cax64_sink::{Constant, DeferredTarget, Label};
 
 /// The first number, 0 of none.
-fn head(numbers: &[u8]) -> u8
+pub(crate) fn head(numbers: &[u8]) -> u8
     ensures { result ≡ head numbers.now }
 {
     match numbers.split_first() {
@@ -28,7 +28,7 @@ fn head(numbers: &[u8]) -> u8
 }
 
 /// The numbers behind the first.
-fn tail(numbers: &[u8]) -> &[u8]
+pub(crate) fn tail(numbers: &[u8]) -> &[u8]
     ensures { result.now ≡ tail numbers.now }
 {
     match numbers.split_first() {
@@ -92,7 +92,7 @@ pub(crate) fn xmm_mem_of(place: &DataPlace) -> XmmMem<u8, u8>
 }
 
 /// The immediate of a kind.
-fn imm_of(kind: ImmediateKind, word: u32) -> Immediate
+pub(crate) fn imm_of(kind: ImmediateKind, word: u32) -> Immediate
     requires { imm_fits (field_of kind) word ≡ true }
     ensures { result ≡ imm_by kind word }
 {
@@ -146,7 +146,11 @@ fn operand_of(
 }
 
 /// What is kept behind an operand of a kind.
-fn behind<'a>(kind: OperandKind, registers: &'a [u8], fixed: &'a [u8]) -> (&'a [u8], &'a [u8])
+pub(crate) fn behind<'a>(
+    kind: OperandKind,
+    registers: &'a [u8],
+    fixed: &'a [u8],
+) -> (&'a [u8], &'a [u8])
     ensures { (imm : ℕ) → record { registers = result.0.now; fixed = result.1.now; imm = imm } ≡ behind kind (record { registers = registers.now; fixed = fixed.now; imm = imm }) }
 {
     match kind {

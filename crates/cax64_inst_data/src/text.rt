@@ -53,6 +53,9 @@ impl RowAndOperands for ByOperands {
     }
 }
 
+/// Room for the text of any instruction with the hardware's registers.
+const ROOM: usize = 80;
+
 impl InstructionText for InstData {
     ghost names = { ⟦<Numbers as RegisterNames>⟧.names };
 
@@ -65,7 +68,9 @@ impl InstructionText for InstData {
     }
 
     fn to_string<A: Allocator + Copy>(&self, alloc: A) -> Result<String<A>, AllocError> {
-        ByOperands(*self).to_string(alloc)
+        let mut out = String::with_capacity(alloc, ROOM)?;
+        self.add_text(&mut out, alloc)?;
+        Ok(out)
     }
 
     fn to_string_xed<A: Allocator + Copy>(
