@@ -1,33 +1,63 @@
-use Rattle.std.specs.Prelude.{ℕ, ◌==◌, ◌||◌, ◌&&◌, Bool, true, false, if◌then◌else◌, Option, Some, None, ℤ, pos}
-use Rattle.std.specs.Int.{cast_signed, w32}
-use Rattle.cax64_plain.specs.declared.inst.HqInst.{HqInst}
-use Rattle.x64_core.specs.Shape.{has_reg, has_vvvv}
-use Rattle.x64_core.specs.declared.shapes.OpImm.{OpImm}
-use Rattle.x64_core.specs.declared.shapes.OpImm.TheVariants as imm
-use Rattle.x64_core.specs.declared.shapes.OpShape.{OpShape}
-
--- what a word stands for where an immediate is wanted
-abbrev pub word_named : OpImm → ℕ → Option ℤ
-word_named imm.None word = None
-word_named imm.U8 word = Some (pos word)
-word_named imm.U16 word = Some (pos word)
-word_named imm.U32 word = Some (pos word)
-word_named imm.I8 word = Some (cast_signed w32 word)
-word_named imm.I32 word = Some (cast_signed w32 word)
+use Rattle.std.specs.Prelude.{ℕ, ◌==◌, ◌||◌, ◌&&◌, nat_lt, Bool, true, false, if◌then◌else◌, Option, Some, None}
+use Rattle.cax64_place.specs.Kind.{has_base, has_index}
+use Rattle.cax64_place.specs.Place.{is_zero}
+use Rattle.cax64_place.specs.declared.place.PlaceKind.{PlaceKind}
+use Rattle.cax64_place.specs.declared.place.PlaceKind.TheVariants.{Absent, Register, Base, BaseAndIndex, Label, Constant, NoTarget}
+use Rattle.cax64_plain.specs.declared.place.HqPlace.{HqPlace}
 
 -- the late offset of a key, where there is one
 abbrev pub offset_named : ℕ → ℕ → Option ℕ
 offset_named has_offset offset = if has_offset == 1 then Some offset else None
 
--- whether an immediate of this kind stands somewhere
-abbrev pub has_imm : OpImm → Bool
-has_imm imm.None = false
-has_imm imm.U8 = true
-has_imm imm.U16 = true
-has_imm imm.U32 = true
-has_imm imm.I8 = true
-has_imm imm.I32 = true
+-- the number of a place
+abbrev pub kind_number : PlaceKind → ℕ
+kind_number Absent = 0
+kind_number Register = 1
+kind_number Base = 2
+kind_number BaseAndIndex = 3
+kind_number Label = 4
+kind_number Constant = 5
+kind_number NoTarget = 6
 
--- whether what a line of this shape has nowhere is 0
-abbrev pub is_whole : OpShape → HqInst → Bool
-is_whole s i = (((has_reg s.fields || (i.reg == 0)) && (has_vvvv s.fields || (i.vvvv == 0))) && (has_imm s.imm || (i.imm == 0))) && (i.reserved == 0)
+-- beside a base alone a place keeps 4 as its index, which is none
+abbrev pub index_beside : PlaceKind → ℕ → ℕ
+index_beside Absent index = index
+index_beside Register index = index
+index_beside Base index = 4
+index_beside BaseAndIndex index = index
+index_beside Label index = index
+index_beside Constant index = index
+index_beside NoTarget index = index
+
+-- whether a trap and a displacement may stand there, a late offset, a target
+
+abbrev pub is_memory : PlaceKind → Bool
+is_memory Absent = false
+is_memory Register = false
+is_memory Base = true
+is_memory BaseAndIndex = true
+is_memory Label = false
+is_memory Constant = false
+is_memory NoTarget = false
+
+abbrev pub has_offset : PlaceKind → Bool
+has_offset Absent = false
+has_offset Register = false
+has_offset Base = true
+has_offset BaseAndIndex = false
+has_offset Label = false
+has_offset Constant = false
+has_offset NoTarget = false
+
+abbrev pub has_target : PlaceKind → Bool
+has_target Absent = false
+has_target Register = false
+has_target Base = false
+has_target BaseAndIndex = false
+has_target Label = true
+has_target Constant = true
+has_target NoTarget = false
+
+-- what a place of a kind lacks is 0, and the rest is in its range
+abbrev pub is_whole : PlaceKind → HqPlace → Bool
+is_whole kind s = ((((((((((has_base kind || (s.base == 0)) && (has_index kind || (s.index == 0))) && (has_index kind || (s.scale == 0))) && nat_lt s.scale 4) && (is_memory kind || (s.trap == 0))) && (has_offset kind || (s.has_offset == 0))) && nat_lt s.has_offset 2) && ((s.has_offset == 1) || (s.offset == 0))) && (is_memory kind || is_zero s.disp)) && (has_target kind || (s.target == 0))) && (s.reserved == 0)

@@ -1,10 +1,11 @@
 //! Immediates as words of 32 bits.
 
-ghost use Rattle.std.specs.Prelude.{◌≡◌, IfSome, option_map, true};
+ghost use Rattle.std.specs.Prelude.{◌≡◌, ◌≢◌, ◌^◌, ℕ, IfNone, IfSome, nat_lt, option_map, true};
 ghost use Rattle.cax64_encoder.specs.ImmActions.{imm_named};
+ghost use Rattle.cax64_machine_code.specs.Line.{imm_bytes};
 ghost use Rattle.cax64_operand.specs.Immediate.{imm_value};
 ghost use Rattle.cax64_plain.specs.Plain.{imm_word, low_word};
-ghost use Rattle.cax64_plain.specs.Named.{word_named};
+ghost use Rattle.x64_core.specs.Shape.{imm_field};
 ghost use Rattle.x64_core.specs.Value.{is_imm_value};
 
 use x64_core::shapes::OpImm;
@@ -32,13 +33,35 @@ pub(crate) fn word_of(imm: Option<i64>) -> u32
     }
 }
 
-/// What a word stands for where an immediate of this kind is wanted. It may be out of its range.
-pub(crate) fn named(kind: OpImm, word: u32) -> Option<i64>
-    ensures { result ≡ word_named kind word }
+/// The first number that is too large for the bytes of an immediate.
+#[inline(always)]
+fn limit(kind: OpImm) -> u64
+    ensures { result ≡ 256 ^ imm_bytes (imm_field kind) }
 {
     match kind {
-        OpImm::None => None,
-        OpImm::U8 | OpImm::U16 | OpImm::U32 => Some(i64::from(word)),
-        OpImm::I8 | OpImm::I32 => Some(i64::from(word.cast_signed())),
+        OpImm::None => 1,
+        OpImm::U8 | OpImm::I8 => 1 << 8,
+        OpImm::U16 => 1 << 16,
+        OpImm::U32 | OpImm::I32 => 1 << 32,
     }
+}
+
+/// The bytes of an immediate of this kind as one word, the first one the lowest, of its low 32 bits. `None` where it's out of
+/// its range.
+#[inline(always)]
+pub(crate) fn bytes_of(kind: OpImm, low: u32) -> Option<u32>
+    ensures fits { IfSome result (λ word. nat_lt word (256 ^ imm_bytes (imm_field kind)) ≡ true) }
+    ensures is { IfSome result (λ word. imm_word (option_map imm_value (imm_named (imm_field kind) word)) ≡ low) }
+    ensures none { IfNone result ((word : ℕ) → nat_lt word (256 ^ imm_bytes (imm_field kind)) ≡ true → imm_word (option_map imm_value (imm_named (imm_field kind) word)) ≢ low) }
+{
+    let is_signed_byte = matches!(kind, OpImm::I8);
+    let shifted = if is_signed_byte {
+        low.wrapping_add(128)
+    } else {
+        low
+    };
+    if u64::from(shifted) >= limit(kind) {
+        return None;
+    }
+    Some(if is_signed_byte { low % 256 } else { low })
 }

@@ -1,15 +1,12 @@
 //! An instruction of the core in integers.
 
-ghost use Rattle.std.specs.Prelude.{◌≡◌, ◌≢◌, IfNone, IfSome, true};
-ghost use Rattle.cax64_plain.specs.Named.{is_whole};
+ghost use Rattle.std.specs.Prelude.{◌≡◌, ◌≢◌, IfNone, IfSome};
 ghost use Rattle.cax64_plain.specs.Plain.{place_of, plain};
-ghost use Rattle.x64_core.specs.Shape.{shape_of};
-ghost use Rattle.x64_core.specs.View.{core_view, when};
+ghost use Rattle.x64_core.specs.View.{core_view};
 ghost use Rattle.x64_core.specs.declared.instruction.Core.{Core};
 
-use crate::immediate::{named, word_of};
+use crate::immediate::{bytes_of, word_of};
 use crate::place::HqPlace;
-use x64_core::shapes::{OpImm, OpShape};
 use x64_core::{Core, Op};
 
 /// An instruction of the core in integers: its line, and each number where it stands in the bytes. What it lacks is 0.
@@ -46,13 +43,6 @@ pub struct HqInst {
     pub target: u32,
     /// The low 32 bits of the immediate.
     pub imm: u32,
-}
-
-/// A number, where one stands.
-fn held(stands: bool, number: u8) -> Option<u8>
-    ensures { result ≡ when stands number }
-{
-    if stands { Some(number) } else { None }
 }
 
 impl HqInst {
@@ -98,35 +88,6 @@ impl HqInst {
         }
     }
 
-    /// Whether what a line of this shape has nowhere is 0. Of the place nothing is tested.
-    #[inline(always)]
-    fn is_whole(&self, shape: OpShape) -> bool
-        ensures { result ≡ is_whole shape self.now }
-    {
-        (shape.fields.has_reg() | (self.reg == 0))
-            & (shape.fields.has_vvvv() | (self.vvvv == 0))
-            & (!matches!(shape.imm, OpImm::None) | (self.imm == 0))
-            & (self.reserved == 0)
-    }
-
-    /// The instruction that these integers would be, of which what its line lacks isn't tested.
-    #[inline(always)]
-    fn named(&self) -> Option<Core>
-        ensures none { IfNone result ((c : Core) → plain (core_view c) ≢ self.now) }
-        ensures some { IfSome result (λ d. (c : Core) → plain (core_view c) ≡ self.now → core_view d ≡ core_view c) }
-        ensures whole { IfSome result (λ d. is_whole (shape_of d.op.number) self.now ≡ true → plain (core_view d) ≡ self.now) }
-    {
-        let op = Op::from_number(self.line)?;
-        let place = self.place().place()?;
-        let shape = op.shape();
-        let reg = held(shape.fields.has_reg(), self.reg);
-        let vvvv = held(shape.fields.has_vvvv(), self.vvvv);
-        match Core::new(op, reg, vvvv, place, named(shape.imm, self.imm)) {
-            Ok(core) => Some(core),
-            Err(_) => None,
-        }
-    }
-
     /// The instruction of the core that these integers are. `None` where they are those of none: where the line is none of
     /// the core, what stands there isn't what the line takes, or something that the instruction lacks isn't 0.
     #[inline(always)]
@@ -135,11 +96,18 @@ impl HqInst {
         ensures none { IfNone result ((c : Core) → plain (core_view c) ≢ self.now) }
         ensures alone { IfSome result (λ d. (c : Core) → plain (core_view c) ≡ self.now → core_view d ≡ core_view c) }
     {
-        let core = self.named()?;
-        if self.is_whole(core.op().shape()) {
-            Some(core)
-        } else {
-            None
+        let op = Op::from_number(self.line)?;
+        let place = self.place().numbers()?;
+        let word = match bytes_of(op.shape().imm, self.imm) {
+            Some(word) => word,
+            None => return None,
+        };
+        if self.reserved != 0 {
+            return None;
+        }
+        match Core::of_numbers(op, self.reg, self.vvvv, place, word) {
+            Some(core) => Some(core),
+            None => None,
         }
     }
 }

@@ -1,14 +1,17 @@
 //! The place of an instruction in integers.
 
-ghost use Rattle.std.specs.Prelude.{◌≡◌, ◌≢◌, IfNone, IfSome};
-ghost use Rattle.cax64_plain.specs.Named.{offset_named};
+ghost use Rattle.std.specs.Prelude.{◌≡◌, ◌≢◌, ◌≤◌, IfNone, IfSome};
+ghost use Rattle.cax64_plain.specs.Named.{index_beside, is_whole, kind_number, offset_named};
 ghost use Rattle.cax64_plain.specs.Plain.{plain_place, target_place, trap_number};
 ghost use Rattle.x64_core.specs.View.{place_operand};
+ghost use Rattle.x64_core.specs.Viewed.{viewed};
 ghost use Rattle.x64_core.specs.declared.place.CorePlace.{CorePlace};
 
 use cax64_address::amode::Scale;
 use cax64_address::offset::AmodeOffset;
-use cax64_sink::{Constant, DeferredTarget, KnownOffset, Label, TrapCode};
+use cax64_place::{DataPlace, PlaceKind};
+use cax64_register::gpr;
+use cax64_sink::{DeferredTarget, KnownOffset, TrapCode};
 use std::num::NonZeroU8;
 use x64_core::CorePlace;
 
@@ -88,6 +91,36 @@ fn offset_of(has_offset: u8, offset: u8) -> Option<KnownOffset>
     if has_offset == 1 { Some(offset) } else { None }
 }
 
+/// The kind of a place by its number.
+#[inline(always)]
+fn kind_of(place: u8) -> Option<PlaceKind>
+    ensures some { IfSome result (λ kind. kind_number kind ≡ place) }
+    ensures none { IfNone result (7 ≤ place) }
+{
+    match place {
+        HQ_PLACE_NOTHING => Some(PlaceKind::Absent),
+        HQ_PLACE_REGISTER => Some(PlaceKind::Register),
+        HQ_PLACE_BASE => Some(PlaceKind::Base),
+        HQ_PLACE_INDEX => Some(PlaceKind::BaseAndIndex),
+        HQ_PLACE_LABEL => Some(PlaceKind::Label),
+        HQ_PLACE_CONSTANT => Some(PlaceKind::Constant),
+        HQ_PLACE_UNTOLD => Some(PlaceKind::NoTarget),
+        _ => None,
+    }
+}
+
+/// The index as a place of this kind keeps it: 4, which is none, beside a base alone.
+#[inline(always)]
+fn index_beside(kind: PlaceKind, index: u8) -> u8
+    ensures { result ≡ index_beside kind index }
+{
+    if matches!(kind, PlaceKind::Base) {
+        gpr::enc::RSP
+    } else {
+        index
+    }
+}
+
 impl HqPlace {
     /// No place.
     const NOTHING: HqPlace = HqPlace {
@@ -164,6 +197,53 @@ impl HqPlace {
         }
     }
 
+    /// Whether what a place of this kind lacks is 0, and the rest is in its range. Nothing is tested one after the other, since a
+    /// branch on what a place is is often guessed wrong.
+    #[inline(always)]
+    fn is_whole(&self, kind: PlaceKind) -> bool
+        ensures { result ≡ is_whole kind self.now }
+    {
+        let is_memory = matches!(kind, PlaceKind::Base | PlaceKind::BaseAndIndex);
+        let has_index = matches!(kind, PlaceKind::BaseAndIndex);
+        let has_offset = matches!(kind, PlaceKind::Base);
+        let has_base = is_memory | matches!(kind, PlaceKind::Register);
+        let has_target = matches!(kind, PlaceKind::Label | PlaceKind::Constant);
+        (has_base | (self.base == 0))
+            & (has_index | (self.index == 0))
+            & (has_index | (self.scale == 0))
+            & (self.scale < 4)
+            & (is_memory | (self.trap == 0))
+            & (has_offset | (self.has_offset == 0))
+            & (self.has_offset < 2)
+            & ((self.has_offset == 1) | (self.offset == 0))
+            & (is_memory | (self.disp == 0))
+            & (has_target | (self.target == 0))
+            & (self.reserved == 0)
+    }
+
+    /// The numbers of the place that these integers are. `None` where they are those of none: where `place` is above 6, the scale
+    /// above 3, or something that the place lacks isn't 0.
+    #[inline(always)]
+    pub fn numbers(&self) -> Option<DataPlace>
+        ensures is { IfSome result (λ d. plain_place (place_operand (viewed d)) ≡ self.now) }
+        ensures none { IfNone result ((p : CorePlace) → plain_place (place_operand p) ≢ self.now) }
+    {
+        let kind = kind_of(self.place)?;
+        if !self.is_whole(kind) {
+            return None;
+        }
+        Some(DataPlace {
+            kind,
+            base: self.base,
+            index: index_beside(kind, self.index),
+            scale: Scale::new(self.scale),
+            trap: trap_of(self.trap),
+            offset: offset_of(self.has_offset, self.offset),
+            displacement: AmodeOffset::new(self.disp),
+            target: self.target,
+        })
+    }
+
     /// The place that these integers are. `None` where they are those of none: where `place` is above 6, the scale above 3, or
     /// something that the place lacks isn't 0.
     #[inline(always)]
@@ -172,41 +252,7 @@ impl HqPlace {
         ensures none { IfNone result ((p : CorePlace) → plain_place (place_operand p) ≢ self.now) }
         ensures alone { IfSome result (λ q. (p : CorePlace) → plain_place (place_operand p) ≡ self.now → q ≡ p) }
     {
-        let place = self.named()?;
-        if HqPlace::of(&place) == *self {
-            Some(place)
-        } else {
-            None
-        }
-    }
-
-    /// The place that these integers name, if any does. Of what it lacks nothing is tested.
-    #[inline(always)]
-    fn named(&self) -> Option<CorePlace>
-        ensures none { IfNone result ((p : CorePlace) → plain_place (place_operand p) ≢ self.now) }
-        ensures some { IfSome result (λ q. (p : CorePlace) → plain_place (place_operand p) ≡ self.now → q ≡ p) }
-    {
-        let displacement = AmodeOffset::new(self.disp);
-        match self.place {
-            0 => Some(CorePlace::Absent),
-            1 => Some(CorePlace::Register(self.base)),
-            2 => Some(CorePlace::Base {
-                base: self.base,
-                trap: trap_of(self.trap),
-                offset: offset_of(self.has_offset, self.offset),
-                displacement,
-            }),
-            3 if self.scale < 4 => Some(CorePlace::BaseAndIndex {
-                base: self.base,
-                index: self.index,
-                scale: Scale::new(self.scale),
-                trap: trap_of(self.trap),
-                displacement,
-            }),
-            4 => Some(CorePlace::Relative(DeferredTarget::Label(Label(self.target)))),
-            5 => Some(CorePlace::Relative(DeferredTarget::Constant(Constant(self.target)))),
-            6 => Some(CorePlace::Relative(DeferredTarget::None)),
-            _ => None,
-        }
+        let numbers = self.numbers()?;
+        Some(CorePlace::of_numbers(&numbers))
     }
 }

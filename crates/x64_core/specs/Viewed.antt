@@ -1,4 +1,3 @@
-use Rattle.std.specs.Prelude.{ℕ}
 use Rattle.cax64_place.specs.declared.place.DataPlace.{DataPlace}
 use Rattle.cax64_place.specs.declared.place.PlaceKind.{PlaceKind}
 use Rattle.cax64_place.specs.declared.place.PlaceKind.TheVariants as kind

@@ -19,6 +19,7 @@ pub mod lines;
 pub mod make;
 pub mod makers;
 mod message;
+pub mod numbers;
 pub mod op;
 pub mod ops;
 pub mod place;

@@ -116,7 +116,7 @@ impl CorePlace {
 
     /// The place that these numbers are.
     #[inline(always)]
-    pub(crate) fn of_numbers(place: &DataPlace) -> CorePlace
+    pub fn of_numbers(place: &DataPlace) -> CorePlace
         ensures { result ≡ viewed place.now }
     {
         match place.kind {

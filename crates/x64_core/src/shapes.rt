@@ -1,7 +1,7 @@
 //! The operands that each line takes.
 
 ghost use Rattle.std.specs.Prelude.{◌≡◌, ◌<◌};
-ghost use Rattle.x64_core.specs.Shape.{has_reg, has_vvvv, shape_of};
+ghost use Rattle.x64_core.specs.Shape.{has_mem, has_reg, has_rm, has_vvvv, shape_of};
 ghost use Rattle.x64_core.specs.declared.lines.TheConstants.{COUNT};
 
 /// Where the operands of a line stand in the bytes.
@@ -658,5 +658,21 @@ impl OpFields {
         ensures { result ≡ has_vvvv self }
     {
         matches!(self, OpFields::RegVvvvRm)
+    }
+
+    /// Whether memory may stand in the rest of the tail.
+    #[inline(always)]
+    pub(crate) fn has_mem(self) -> bool
+        ensures { result ≡ has_mem self }
+    {
+        !matches!(self, OpFields::Bare)
+    }
+
+    /// Whether a register may stand there.
+    #[inline(always)]
+    pub(crate) fn has_rm(self) -> bool
+        ensures { result ≡ has_rm self }
+    {
+        matches!(self, OpFields::Rm | OpFields::RegRm | OpFields::RegVvvvRm)
     }
 }

@@ -1,0 +1,66 @@
+//! Instructions of any line, from numbers as they stand in the bytes.
+
+ghost use Rattle.std.specs.Prelude.{◌≡◌, ◌^◌, false, IfNone, IfSome, nat_lt, true};
+ghost use Rattle.cax64_machine_code.specs.Line.{imm_bytes};
+ghost use Rattle.x64_core.specs.Fits.{core_fits, place_fits};
+ghost use Rattle.x64_core.specs.Shape.{has_mem, has_rm, imm_field, shape_of};
+ghost use Rattle.x64_core.specs.Viewed.{viewed};
+
+use crate::instruction::Core;
+use crate::op::Op;
+use crate::shapes::{OpFields, OpImm};
+use cax64_place::{DataPlace, PlaceKind};
+
+/// Whether the place is one that a line of these fields takes. Nothing is tested one after the other, since a branch on what a
+/// place is is often guessed wrong.
+#[inline(always)]
+fn takes(fields: OpFields, place: &DataPlace) -> bool
+    ensures { result ≡ place_fits fields (viewed place.now) }
+{
+    let is_absent = matches!(place.kind, PlaceKind::Absent);
+    let is_register = matches!(place.kind, PlaceKind::Register);
+    (is_absent != fields.has_mem()) & (!is_register | fields.has_rm())
+}
+
+/// The first number that is too large for an immediate.
+#[inline(always)]
+fn limit(kind: OpImm) -> u64
+    ensures { result ≡ 256 ^ imm_bytes (imm_field kind) }
+{
+    match kind {
+        OpImm::None => 1,
+        OpImm::U8 | OpImm::I8 => 1 << 8,
+        OpImm::U16 => 1 << 16,
+        OpImm::U32 | OpImm::I32 => 1 << 32,
+    }
+}
+
+impl Core {
+    /// The instruction of a line with these numbers where they stand in the bytes, 0 where nothing stands; of an immediate its
+    /// bytes as one word, the first one the lowest. `None` where they aren't those that the line takes. Registers aren't tested.
+    #[inline(always)]
+    pub fn of_numbers(op: Op, reg: u8, vvvv: u8, place: DataPlace, word: u32) -> Option<Core>
+        ensures none { IfNone result (core_fits (shape_of op.number) reg vvvv (viewed place) word ≡ false) }
+        ensures some { IfSome result (λ c. core_fits (shape_of op.number) reg vvvv (viewed place) word ≡ true) }
+        ensures op { IfSome result (λ c. c.op ≡ op) }
+        ensures numbers { IfSome result (λ c. (c.reg ≡ reg) × (c.vvvv ≡ vvvv) × (c.imm ≡ word)) }
+        ensures place { IfSome result (λ c. c.place ≡ place) }
+    {
+        let shape = op.shape();
+        let fits = takes(shape.fields, &place)
+            & (u64::from(word) < limit(shape.imm))
+            & (shape.fields.has_reg() | (reg == 0))
+            & (shape.fields.has_vvvv() | (vvvv == 0));
+        if fits {
+            Some(Core {
+                place,
+                imm: word,
+                op,
+                reg,
+                vvvv,
+            })
+        } else {
+            None
+        }
+    }
+}
