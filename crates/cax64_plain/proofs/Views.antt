@@ -2,8 +2,8 @@ use Rattle.std.proofs.Common.{◌≡◌, ◌∙◌, ◌^◌, ◌<◌, ℕ, refl,
 use Rattle.std.proofs.Math.Facts.{sfits_to_z}
 use Rattle.std.proofs.lemmas.Bool.{and_parts}
 use Rattle.std.proofs.lemmas.Bool.Decides.{nat_tests}
-use Rattle.std.proofs.lemmas.Int.{ints, of_z-to_z, to_z-of_z}
-use Rattle.std.specs.Int.{cast_signed, cast_unsigned}
+use Rattle.std.proofs.lemmas.Int.{ints, to_z-of_z}
+use Rattle.std.specs.Int.{cast_signed}
 use Rattle.std.specs.Prelude.{◌==◌, ◌||◌, ◌≢◌, nat_lt, option_map}
 use Rattle.cax64_encoder.specs.ImmActions.{imm_named}
 use Rattle.cax64_machine_code.specs.Line.{imm_bytes}
@@ -142,6 +142,12 @@ vvvv_in c = ap (λ (v : CoreView). or_0 v.vvvv) (is_view c) ∙ kept _ c.vvvv (n
 low_in : (c : Core) → imm_word (core_view c).imm ≡ imm_word (option_map imm_value (imm_named (imm_field (shape_of c.op.number).imm) c.imm))
 low_in c = ap (λ (v : CoreView). imm_word v.imm) (is_view c)
 
+low_is : (c : Core) (i : HqInst) → plain (core_view c) ≡ i → imm_word (option_map imm_value (imm_named (imm_field (shape_of c.op.number).imm) c.imm)) ≡ i.imm
+low_is c i h = sym (low_in c) ∙ ap (λ (x : HqInst). x.imm) h
+
+fits_in : (c : Core) → nat_lt c.imm (256 ^ imm_bytes (imm_field (shape_of c.op.number).imm)) ≡ true
+fits_in c = word_fits (shape_of c.op.number) c.reg c.vvvv c.imm (viewed c.place) c.shape
+
 abbrev built : ℕ → ℕ → ℕ → ℕ → ℕ → HqPlace → HqInst
 built line reg vvvv reserved word p = record { line = line; place = p.place; reg = reg; vvvv = vvvv; base = p.base; index = p.index; scale = p.scale; trap = p.trap; has_offset = p.has_offset; offset = p.offset; reserved = reserved; disp = p.disp; target = p.target; imm = word }
 
@@ -149,11 +155,11 @@ built_is : (i : HqInst) (line reg vvvv reserved word : ℕ) (p : HqPlace) → li
 built_is i line reg vvvv reserved word p a b c d e f = rw (a, b, c, d, e, f) refl
 
 pub made_is : (i : HqInst) (c : Core) (s : OpShape) (d : DataPlace) (word number : ℕ) (pp : HqPlace)
-    → number ≡ i.line → s ≡ shape_of number → pp ≡ place_of i → plain_place (place_operand (viewed d)) ≡ pp → imm_word (option_map imm_value (imm_named (imm_field s.imm) word)) ≡ i.imm → 0 ≡ i.reserved
+    → number ≡ i.line → s ≡ shape_of number → pp ≡ place_of i → plain_place (place_operand (viewed d)) ≡ pp → (nat_lt word (256 ^ imm_bytes (imm_field s.imm)) ≡ true → imm_word (option_map imm_value (imm_named (imm_field s.imm) word)) ≡ i.imm) → 0 ≡ i.reserved
     → c.op.number ≡ number → c.reg ≡ i.reg → c.vvvv ≡ i.vvvv → c.place ≡ d → c.imm ≡ word → plain (core_view c) ≡ i
 made_is i c s d word number pp n es ep place low reserved op reg vvvv is imm =
     let shape : shape_of c.op.number ≡ s = ap shape_of op ∙ sym es in
-    let value : imm_word (option_map imm_value (imm_named (imm_field (shape_of c.op.number).imm) c.imm)) ≡ i.imm = rw (shape, imm) low in
+    let value : imm_word (option_map imm_value (imm_named (imm_field (shape_of c.op.number).imm) c.imm)) ≡ i.imm = rw (shape, imm) (low (rw (sym shape, sym imm) (fits_in c))) in
     built_is i c.op.number (or_0 (core_view c).reg) (or_0 (core_view c).vvvv) 0 (imm_word (core_view c).imm) (plain_place (place_operand (viewed c.place))) (op ∙ n) (reg_in c ∙ reg) (vvvv_in c ∙ vvvv) reserved (low_in c ∙ value) (ap (λ (p : DataPlace). plain_place (place_operand (viewed p))) is ∙ place ∙ ep)
 
 -- Integers of which none is made are those of no instruction.
@@ -163,39 +169,19 @@ pub no_word : (i : HqInst) (s : OpShape) (number : ℕ) → number ≡ i.line �
     → (c : Core) → plain (core_view c) ≢ i
 no_word i s number n es none c h =
     let shape : s ≡ shape_of c.op.number = es ∙ ap shape_of (n ∙ sym (number_in c i h)) in
-    none c.imm (rw shape (word_fits (shape_of c.op.number) c.reg c.vvvv c.imm (viewed c.place) c.shape)) (rw shape (sym (low_in c) ∙ ap (λ (x : HqInst). x.imm) h))
-
-same_value : (kind : OpImm) (a b : ℕ) → nat_lt a (256 ^ imm_bytes (imm_field kind)) ≡ true → nat_lt b (256 ^ imm_bytes (imm_field kind)) ≡ true → imm_word (option_map imm_value (imm_named (imm_field kind) a)) ≡ imm_word (option_map imm_value (imm_named (imm_field kind) b)) → option_map imm_value (imm_named (imm_field kind) a) ≡ option_map imm_value (imm_named (imm_field kind) b)
-same_value kind a b f g h = sym (imm_back kind a f) ∙ ap (λ (n : ℕ). word_named kind n) h ∙ imm_back kind b g
-
-same_pos : (a b : ℕ) → ◌≡◌ {A = Option ℤ} (Some (pos a)) (Some (pos b)) → a ≡ b
-same_pos a b h = cc
-
-same_some : (a b : ℤ) → ◌≡◌ {A = Option ℤ} (Some a) (Some b) → a ≡ b
-same_some a b h = cc
-
-same_word : (kind : OpImm) (a b : ℕ) → nat_lt a (256 ^ imm_bytes (imm_field kind)) ≡ true → nat_lt b (256 ^ imm_bytes (imm_field kind)) ≡ true → option_map imm_value (imm_named (imm_field kind) a) ≡ option_map imm_value (imm_named (imm_field kind) b) → a ≡ b
-same_word imm.None a b f g h = grind (arith, nat_tests, f, g)
-same_word imm.U8 a b f g h = same_pos a b h
-same_word imm.U16 a b f g h = same_pos a b h
-same_word imm.U32 a b f g h = same_pos a b h
-same_word imm.I8 a b f g h = sym (of_z-to_z w8 a (below _ _ f)) ∙ ap (λ (z : ℤ). cast_unsigned w8 z) (same_some _ _ h) ∙ of_z-to_z w8 b (below _ _ g)
-same_word imm.I32 a b f g h = sym (of_z-to_z w32 a (below _ _ f)) ∙ ap (λ (z : ℤ). cast_unsigned w32 z) (same_some _ _ h) ∙ of_z-to_z w32 b (below _ _ g)
+    none c.imm (rw shape (fits_in c)) (rw shape (low_is c i h))
 
 pub not_taken : (i : HqInst) (s : OpShape) (d : DataPlace) (word number : ℕ) (pp : HqPlace)
     → number ≡ i.line → s ≡ shape_of number → pp ≡ place_of i → plain_place (place_operand (viewed d)) ≡ pp
-    → nat_lt word (256 ^ imm_bytes (imm_field s.imm)) ≡ true → imm_word (option_map imm_value (imm_named (imm_field s.imm) word)) ≡ i.imm
+    → ((other : ℕ) → nat_lt other (256 ^ imm_bytes (imm_field s.imm)) ≡ true → imm_word (option_map imm_value (imm_named (imm_field s.imm) other)) ≡ i.imm → word ≡ other)
     → core_fits (shape_of number) i.reg i.vvvv (viewed d) word ≡ false → (c : Core) → plain (core_view c) ≢ i
-not_taken i s d word number pp n es ep place fits low refused c h =
+not_taken i s d word number pp n es ep place alone refused c h =
     let op : number ≡ c.op.number = n ∙ sym (number_in c i h) in
     let shape : s ≡ shape_of c.op.number = es ∙ ap shape_of op in
     let reg : i.reg ≡ c.reg = sym (ap (λ (x : HqInst). x.reg) h) ∙ reg_in c in
     let vvvv : i.vvvv ≡ c.vvvv = sym (ap (λ (x : HqInst). x.vvvv) h) ∙ vvvv_in c in
     let is : viewed d ≡ viewed c.place = same_place (viewed d) (viewed c.place) (place ∙ ep ∙ sym (place_in c i h)) in
-    let own : nat_lt c.imm (256 ^ imm_bytes (imm_field (shape_of c.op.number).imm)) ≡ true = word_fits (shape_of c.op.number) c.reg c.vvvv c.imm (viewed c.place) c.shape in
-    let mine : nat_lt word (256 ^ imm_bytes (imm_field (shape_of c.op.number).imm)) ≡ true = rw (sym shape) fits in
-    let same : imm_word (option_map imm_value (imm_named (imm_field (shape_of c.op.number).imm) word)) ≡ imm_word (option_map imm_value (imm_named (imm_field (shape_of c.op.number).imm) c.imm)) = rw (sym shape) low ∙ sym (ap (λ (x : HqInst). x.imm) h) ∙ low_in c in
-    let imm : word ≡ c.imm = same_word (shape_of c.op.number).imm word c.imm mine own (same_value (shape_of c.op.number).imm word c.imm mine own same) in
+    let imm : word ≡ c.imm = alone c.imm (rw shape (fits_in c)) (rw shape (low_is c i h)) in
     let taken : core_fits (shape_of number) i.reg i.vvvv (viewed d) word ≡ true = rw (op, reg, vvvv, is, imm) c.shape in
     let both : ◌≡◌ {A = Bool} true false = sym taken ∙ refused in
     cc

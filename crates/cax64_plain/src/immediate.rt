@@ -33,35 +33,20 @@ pub(crate) fn word_of(imm: Option<i64>) -> u32
     }
 }
 
-/// The first number that is too large for the bytes of an immediate.
-#[inline(always)]
-fn limit(kind: OpImm) -> u64
-    ensures { result ≡ 256 ^ imm_bytes (imm_field kind) }
-{
-    match kind {
-        OpImm::None => 1,
-        OpImm::U8 | OpImm::I8 => 1 << 8,
-        OpImm::U16 => 1 << 16,
-        OpImm::U32 | OpImm::I32 => 1 << 32,
-    }
-}
-
-/// The bytes of an immediate of this kind as one word, the first one the lowest, of its low 32 bits. `None` where it's out of
-/// its range.
+/// The bytes of an immediate of this kind as one word, the first one the lowest, of its low 32 bits. `None` where it's no byte
+/// whose sign they have. Whether the word is in the immediate's range isn't tested otherwise.
 #[inline(always)]
 pub(crate) fn bytes_of(kind: OpImm, low: u32) -> Option<u32>
-    ensures fits { IfSome result (λ word. nat_lt word (256 ^ imm_bytes (imm_field kind)) ≡ true) }
-    ensures is { IfSome result (λ word. imm_word (option_map imm_value (imm_named (imm_field kind) word)) ≡ low) }
-    ensures none { IfNone result ((word : ℕ) → nat_lt word (256 ^ imm_bytes (imm_field kind)) ≡ true → imm_word (option_map imm_value (imm_named (imm_field kind) word)) ≢ low) }
+    ensures is { IfSome result (λ word. nat_lt word (256 ^ imm_bytes (imm_field kind)) ≡ true → imm_word (option_map imm_value (imm_named (imm_field kind) word)) ≡ low) }
+    ensures alone { IfSome result (λ word. (other : ℕ) → nat_lt other (256 ^ imm_bytes (imm_field kind)) ≡ true → imm_word (option_map imm_value (imm_named (imm_field kind) other)) ≡ low → word ≡ other) }
+    ensures none { IfNone result ((other : ℕ) → nat_lt other (256 ^ imm_bytes (imm_field kind)) ≡ true → imm_word (option_map imm_value (imm_named (imm_field kind) other)) ≢ low) }
 {
-    let is_signed_byte = matches!(kind, OpImm::I8);
-    let shifted = if is_signed_byte {
-        low.wrapping_add(128)
-    } else {
-        low
-    };
-    if u64::from(shifted) >= limit(kind) {
-        return None;
+    if !matches!(kind, OpImm::I8) {
+        return Some(low);
     }
-    Some(if is_signed_byte { low % 256 } else { low })
+    if low.wrapping_add(128) < 256 {
+        Some(low % 256)
+    } else {
+        None
+    }
 }

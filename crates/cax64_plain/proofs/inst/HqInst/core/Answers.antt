@@ -20,4 +20,4 @@ pub returns-in-Some-of_numbers-clause-alone : goal.returns-in-Some-of_numbers-cl
 returns-in-Some-of_numbers-clause-alone c = λ core h. same_view c.args.self.now c.in-Some-of_numbers.core core (is c) h
 
 pub returns-in-None-of_numbers-clause-none : goal.returns-in-None-of_numbers-clause-none
-returns-in-None-of_numbers-clause-none c = not_taken c.args.self.now c.shape.result c.in_ok-place.place c.in-Some.word c.in_ok-op.op.number c.place.result c.in_ok-op.ensures.found c.shape.ensures c.place.ensures c.in_ok-place.ensures.is c.in-Some.ensures.fits c.in-Some.ensures.is c.in-None-of_numbers.ensures.none
+returns-in-None-of_numbers-clause-none c = not_taken c.args.self.now c.shape.result c.in_ok-place.place c.in-Some.word c.in_ok-op.op.number c.place.result c.in_ok-op.ensures.found c.shape.ensures c.place.ensures c.in_ok-place.ensures.is c.in-Some.ensures.alone c.in-None-of_numbers.ensures.none
