@@ -8,11 +8,12 @@ use Rattle.cax64_address.specs.declared.amode.Scale.{Scale}
 use Rattle.cax64_address.specs.declared.amode.Scale.TheVariants.{One, Two, Four, Eight}
 use Rattle.cax64_place.specs.Kind.{has_base, has_index}
 use Rattle.cax64_place.specs.Place.{is_one, is_plain, is_zero, nothing_more}
+use Rattle.cax64_place.specs.Tail.{kind_number}
 use Rattle.cax64_place.specs.declared.place.DataPlace.{DataPlace}
 use Rattle.cax64_place.specs.declared.place.PlaceKind.{PlaceKind}
 use Rattle.cax64_place.specs.declared.place.PlaceKind.TheVariants.{Absent, Register, Base, BaseAndIndex, Label, Constant, NoTarget}
 use Rattle.cax64_sink.specs.declared.TrapCode.{TrapCode}
-use Rattle.cax64_plain.specs.Named.{has_offset, has_target, index_beside, is_memory, is_whole, kind_number, offset_named}
+use Rattle.cax64_plain.specs.Named.{has_displacement, has_offset, has_target, index_beside, is_whole, offset_named}
 use Rattle.cax64_plain.specs.Plain.{or_0, plain_place, trap_number}
 use Rattle.cax64_plain.specs.declared.place.HqPlace.{HqPlace}
 use Rattle.cax64_plain.proofs.Places.{zero_value}
@@ -62,23 +63,23 @@ record Whole (kind : PlaceKind) (s : HqPlace) : Type 0 where
   base : (has_base kind || (s.base == 0)) ≡ true
   index : (has_index kind || (s.index == 0)) ≡ true
   scale : (has_index kind || (s.scale == 0)) ≡ true
-  trap : (is_memory kind || (s.trap == 0)) ≡ true
+  trap : (has_displacement kind || (s.trap == 0)) ≡ true
   offset : (has_offset kind || (s.has_offset == 0)) ≡ true
   flag : nat_lt s.has_offset 2 ≡ true
   key : ((s.has_offset == 1) || (s.offset == 0)) ≡ true
-  disp : (is_memory kind || is_zero s.disp) ≡ true
+  disp : (has_displacement kind || is_zero s.disp) ≡ true
   target : (has_target kind || (s.target == 0)) ≡ true
   reserved : (s.reserved == 0) ≡ true
 
 whole : (kind : PlaceKind) (s : HqPlace) → is_whole kind s ≡ true → Whole kind s
 whole kind s h =
-    let p10 = and_parts ((((((((((has_base kind || (s.base == 0)) && (has_index kind || (s.index == 0))) && (has_index kind || (s.scale == 0))) && nat_lt s.scale 4) && (is_memory kind || (s.trap == 0))) && (has_offset kind || (s.has_offset == 0))) && nat_lt s.has_offset 2) && ((s.has_offset == 1) || (s.offset == 0))) && (is_memory kind || is_zero s.disp)) && (has_target kind || (s.target == 0))) (s.reserved == 0) h in
-    let p9 = and_parts (((((((((has_base kind || (s.base == 0)) && (has_index kind || (s.index == 0))) && (has_index kind || (s.scale == 0))) && nat_lt s.scale 4) && (is_memory kind || (s.trap == 0))) && (has_offset kind || (s.has_offset == 0))) && nat_lt s.has_offset 2) && ((s.has_offset == 1) || (s.offset == 0))) && (is_memory kind || is_zero s.disp)) (has_target kind || (s.target == 0)) p10.0 in
-    let p8 = and_parts ((((((((has_base kind || (s.base == 0)) && (has_index kind || (s.index == 0))) && (has_index kind || (s.scale == 0))) && nat_lt s.scale 4) && (is_memory kind || (s.trap == 0))) && (has_offset kind || (s.has_offset == 0))) && nat_lt s.has_offset 2) && ((s.has_offset == 1) || (s.offset == 0))) (is_memory kind || is_zero s.disp) p9.0 in
-    let p7 = and_parts (((((((has_base kind || (s.base == 0)) && (has_index kind || (s.index == 0))) && (has_index kind || (s.scale == 0))) && nat_lt s.scale 4) && (is_memory kind || (s.trap == 0))) && (has_offset kind || (s.has_offset == 0))) && nat_lt s.has_offset 2) ((s.has_offset == 1) || (s.offset == 0)) p8.0 in
-    let p6 = and_parts ((((((has_base kind || (s.base == 0)) && (has_index kind || (s.index == 0))) && (has_index kind || (s.scale == 0))) && nat_lt s.scale 4) && (is_memory kind || (s.trap == 0))) && (has_offset kind || (s.has_offset == 0))) (nat_lt s.has_offset 2) p7.0 in
-    let p5 = and_parts (((((has_base kind || (s.base == 0)) && (has_index kind || (s.index == 0))) && (has_index kind || (s.scale == 0))) && nat_lt s.scale 4) && (is_memory kind || (s.trap == 0))) (has_offset kind || (s.has_offset == 0)) p6.0 in
-    let p4 = and_parts ((((has_base kind || (s.base == 0)) && (has_index kind || (s.index == 0))) && (has_index kind || (s.scale == 0))) && nat_lt s.scale 4) (is_memory kind || (s.trap == 0)) p5.0 in
+    let p10 = and_parts ((((((((((has_base kind || (s.base == 0)) && (has_index kind || (s.index == 0))) && (has_index kind || (s.scale == 0))) && nat_lt s.scale 4) && (has_displacement kind || (s.trap == 0))) && (has_offset kind || (s.has_offset == 0))) && nat_lt s.has_offset 2) && ((s.has_offset == 1) || (s.offset == 0))) && (has_displacement kind || is_zero s.disp)) && (has_target kind || (s.target == 0))) (s.reserved == 0) h in
+    let p9 = and_parts (((((((((has_base kind || (s.base == 0)) && (has_index kind || (s.index == 0))) && (has_index kind || (s.scale == 0))) && nat_lt s.scale 4) && (has_displacement kind || (s.trap == 0))) && (has_offset kind || (s.has_offset == 0))) && nat_lt s.has_offset 2) && ((s.has_offset == 1) || (s.offset == 0))) && (has_displacement kind || is_zero s.disp)) (has_target kind || (s.target == 0)) p10.0 in
+    let p8 = and_parts ((((((((has_base kind || (s.base == 0)) && (has_index kind || (s.index == 0))) && (has_index kind || (s.scale == 0))) && nat_lt s.scale 4) && (has_displacement kind || (s.trap == 0))) && (has_offset kind || (s.has_offset == 0))) && nat_lt s.has_offset 2) && ((s.has_offset == 1) || (s.offset == 0))) (has_displacement kind || is_zero s.disp) p9.0 in
+    let p7 = and_parts (((((((has_base kind || (s.base == 0)) && (has_index kind || (s.index == 0))) && (has_index kind || (s.scale == 0))) && nat_lt s.scale 4) && (has_displacement kind || (s.trap == 0))) && (has_offset kind || (s.has_offset == 0))) && nat_lt s.has_offset 2) ((s.has_offset == 1) || (s.offset == 0)) p8.0 in
+    let p6 = and_parts ((((((has_base kind || (s.base == 0)) && (has_index kind || (s.index == 0))) && (has_index kind || (s.scale == 0))) && nat_lt s.scale 4) && (has_displacement kind || (s.trap == 0))) && (has_offset kind || (s.has_offset == 0))) (nat_lt s.has_offset 2) p7.0 in
+    let p5 = and_parts (((((has_base kind || (s.base == 0)) && (has_index kind || (s.index == 0))) && (has_index kind || (s.scale == 0))) && nat_lt s.scale 4) && (has_displacement kind || (s.trap == 0))) (has_offset kind || (s.has_offset == 0)) p6.0 in
+    let p4 = and_parts ((((has_base kind || (s.base == 0)) && (has_index kind || (s.index == 0))) && (has_index kind || (s.scale == 0))) && nat_lt s.scale 4) (has_displacement kind || (s.trap == 0)) p5.0 in
     let p3 = and_parts (((has_base kind || (s.base == 0)) && (has_index kind || (s.index == 0))) && (has_index kind || (s.scale == 0))) (nat_lt s.scale 4) p4.0 in
     let p2 = and_parts ((has_base kind || (s.base == 0)) && (has_index kind || (s.index == 0))) (has_index kind || (s.scale == 0)) p3.0 in
     let p1 = and_parts (has_base kind || (s.base == 0)) (has_index kind || (s.index == 0)) p2.0 in

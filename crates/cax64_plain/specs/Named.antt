@@ -9,16 +9,6 @@ use Rattle.cax64_plain.specs.declared.place.HqPlace.{HqPlace}
 abbrev pub offset_named : ℕ → ℕ → Option ℕ
 offset_named has_offset offset = if has_offset == 1 then Some offset else None
 
--- the number of a place
-abbrev pub kind_number : PlaceKind → ℕ
-kind_number Absent = 0
-kind_number Register = 1
-kind_number Base = 2
-kind_number BaseAndIndex = 3
-kind_number Label = 4
-kind_number Constant = 5
-kind_number NoTarget = 6
-
 -- beside a base alone a place keeps 4 as its index, which is none
 abbrev pub index_beside : PlaceKind → ℕ → ℕ
 index_beside Absent index = index
@@ -29,16 +19,16 @@ index_beside Label index = index
 index_beside Constant index = index
 index_beside NoTarget index = index
 
--- whether a trap and a displacement may stand there, a late offset, a target
+-- whether a trap and a displacement may stand in a place, a late offset, a target
 
-abbrev pub is_memory : PlaceKind → Bool
-is_memory Absent = false
-is_memory Register = false
-is_memory Base = true
-is_memory BaseAndIndex = true
-is_memory Label = false
-is_memory Constant = false
-is_memory NoTarget = false
+abbrev pub has_displacement : PlaceKind → Bool
+has_displacement Absent = false
+has_displacement Register = false
+has_displacement Base = true
+has_displacement BaseAndIndex = true
+has_displacement Label = false
+has_displacement Constant = false
+has_displacement NoTarget = false
 
 abbrev pub has_offset : PlaceKind → Bool
 has_offset Absent = false
@@ -60,4 +50,4 @@ has_target NoTarget = false
 
 -- what a place of a kind lacks is 0, and the rest is in its range
 abbrev pub is_whole : PlaceKind → HqPlace → Bool
-is_whole kind s = ((((((((((has_base kind || (s.base == 0)) && (has_index kind || (s.index == 0))) && (has_index kind || (s.scale == 0))) && nat_lt s.scale 4) && (is_memory kind || (s.trap == 0))) && (has_offset kind || (s.has_offset == 0))) && nat_lt s.has_offset 2) && ((s.has_offset == 1) || (s.offset == 0))) && (is_memory kind || is_zero s.disp)) && (has_target kind || (s.target == 0))) && (s.reserved == 0)
+is_whole kind s = ((((((((((has_base kind || (s.base == 0)) && (has_index kind || (s.index == 0))) && (has_index kind || (s.scale == 0))) && nat_lt s.scale 4) && (has_displacement kind || (s.trap == 0))) && (has_offset kind || (s.has_offset == 0))) && nat_lt s.has_offset 2) && ((s.has_offset == 1) || (s.offset == 0))) && (has_displacement kind || is_zero s.disp)) && (has_target kind || (s.target == 0))) && (s.reserved == 0)

@@ -33,8 +33,8 @@ pub(crate) fn word_of(imm: Option<i64>) -> u32
     }
 }
 
-/// The bytes of an immediate of this kind as one word, the first one the lowest, of its low 32 bits. `None` where it's no byte
-/// whose sign they have. Whether the word is in the immediate's range isn't tested otherwise.
+/// The bytes of an immediate of this kind as one word, the first one the lowest, from the low 32 bits of its value. `None` where a
+/// signed byte is wanted and these are of no number from -128 to 127. No other range is tested.
 #[inline(always)]
 pub(crate) fn bytes_of(kind: OpImm, low: u32) -> Option<u32>
     ensures is { IfSome result (λ word. nat_lt word (256 ^ imm_bytes (imm_field kind)) ≡ true → imm_word (option_map imm_value (imm_named (imm_field kind) word)) ≡ low) }

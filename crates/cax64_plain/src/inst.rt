@@ -105,6 +105,7 @@ impl HqInst {
         if self.reserved != 0 {
             return None;
         }
+        // As it is, but by cases: the proof has one for each.
         match Core::of_numbers(op, self.reg, self.vvvv, place, word) {
             Some(core) => Some(core),
             None => None,

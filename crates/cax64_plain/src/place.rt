@@ -1,7 +1,8 @@
 //! The place of an instruction in integers.
 
 ghost use Rattle.std.specs.Prelude.{◌≡◌, ◌≢◌, ◌≤◌, IfNone, IfSome};
-ghost use Rattle.cax64_plain.specs.Named.{index_beside, is_whole, kind_number, offset_named};
+ghost use Rattle.cax64_place.specs.Tail.{kind_number};
+ghost use Rattle.cax64_plain.specs.Named.{index_beside, is_whole, offset_named};
 ghost use Rattle.cax64_plain.specs.Plain.{plain_place, target_place, trap_number};
 ghost use Rattle.x64_core.specs.View.{place_operand};
 ghost use Rattle.x64_core.specs.Viewed.{viewed};
@@ -203,20 +204,20 @@ impl HqPlace {
     fn is_whole(&self, kind: PlaceKind) -> bool
         ensures { result ≡ is_whole kind self.now }
     {
-        let is_memory = matches!(kind, PlaceKind::Base | PlaceKind::BaseAndIndex);
+        let has_displacement = matches!(kind, PlaceKind::Base | PlaceKind::BaseAndIndex);
         let has_index = matches!(kind, PlaceKind::BaseAndIndex);
         let has_offset = matches!(kind, PlaceKind::Base);
-        let has_base = is_memory | matches!(kind, PlaceKind::Register);
+        let has_base = has_displacement | matches!(kind, PlaceKind::Register);
         let has_target = matches!(kind, PlaceKind::Label | PlaceKind::Constant);
         (has_base | (self.base == 0))
             & (has_index | (self.index == 0))
             & (has_index | (self.scale == 0))
             & (self.scale < 4)
-            & (is_memory | (self.trap == 0))
+            & (has_displacement | (self.trap == 0))
             & (has_offset | (self.has_offset == 0))
             & (self.has_offset < 2)
             & ((self.has_offset == 1) | (self.offset == 0))
-            & (is_memory | (self.disp == 0))
+            & (has_displacement | (self.disp == 0))
             & (has_target | (self.target == 0))
             & (self.reserved == 0)
     }
