@@ -1,11 +1,11 @@
-use Rattle.std.proofs.Common.{◌≡◌, ◌∙◌, ◌+◌, ◌<◌, ◌⊎◌, inl, inr, ℕ, ℤ, pos, ap, sym, subst, false, Option, None, List, [], length}
+use Rattle.std.proofs.Common.{◌≡◌, ◌∙◌, ◌+◌, ◌<◌, ◌≤◌, ◌⊎◌, ℕ, ℤ, pos, ap, sym, subst, false, Option, None, List, [], length}
 use Rattle.std.specs.Prelude.{Err, IfSome, Ok, Result, if◌then◌else◌, is_err, is_ok}
 use Rattle.cax64_encoder.specs.declared.fault.Fault.{Fault}
 use Rattle.cax64_sink.specs.Sink.{State}
 use Rattle.cax64_sink.specs.declared.DeferredTarget.{DeferredTarget}
 use Rattle.huqmeris_c.proofs.Made.{list_refused}
 use Rattle.huqmeris_c.specs.Encodes.{no_offsets}
-use Rattle.huqmeris_c.specs.Items.{FirstRefused, NoItem, Unlisted}
+use Rattle.huqmeris_c.specs.Items.{CantBePut, FirstRefused}
 use Rattle.huqmeris_c.specs.Putting.{Begun, HasItems, MakesEach, TellsOf, core_fault}
 use Rattle.huqmeris_c.specs.declared.item.HqItem.{HqItem}
 use Rattle.x64_assemble.specs.Assembled as laid_out
@@ -41,8 +41,8 @@ begun_more r n b d well count state places filled h = record {
 known : (s : State) → ((key : ℕ) → s.offsets key ≡ None) → s.offsets ≡ no_offsets
 known s h = λ i key. h key i
 
-pub has_items : {A : Type 0} (items : List HqItem) (xs : List (Item Core)) (n : ℕ) (b : CodeBuffer A) (t : State) (new : DeferredTarget → Option ℕ) → MakesEach items xs → Begun n b → ((pieces : List Piece) → Laid pieces (length (buffer_state b).bytes) (buffer_state b) (places_of b) → laid_out.Assembled (λ core. core_listed (core_view core) (buffer_state b).offsets) xs pieces (buffer_state b) t (places_of b) new) → ((k : ℕ) → refusal_at (λ core. (core_listed (core_view core) (buffer_state b).offsets).fault) (label_count b) (places_of b) xs k ≡ None) → HasItems items t new
-has_items items xs n b t new makes h put tested =
+pub has_items : {A : Type 0} (items : List HqItem) (xs : List (Item Core)) (b : CodeBuffer A) (t : State) (new : DeferredTarget → Option ℕ) → MakesEach items xs → Begun (label_count b) b → ((pieces : List Piece) → Laid pieces (length (buffer_state b).bytes) (buffer_state b) (places_of b) → laid_out.Assembled (λ core. core_listed (core_view core) (buffer_state b).offsets) xs pieces (buffer_state b) t (places_of b) new) → ((k : ℕ) → refusal_at (λ core. (core_listed (core_view core) (buffer_state b).offsets).fault) (label_count b) (places_of b) xs k ≡ None) → HasItems (label_count b) items t new
+has_items items xs b t new makes h put tested =
     let s : State = buffer_state b in
     let none : s.offsets ≡ no_offsets = known s h.offsets in
     let start : length s.bytes ≡ 0 = ap (λ (l : List ℕ). length l) h.bytes in
@@ -50,7 +50,6 @@ has_items items xs n b t new makes h put tested =
       list = xs;
       makes = makes;
       before = s;
-      given = label_count b;
       old = places_of b;
       bytes = h.bytes;
       notices = h.notices;
@@ -59,15 +58,11 @@ has_items items xs n b t new makes h put tested =
       tested = subst (λ (o : ℕ → Option ℤ). (k : ℕ) → refusal_at (λ core. (core_listed (core_view core) o).fault) (label_count b) (places_of b) xs k ≡ None) none tested;
     }
 
-refused_first : (fault : Core → Option Fault) (given : ℕ) (places : DeferredTarget → Option ℕ) (xs : List (Item Core)) (e : LayoutError) (other : Core → Option Fault) (count : ℕ) → fault ≡ other → given ≡ count → IfSome (number_in e) (λ k. IsFirstRefusal fault given places xs k e) → IfSome (number_in e) (λ k. IsFirstRefusal other count places xs k e)
-refused_first fault given places xs e other count same many h = subst (λ (m : ℕ). IfSome (number_in e) (λ k. IsFirstRefusal other m places xs k e)) many (subst (λ (f : Core → Option Fault). IfSome (number_in e) (λ k. IsFirstRefusal f given places xs k e)) same h)
+refused_first : (fault : Core → Option Fault) (given : ℕ) (places : DeferredTarget → Option ℕ) (xs : List (Item Core)) (e : LayoutError) (other : Core → Option Fault) → fault ≡ other → IfSome (number_in e) (λ k. IsFirstRefusal fault given places xs k e) → IfSome (number_in e) (λ k. IsFirstRefusal other given places xs k e)
+refused_first fault given places xs e other same h = subst (λ (f : Core → Option Fault). IfSome (number_in e) (λ k. IsFirstRefusal f given places xs k e)) same h
 
-pub put_refused : {A : Type 0} (items : List HqItem) (xs : List (Item Core)) (n number : ℕ) (status : ℤ) (e : LayoutError) (b : CodeBuffer A) → MakesEach items xs → Begun n b → n ≡ length items → IfSome (number_in e) (λ k. IsFirstRefusal (λ core. (core_listed (core_view core) (buffer_state b).offsets).fault) (label_count b) (places_of b) xs k e) → (e ≡ refusal.TooMany → 165191049 < length xs) → TellsOf e number status → Unlisted items number status
-put_refused items xs n number status e b makes h count first many told =
+pub put_refused : {A : Type 0} (items : List HqItem) (xs : List (Item Core)) (number : ℕ) (status : ℤ) (e : LayoutError) (b : CodeBuffer A) → MakesEach items xs → Begun (label_count b) b → length items ≤ 165191049 → IfSome (number_in e) (λ k. IsFirstRefusal (λ core. (core_listed (core_view core) (buffer_state b).offsets).fault) (label_count b) (places_of b) xs k e) → (e ≡ refusal.TooMany → 165191049 < length xs) → TellsOf e number status → (status ≡ pos 11) ⊎ FirstRefused (CantBePut (label_count b)) items number status
+put_refused items xs number status e b makes h few first many told =
     let none : (buffer_state b).offsets ≡ no_offsets = known (buffer_state b) h.offsets in
-    let is : IfSome (number_in e) (λ k. IsFirstRefusal core_fault (length items) (places_of b) xs k e) = refused_first (λ core. (core_listed (core_view core) (buffer_state b).offsets).fault) (label_count b) (places_of b) xs e core_fault (length items) (ap {B = Core → Option Fault} (λ (o : ℕ → Option ℤ) (core : Core). fault_of o (core_view core)) none) (h.labels ∙ count) first in
-    list_refused items xs (places_of b) number status e makes h.places is many told
-
-pub unlisted : (items : List HqItem) (number : ℕ) (status : ℤ) → (status ≡ pos 11) ⊎ FirstRefused (λ before. NoItem) items number status → Unlisted items number status
-unlisted items number status (inl m) = inl m
-unlisted items number status (inr f) = inr (inr (inl f))
+    let is : IfSome (number_in e) (λ k. IsFirstRefusal core_fault (label_count b) (places_of b) xs k e) = refused_first (λ core. (core_listed (core_view core) (buffer_state b).offsets).fault) (label_count b) (places_of b) xs e core_fault (ap {B = Core → Option Fault} (λ (o : ℕ → Option ℤ) (core : Core). fault_of o (core_view core)) none) first in
+    list_refused (label_count b) items xs (places_of b) number status e makes few h.places is many told

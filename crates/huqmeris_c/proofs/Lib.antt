@@ -5,6 +5,10 @@ pub mod Listing
 pub mod Middle
 pub mod OfKinds
 pub mod Made
+pub mod Splits
+pub mod Refusing
+pub mod Behind
+pub mod Unlisted
 pub mod Begun
 pub mod Settled
 pub mod Opened

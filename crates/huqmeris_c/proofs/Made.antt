@@ -9,8 +9,8 @@ use Rattle.cax64_sink.specs.declared.DeferredTarget.TheVariants as target
 use Rattle.cax64_sink.specs.declared.Label.{Label}
 use Rattle.huqmeris_c.specs.Each.{HasFault}
 use Rattle.huqmeris_c.specs.Encodes.{no_offsets}
-use Rattle.huqmeris_c.specs.Items.{Binds, CantBePut, FirstRefused, ListIs, NoItem, Unlisted, jump_named}
-use Rattle.huqmeris_c.specs.Putting.{Makes, MakesEach, TellsOf, core_fault}
+use Rattle.huqmeris_c.specs.Items.{Binds, CantBePut, FirstRefused, ListIs, jump_named}
+use Rattle.huqmeris_c.specs.Putting.{Makes, MakesEach, NoCode, TellsOf, core_fault}
 use Rattle.huqmeris_c.specs.declared.item.HqItem.{HqItem}
 use Rattle.x64_assemble.proofs.Entries.{free_label}
 use Rattle.x64_assemble.specs.Assembled.{spot_of}
@@ -90,7 +90,7 @@ list_is (g ∷ hs) (item.Jump jump to ∷ ys) e = (e.0, list_is hs ys e.1)
 
 -- Kinds.
 
-jump_not : (kind n : ℕ) (jump : Jump) → jump_named kind ≡ Some jump → jump_named n ≡ None → kind ≡ n → ⊥
+pub jump_not : (kind n : ℕ) (jump : Jump) → jump_named kind ≡ Some jump → jump_named n ≡ None → kind ≡ n → ⊥
 jump_not kind n jump is none e = let k : ◌≡◌ {A = Option Jump} None (Some jump) = sym none ∙ ap jump_named (sym e) ∙ is in cc
 
 jump_not_0 : (kind : ℕ) (jump : Jump) → jump_named kind ≡ Some jump → kind ≡ 0 → ⊥
@@ -103,13 +103,13 @@ two_kinds : (kind : ℕ) → kind ≡ 0 → kind ≡ 1 → ⊥
 two_kinds kind a b = omega (arith, a, b)
 
 -- What makes an item is none otherwise.
-pub no_item_made : (h : HqItem) (x : Item Core) (status : ℤ) → Makes h x → NoItem h status → ⊥
-no_item_made h (item.Inst core) status m (inl n) = n.1 m.0
-no_item_made h (item.Inst core) status m (inr n) = n.2 core m.1
-no_item_made h (item.Bind bound) status m (inl n) = n.2 m.0
-no_item_made h (item.Bind bound) status m (inr n) = two_kinds h.kind n.1 m.0
-no_item_made h (item.Jump jump to) status m (inl n) = let k : ◌≡◌ {A = Option Jump} None (Some jump) = sym n.3 ∙ m.0 in cc
-no_item_made h (item.Jump jump to) status m (inr n) = jump_not_0 h.kind jump m.0 n.1
+pub no_code_made : (h : HqItem) (x : Item Core) (status : ℤ) → Makes h x → NoCode h status → ⊥
+no_code_made h (item.Inst core) status m (inl n) = n.1 m.0
+no_code_made h (item.Inst core) status m (inr n) = n.2 core m.1
+no_code_made h (item.Bind bound) status m (inl n) = n.2 m.0
+no_code_made h (item.Bind bound) status m (inr n) = two_kinds h.kind n.1 m.0
+no_code_made h (item.Jump jump to) status m (inl n) = let k : ◌≡◌ {A = Option Jump} None (Some jump) = sym n.3 ∙ m.0 in cc
+no_code_made h (item.Jump jump to) status m (inr n) = jump_not_0 h.kind jump m.0 n.1
 
 -- Labels.
 
@@ -121,7 +121,7 @@ pub if_none : (b : Bool) (o : Option ℕ) → (if b then Some 0 else o) ≡ None
 if_none true o e = cc
 if_none false o e = (refl, e)
 
-pub binds_spot : (hs : List HqItem) (xs : List (Item Core)) (n : ℕ) → MakesEach hs xs → Binds n hs → spot_of n xs ≡ None → ⊥
+pub binds_spot : (hs : List HqItem) (xs : List (Item Core)) (n : ℕ) → MakesEach hs xs → Binds 1 n hs → spot_of n xs ≡ None → ⊥
 binds_spot [] xs n e b none = b
 binds_spot (g ∷ hs) [] n e b none = absurd e
 binds_spot (g ∷ hs) (item.Inst core ∷ ys) n e (inl b) none = two_kinds g.kind e.0.0 b.0
@@ -142,7 +142,7 @@ if_some : (a n : ℕ) (b : Bool) (o : Option ℕ) (spot : ℕ) → (a == n) ≡ 
 if_some a n true o spot t e = inl (eqb-true a n t)
 if_some a n false o spot t e = inr e
 
-bound_here : (hs : List HqItem) (g : HqItem) (n a : ℕ) → g.kind ≡ 1 → a ≡ g.number → (a ≡ n) ⊎ Binds n hs → Binds n (g ∷ hs)
+bound_here : (hs : List HqItem) (g : HqItem) (n a : ℕ) → g.kind ≡ 1 → a ≡ g.number → (a ≡ n) ⊎ Binds 1 n hs → Binds 1 n (g ∷ hs)
 bound_here hs g n a kind is (inl e) = inl (kind, sym is ∙ e)
 bound_here hs g n a kind is (inr b) = inr b
 
@@ -150,7 +150,7 @@ or_more : {P Q R : Type 0} → (Q → R) → P ⊎ Q → P ⊎ R
 or_more f (inl p) = inl p
 or_more f (inr q) = inr (f q)
 
-pub spot_binds : (hs : List HqItem) (xs : List (Item Core)) (n spot : ℕ) → MakesEach hs xs → spot_of n xs ≡ Some spot → Binds n hs
+pub spot_binds : (hs : List HqItem) (xs : List (Item Core)) (n spot : ℕ) → MakesEach hs xs → spot_of n xs ≡ Some spot → Binds 1 n hs
 spot_binds hs [] n spot e is = cc
 spot_binds [] (y ∷ ys) n spot e is = absurd e
 spot_binds (g ∷ hs) (item.Inst core ∷ ys) n spot e is = let before = map_some (spot_of n ys) spot is in inr (spot_binds hs ys n before.0 e.1 before.1)
@@ -175,93 +175,97 @@ mapped f None b e = cc
 mapped f (Some a) b e = record { a = a; is = refl; gives = same_Some (f a) b e }
 
 -- an item that can't be put is told so
-abbrev Refuses : List HqItem → ℕ → ℕ → ℤ → Type 0
-Refuses hs n number status = (status ≡ pos 11) ⊎ ((number ≡ n) × ((h : HqItem) × (slice_get hs n ≡ Some h) × CantBePut (length hs) (take n hs) h status))
+abbrev Refuses : ℕ → List HqItem → ℕ → ℕ → ℤ → Type 0
+Refuses given hs n number status = (status ≡ pos 11) ⊎ ((number ≡ n) × ((h : HqItem) × (slice_get hs n ≡ Some h) × CantBePut given (take n hs) h status))
 
-refuses_fault : (hs : List HqItem) (xs : List (Item Core)) (places : DeferredTarget → Option ℕ) (n number : ℕ) (status : ℤ) (core : Core) (e : LayoutError) → MakesEach hs xs → slice_get xs n ≡ Some (item.Inst core) → option_map (refusal.Fault n) (core_fault core) ≡ Some e → TellsOf e number status → Refuses hs n number status
-refuses_fault hs xs places n number status core e makes is why told =
+refuses_fault : (given : ℕ) (hs : List HqItem) (xs : List (Item Core)) (places : DeferredTarget → Option ℕ) (n number : ℕ) (status : ℤ) (core : Core) (e : LayoutError) → MakesEach hs xs → slice_get xs n ≡ Some (item.Inst core) → option_map (refusal.Fault n) (core_fault core) ≡ Some e → TellsOf e number status → Refuses given hs n number status
+refuses_fault given hs xs places n number status core e makes is why told =
     let m : Mapped (refusal.Fault n) (core_fault core) e = mapped (refusal.Fault n) (core_fault core) e why in
     let from : MadeFrom hs n (item.Inst core) = made_from hs xs n (item.Inst core) makes is in
     let tells : TellsOf (refusal.Fault n m.a) number status = subst (λ (w : LayoutError). TellsOf w number status) (sym m.gives) told in
     inr (tells.0, (from.h, from.there, inl (from.makes.0, record { core = core; is = from.makes.1; fault = m.a; found = m.is; named = tells.1 })))
 
-refuses_label : (hs : List HqItem) (xs : List (Item Core)) (places : DeferredTarget → Option ℕ) (n number : ℕ) (status : ℤ) (bound : Label) (why : BindError) → MakesEach hs xs → slice_get xs n ≡ Some (item.Bind bound) → ((why ≡ Unknown) × (length hs ≤ bound.0)) ⊎ ((why ≡ Twice) × ((spot : ℕ) × (spot_of bound.0 (take n xs) ≡ Some spot))) → TellsOf (refusal.Bind n why) number status → Refuses hs n number status
-refuses_label hs xs places n number status bound why makes is (inl u) told =
+refuses_label : (given : ℕ) (hs : List HqItem) (xs : List (Item Core)) (places : DeferredTarget → Option ℕ) (n number : ℕ) (status : ℤ) (bound : Label) (why : BindError) → MakesEach hs xs → slice_get xs n ≡ Some (item.Bind bound) → ((why ≡ Unknown) × (given ≤ bound.0)) ⊎ ((why ≡ Twice) × ((spot : ℕ) × (spot_of bound.0 (take n xs) ≡ Some spot))) → TellsOf (refusal.Bind n why) number status → Refuses given hs n number status
+refuses_label given hs xs places n number status bound why makes is (inl u) told =
     let from : MadeFrom hs n (item.Bind bound) = made_from hs xs n (item.Bind bound) makes is in
     let tells : TellsOf (refusal.Bind n Unknown) number status = subst (λ (w : BindError). TellsOf (refusal.Bind n w) number status) u.0 told in
-    inr (tells.0, (from.h, from.there, inr (inl (tells.1, from.makes.0, subst (λ (m : ℕ). length hs ≤ m) from.makes.1 u.1))))
-refuses_label hs xs places n number status bound why makes is (inr t) told =
+    inr (tells.0, (from.h, from.there, inr (inl (tells.1, from.makes.0, subst (λ (m : ℕ). given ≤ m) from.makes.1 u.1))))
+refuses_label given hs xs places n number status bound why makes is (inr t) told =
     let from : MadeFrom hs n (item.Bind bound) = made_from hs xs n (item.Bind bound) makes is in
     let tells : TellsOf (refusal.Bind n Twice) number status = subst (λ (w : BindError). TellsOf (refusal.Bind n w) number status) t.0 told in
-    let binds : Binds bound.0 (take n hs) = spot_binds (take n hs) (take n xs) bound.0 t.1.0 (makes_take hs xs n makes) t.1.1 in
-    inr (tells.0, (from.h, from.there, inr (inr (tells.1, from.makes.0, subst (λ (m : ℕ). Binds m (take n hs)) from.makes.1 binds))))
+    let binds : Binds 1 bound.0 (take n hs) = spot_binds (take n hs) (take n xs) bound.0 t.1.0 (makes_take hs xs n makes) t.1.1 in
+    inr (tells.0, (from.h, from.there, inr (inr (tells.1, inl from.makes.0, subst (λ (k : ℕ). Binds k from.h.number (take n hs)) (sym from.makes.0) (subst (λ (m : ℕ). Binds 1 m (take n hs)) from.makes.1 binds)))))
 
-refuses_bind : (hs : List HqItem) (xs : List (Item Core)) (places : DeferredTarget → Option ℕ) (n number : ℕ) (status : ℤ) (bound : Label) (e : LayoutError) → MakesEach hs xs → ((goes_to : DeferredTarget) → places goes_to ≡ None) → slice_get xs n ≡ Some (item.Bind bound) → option_map (refusal.Bind n) (bind_refusal (length hs) places (take n xs) bound.0) ≡ Some e → TellsOf e number status → Refuses hs n number status
-refuses_bind hs xs places n number status bound e makes none is why told =
-    let m : Mapped (refusal.Bind n) (bind_refusal (length hs) places (take n xs) bound.0) e = mapped (refusal.Bind n) (bind_refusal (length hs) places (take n xs) bound.0) e why in
+refuses_bind : (given : ℕ) (hs : List HqItem) (xs : List (Item Core)) (places : DeferredTarget → Option ℕ) (n number : ℕ) (status : ℤ) (bound : Label) (e : LayoutError) → MakesEach hs xs → ((goes_to : DeferredTarget) → places goes_to ≡ None) → slice_get xs n ≡ Some (item.Bind bound) → option_map (refusal.Bind n) (bind_refusal given places (take n xs) bound.0) ≡ Some e → TellsOf e number status → Refuses given hs n number status
+refuses_bind given hs xs places n number status bound e makes none is why told =
+    let m : Mapped (refusal.Bind n) (bind_refusal given places (take n xs) bound.0) e = mapped (refusal.Bind n) (bind_refusal given places (take n xs) bound.0) e why in
     let free : option_or (places (target.Label (record { 0 = bound.0 }))) (spot_of bound.0 (take n xs)) ≡ spot_of bound.0 (take n xs) = ap (λ (o : Option ℕ). option_or o (spot_of bound.0 (take n xs))) (none (target.Label (record { 0 = bound.0 }))) in
-    let plain : error_in (if nat_lt bound.0 (length hs) then unless_bound (spot_of bound.0 (take n xs)) else Err Unknown) ≡ Some m.a = sym (ap (λ (o : Option ℕ). error_in (if nat_lt bound.0 (length hs) then unless_bound o else Err Unknown)) free) ∙ m.is in
-    refuses_label hs xs places n number status bound m.a makes is (label_by (nat_lt bound.0 (length hs)) (spot_of bound.0 (take n xs)) (length hs) bound.0 m.a refl plain) (subst (λ (w : LayoutError). TellsOf w number status) (sym m.gives) told)
+    let plain : error_in (if nat_lt bound.0 given then unless_bound (spot_of bound.0 (take n xs)) else Err Unknown) ≡ Some m.a = sym (ap (λ (o : Option ℕ). error_in (if nat_lt bound.0 given then unless_bound o else Err Unknown)) free) ∙ m.is in
+    refuses_label given hs xs places n number status bound m.a makes is (label_by (nat_lt bound.0 given) (spot_of bound.0 (take n xs)) given bound.0 m.a refl plain) (subst (λ (w : LayoutError). TellsOf w number status) (sym m.gives) told)
 
-refuses_by : (hs : List HqItem) (xs : List (Item Core)) (places : DeferredTarget → Option ℕ) (n number : ℕ) (status : ℤ) (e : LayoutError) (o : Option (Item Core)) → MakesEach hs xs → ((goes_to : DeferredTarget) → places goes_to ≡ None) → slice_get xs n ≡ o → option_and_then (item_refusal core_fault (length hs) places (take n xs) n) o ≡ Some e → TellsOf e number status → Refuses hs n number status
-refuses_by hs xs places n number status e None makes none is why told = cc
-refuses_by hs xs places n number status e (Some (item.Inst core)) makes none is why told = refuses_fault hs xs places n number status core e makes is why told
-refuses_by hs xs places n number status e (Some (item.Jump jump to)) makes none is why told = cc
-refuses_by hs xs places n number status e (Some (item.Bind bound)) makes none is why told = refuses_bind hs xs places n number status bound e makes none is why told
+refuses_by : (given : ℕ) (hs : List HqItem) (xs : List (Item Core)) (places : DeferredTarget → Option ℕ) (n number : ℕ) (status : ℤ) (e : LayoutError) (o : Option (Item Core)) → MakesEach hs xs → ((goes_to : DeferredTarget) → places goes_to ≡ None) → slice_get xs n ≡ o → option_and_then (item_refusal core_fault given places (take n xs) n) o ≡ Some e → TellsOf e number status → Refuses given hs n number status
+refuses_by given hs xs places n number status e None makes none is why told = cc
+refuses_by given hs xs places n number status e (Some (item.Inst core)) makes none is why told = refuses_fault given hs xs places n number status core e makes is why told
+refuses_by given hs xs places n number status e (Some (item.Jump jump to)) makes none is why told = cc
+refuses_by given hs xs places n number status e (Some (item.Bind bound)) makes none is why told = refuses_bind given hs xs places n number status bound e makes none is why told
 
 -- One that isn't refused in the list can be put.
+
+bound_kind : (kind n : ℕ) → kind ≡ n → (kind ≡ 1) ⊎ (kind ≡ 20) → (n ≡ 1 → ⊥) → (n ≡ 20 → ⊥) → ⊥
+bound_kind kind n e (inl a) one twenty = one (sym e ∙ a)
+bound_kind kind n e (inr a) one twenty = twenty (sym e ∙ a)
+
+jump_binds : (kind : ℕ) (jump : Jump) → jump_named kind ≡ Some jump → (kind ≡ 1) ⊎ (kind ≡ 20) → ⊥
+jump_binds kind jump is (inl e) = jump_not kind 1 jump is refl e
+jump_binds kind jump is (inr e) = jump_not kind 20 jump is refl e
 
 can_fault : (core : Core) (h : HqItem) (status : ℤ) → Makes h (item.Inst core) → core_fault core ≡ None → HasFault h.inst status → ⊥
 can_fault core h status m none has =
     let k : ◌≡◌ {A = Option Fault} None (Some has.fault) = sym none ∙ ap (λ (v : CoreView). fault_of no_offsets v) (m.2 has.core has.is) ∙ has.found in cc
 
-can_item : (hs : List HqItem) (xs : List (Item Core)) (places : DeferredTarget → Option ℕ) (k : ℕ) (h : HqItem) (x : Item Core) (status : ℤ) → MakesEach hs xs → Makes h x → item_refusal core_fault (length hs) places (take k xs) k x ≡ None → CantBePut (length hs) (take k hs) h status → ⊥
-can_item hs xs places k h (item.Inst core) status makes m none (inl c) = can_fault core h status m (map_none (refusal.Fault k) (core_fault core) none) c.1
-can_item hs xs places k h (item.Inst core) status makes m none (inr (inl c)) = two_kinds h.kind m.0 c.1
-can_item hs xs places k h (item.Inst core) status makes m none (inr (inr c)) = two_kinds h.kind m.0 c.1
-can_item hs xs places k h (item.Jump jump to) status makes m none (inl c) = jump_not_0 h.kind jump m.0 c.0
-can_item hs xs places k h (item.Jump jump to) status makes m none (inr (inl c)) = jump_not_1 h.kind jump m.0 c.1
-can_item hs xs places k h (item.Jump jump to) status makes m none (inr (inr c)) = jump_not_1 h.kind jump m.0 c.1
-can_item hs xs places k h (item.Bind bound) status makes m none (inl c) = two_kinds h.kind c.0 m.0
-can_item hs xs places k h (item.Bind bound) status makes m none (inr (inl c)) =
-    let free = free_label (length hs) places (take k xs) bound (map_none (refusal.Bind k) (bind_refusal (length hs) places (take k xs) bound.0) none) in
+can_item : (given : ℕ) (hs : List HqItem) (xs : List (Item Core)) (places : DeferredTarget → Option ℕ) (k : ℕ) (h : HqItem) (x : Item Core) (status : ℤ) → MakesEach hs xs → Makes h x → item_refusal core_fault given places (take k xs) k x ≡ None → CantBePut given (take k hs) h status → ⊥
+can_item given hs xs places k h (item.Inst core) status makes m none (inl c) = can_fault core h status m (map_none (refusal.Fault k) (core_fault core) none) c.1
+can_item given hs xs places k h (item.Inst core) status makes m none (inr (inl c)) = two_kinds h.kind m.0 c.1
+can_item given hs xs places k h (item.Inst core) status makes m none (inr (inr c)) = bound_kind h.kind 0 m.0 c.1 (λ z. cc) (λ z. omega (arith, z))
+can_item given hs xs places k h (item.Jump jump to) status makes m none (inl c) = jump_not_0 h.kind jump m.0 c.0
+can_item given hs xs places k h (item.Jump jump to) status makes m none (inr (inl c)) = jump_not_1 h.kind jump m.0 c.1
+can_item given hs xs places k h (item.Jump jump to) status makes m none (inr (inr c)) = jump_binds h.kind jump m.0 c.1
+can_item given hs xs places k h (item.Bind bound) status makes m none (inl c) = two_kinds h.kind c.0 m.0
+can_item given hs xs places k h (item.Bind bound) status makes m none (inr (inl c)) =
+    let free = free_label given places (take k xs) bound (map_none (refusal.Bind k) (bind_refusal given places (take k xs) bound.0) none) in
     let is : bound.0 ≡ h.number = m.1 in
-    let few : bound.0 < length hs = free.0 in
+    let few : bound.0 < given = free.0 in
     omega (arith, few, is, c.2)
-can_item hs xs places k h (item.Bind bound) status makes m none (inr (inr c)) =
-    let free = free_label (length hs) places (take k xs) bound (map_none (refusal.Bind k) (bind_refusal (length hs) places (take k xs) bound.0) none) in
-    binds_spot (take k hs) (take k xs) bound.0 (makes_take hs xs k makes) (subst (λ (n : ℕ). Binds n (take k hs)) (sym m.1) c.2) free.2
+can_item given hs xs places k h (item.Bind bound) status makes m none (inr (inr c)) =
+    let free = free_label given places (take k xs) bound (map_none (refusal.Bind k) (bind_refusal given places (take k xs) bound.0) none) in
+    binds_spot (take k hs) (take k xs) bound.0 (makes_take hs xs k makes) (subst (λ (n : ℕ). Binds 1 n (take k hs)) (sym m.1) (subst (λ (n : ℕ). Binds n h.number (take k hs)) m.0 c.2)) free.2
 
-can_be_put : (hs : List HqItem) (xs : List (Item Core)) (places : DeferredTarget → Option ℕ) (k : ℕ) (h : HqItem) (status : ℤ) → MakesEach hs xs → slice_get hs k ≡ Some h → refusal_at core_fault (length hs) places xs k ≡ None → CantBePut (length hs) (take k hs) h status → ⊥
-can_be_put hs xs places k h status makes is none c =
+pub can_be_put : (given : ℕ) (hs : List HqItem) (xs : List (Item Core)) (places : DeferredTarget → Option ℕ) (k : ℕ) (h : HqItem) (status : ℤ) → MakesEach hs xs → slice_get hs k ≡ Some h → refusal_at core_fault given places xs k ≡ None → CantBePut given (take k hs) h status → ⊥
+can_be_put given hs xs places k h status makes is none c =
     let of : MadeOf hs xs k h = made_of hs xs k h makes is in
-    can_item hs xs places k h of.x status makes of.makes (sym (ap (option_and_then (item_refusal core_fault (length hs) places (take k xs) k)) of.there) ∙ none) c
+    can_item given hs xs places k h of.x status makes of.makes (sym (ap (option_and_then (item_refusal core_fault given places (take k xs) k)) of.there) ∙ none) c
 
-first_one : (hs : List HqItem) (xs : List (Item Core)) (places : DeferredTarget → Option ℕ) (n number : ℕ) (status : ℤ) → MakesEach hs xs → ((k : ℕ) → k < n → refusal_at core_fault (length hs) places xs k ≡ None) → Refuses hs n number status → (status ≡ pos 11) ⊎ FirstRefused (CantBePut (length hs)) hs number status
-first_one hs xs places n number status makes before (inl m) = inl m
-first_one hs xs places n number status makes before (inr r) =
-    let here : FirstRefused (CantBePut (length hs)) hs n status = record {
+first_one : (given : ℕ) (hs : List HqItem) (xs : List (Item Core)) (places : DeferredTarget → Option ℕ) (n number : ℕ) (status : ℤ) → MakesEach hs xs → ((k : ℕ) → k < n → refusal_at core_fault given places xs k ≡ None) → Refuses given hs n number status → (status ≡ pos 11) ⊎ FirstRefused (CantBePut given) hs number status
+first_one given hs xs places n number status makes before (inl m) = inl m
+first_one given hs xs places n number status makes before (inr r) =
+    let here : FirstRefused (CantBePut given) hs n status = record {
       item = r.1.0;
       there = r.1.1;
       why = r.1.2;
-      first = λ k earlier other lt is c. can_be_put hs xs places k earlier other makes is (before k lt) c;
+      first = λ k earlier other lt is c. can_be_put given hs xs places k earlier other makes is (before k lt) c;
     } in
-    inr (subst (λ (m : ℕ). FirstRefused (CantBePut (length hs)) hs m status) (sym r.0) here)
+    inr (subst (λ (m : ℕ). FirstRefused (CantBePut given) hs m status) (sym r.0) here)
 
-unlisted_first : (hs : List HqItem) (xs : List (Item Core)) (number : ℕ) (status : ℤ) → MakesEach hs xs → (status ≡ pos 11) ⊎ FirstRefused (CantBePut (length hs)) hs number status → Unlisted hs number status
-unlisted_first hs xs number status makes (inl m) = inl m
-unlisted_first hs xs number status makes (inr f) = inr (inr (inr ((xs, list_is hs xs makes), f)))
-
-refused_by : (hs : List HqItem) (xs : List (Item Core)) (places : DeferredTarget → Option ℕ) (n number : ℕ) (status : ℤ) (e : LayoutError) → MakesEach hs xs → ((goes_to : DeferredTarget) → places goes_to ≡ None) → IsFirstRefusal core_fault (length hs) places xs n e → TellsOf e number status → Unlisted hs number status
-refused_by hs xs places n number status e makes none is told =
-    unlisted_first hs xs number status makes (first_one hs xs places n number status makes is.first (refuses_by hs xs places n number status e (slice_get xs n) makes none refl is.is told))
+refused_by : (given : ℕ) (hs : List HqItem) (xs : List (Item Core)) (places : DeferredTarget → Option ℕ) (n number : ℕ) (status : ℤ) (e : LayoutError) → MakesEach hs xs → ((goes_to : DeferredTarget) → places goes_to ≡ None) → IsFirstRefusal core_fault given places xs n e → TellsOf e number status → (status ≡ pos 11) ⊎ FirstRefused (CantBePut given) hs number status
+refused_by given hs xs places n number status e makes none is told =
+    first_one given hs xs places n number status makes is.first (refuses_by given hs xs places n number status e (slice_get xs n) makes none refl is.is told)
 
 -- A list that isn't put is told so.
-pub list_refused : (hs : List HqItem) (xs : List (Item Core)) (places : DeferredTarget → Option ℕ) (number : ℕ) (status : ℤ) (e : LayoutError) → MakesEach hs xs → ((goes_to : DeferredTarget) → places goes_to ≡ None) → IfSome (number_in e) (λ n. IsFirstRefusal core_fault (length hs) places xs n e) → (e ≡ refusal.TooMany → 165191049 < length xs) → TellsOf e number status → Unlisted hs number status
-list_refused hs xs places number status (refusal.Fault n why) makes none is many told = refused_by hs xs places n number status (refusal.Fault n why) makes none is told
-list_refused hs xs places number status (refusal.Bind n why) makes none is many told = refused_by hs xs places n number status (refusal.Bind n why) makes none is told
-list_refused hs xs places number status refusal.TooMany makes none is many told = inr (inl (told, subst (λ (n : ℕ). 165191049 < n) (makes_length hs xs makes) (many refl)))
-list_refused hs xs places number status refusal.NoMemory makes none is many told = inl told
+pub list_refused : (given : ℕ) (hs : List HqItem) (xs : List (Item Core)) (places : DeferredTarget → Option ℕ) (number : ℕ) (status : ℤ) (e : LayoutError) → MakesEach hs xs → length hs ≤ 165191049 → ((goes_to : DeferredTarget) → places goes_to ≡ None) → IfSome (number_in e) (λ n. IsFirstRefusal core_fault given places xs n e) → (e ≡ refusal.TooMany → 165191049 < length xs) → TellsOf e number status → (status ≡ pos 11) ⊎ FirstRefused (CantBePut given) hs number status
+list_refused given hs xs places number status (refusal.Fault n why) makes few none is many told = refused_by given hs xs places n number status (refusal.Fault n why) makes none is told
+list_refused given hs xs places number status (refusal.Bind n why) makes few none is many told = refused_by given hs xs places n number status (refusal.Bind n why) makes none is told
+list_refused given hs xs places number status refusal.TooMany makes few none is many told = let e : length xs ≡ length hs = makes_length hs xs makes in let k : 165191049 < length xs = many refl in absurd (omega (arith, few, e, k))
+list_refused given hs xs places number status refusal.NoMemory makes few none is many told = inl told
 
 -- The first that is no item.
 
@@ -271,22 +275,22 @@ get_take [] (suc n) k lt = refl
 get_take (x ∷ xs) (suc n) zero lt = refl
 get_take (x ∷ xs) (suc n) (suc k) lt = get_take xs n k (omega arith)
 
-pub first_none : (hs : List HqItem) (xs : List (Item Core)) (h : HqItem) (n : ℕ) (status : ℤ) → slice_get hs n ≡ Some h → MakesEach (take n hs) xs → NoItem h status → FirstRefused (λ before. NoItem) hs n status
+pub first_none : (hs : List HqItem) (xs : List (Item Core)) (h : HqItem) (n : ℕ) (status : ℤ) → slice_get hs n ≡ Some h → MakesEach (take n hs) xs → NoCode h status → FirstRefused (λ before. NoCode) hs n status
 first_none hs xs h n status is makes lacks = record {
   item = h;
   there = is;
   why = lacks;
   first = λ k earlier other lt there none.
       let of : MadeOf (take n hs) xs k earlier = made_of (take n hs) xs k earlier makes (get_take hs n k lt ∙ there) in
-      no_item_made earlier of.x other of.makes none;
+      no_code_made earlier of.x other of.makes none;
 }
 
-none_at : (hs : List HqItem) (xs : List (Item Core)) (d : HqItem) (i : ℕ) (status : ℤ) → i < length hs → MakesEach (take i hs) xs → (status ≡ pos 11) ⊎ NoItem (get_or hs i d) status → (status ≡ pos 11) ⊎ FirstRefused (λ before. NoItem) hs i status
+none_at : (hs : List HqItem) (xs : List (Item Core)) (d : HqItem) (i : ℕ) (status : ℤ) → i < length hs → MakesEach (take i hs) xs → (status ≡ pos 11) ⊎ NoCode (get_or hs i d) status → (status ≡ pos 11) ⊎ FirstRefused (λ before. NoCode) hs i status
 none_at hs xs d i status within makes (inl m) = inl m
 none_at hs xs d i status within makes (inr lacks) = inr (first_none hs xs (get_or hs i d) i status (slice_get-get_or hs i d within) makes lacks)
 
-pub either_none : (hs : List HqItem) (xs : List (Item Core)) (d : HqItem) (i : ℕ) (status told : ℤ) → i < length hs → MakesEach (take i hs) xs → told ≡ status → (status ≡ pos 11) ⊎ NoItem (get_or hs i d) status → (told ≡ pos 11) ⊎ FirstRefused (λ before. NoItem) hs i told
-either_none hs xs d i status told within makes is h = subst (λ (z : ℤ). (z ≡ pos 11) ⊎ FirstRefused (λ before. NoItem) hs i z) (sym is) (none_at hs xs d i status within makes h)
+pub either_none : (hs : List HqItem) (xs : List (Item Core)) (d : HqItem) (i : ℕ) (status told : ℤ) → i < length hs → MakesEach (take i hs) xs → told ≡ status → (status ≡ pos 11) ⊎ NoCode (get_or hs i d) status → (told ≡ pos 11) ⊎ FirstRefused (λ before. NoCode) hs i told
+either_none hs xs d i status told within makes is h = subst (λ (z : ℤ). (z ≡ pos 11) ⊎ FirstRefused (λ before. NoCode) hs i z) (sym is) (none_at hs xs d i status within makes h)
 
 pub pushed_is : {T E : Type 0} (r : Result (Unit {0}) E) (new all some : List T) → is_err r ≡ false → new ≡ (if is_ok r then all else some) → new ≡ all
 pushed_is (Ok tt) new all some well h = h

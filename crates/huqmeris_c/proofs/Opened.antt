@@ -1,47 +1,41 @@
 use Rattle.std.proofs.Common.{◌≡◌, ◌∙◌, ◌+◌, ◌<◌, ◌≤◌, ◌⊎◌, refl, inl, inr, ℕ, sym, ap, subst, arith, Option, Some, None, List, length, slice_get, get_or}
 use Rattle.std.proofs.lemmas.Bool.{cases_lt}
 use Rattle.std.proofs.lemmas.Option.{same_Some, slice_get-get_or}
-use Rattle.cax64_sink.specs.Sink.{State}
 use Rattle.cax64_sink.specs.declared.DeferredTarget.{DeferredTarget}
 use Rattle.cax64_sink.specs.declared.DeferredTarget.TheVariants as target
-use Rattle.huqmeris_c.proofs.Made.{binds_spot, spot_binds}
-use Rattle.huqmeris_c.specs.Items.{Binds, IsPlaceless, UnboundAt}
-use Rattle.huqmeris_c.specs.Putting.{HasItems, LacksPlace, OpenAt, Opens}
+use Rattle.huqmeris_c.proofs.Behind.{some_or_none}
+use Rattle.huqmeris_c.specs.Items.{IsPlaceless, UnboundAt}
+use Rattle.huqmeris_c.specs.Putting.{HasPlaces, LacksPlace, OpenAt, Opens}
 use Rattle.huqmeris_c.specs.declared.item.HqItem.{HqItem}
-use Rattle.x64_assemble.specs.Assembled.{spot_of}
 
 -- What has no place in a buffer has none among the items that were put.
 
-some_or_none : (o : Option ℕ) → (o ≡ None) ⊎ ((spot : ℕ) × (o ≡ Some spot))
-some_or_none None = inl refl
-some_or_none (Some spot) = inr (spot, refl)
+placeless : (items : List HqItem) (places : DeferredTarget → Option ℕ) (goes_to : DeferredTarget) → HasPlaces places items → LacksPlace places goes_to → IsPlaceless items goes_to
+placeless items places (target.Label label) h lacks = λ binds. h.labels label.0 binds lacks
+placeless items places (target.Constant constant) h lacks = λ binds. h.constants constant.0 binds lacks
+placeless items places target.None h lacks = lacks
 
-placeless : (items : List HqItem) (s : State) (places : DeferredTarget → Option ℕ) (goes_to : DeferredTarget) → HasItems items s places → LacksPlace places goes_to → IsPlaceless items goes_to
-placeless items s places (target.Label label) h lacks = λ binds. by_spot (some_or_none (spot_of label.0 h.list)) binds
+lacking : (items : List HqItem) (places : DeferredTarget → Option ℕ) (goes_to : DeferredTarget) → HasPlaces places items → IsPlaceless items goes_to → LacksPlace places goes_to
+lacking items places (target.Label label) h none = by_place (some_or_none (places (target.Label label)))
   where
-    by_spot : (spot_of label.0 h.list ≡ None) ⊎ ((spot : ℕ) × (spot_of label.0 h.list ≡ Some spot)) → Binds label.0 items → ⊥
-    by_spot (inl none) binds = binds_spot items h.list label.0 h.makes binds none
-    by_spot (inr spot) binds = let k = sym lacks ∙ h.put.bound label.0 spot.0 spot.1 in cc
-placeless items s places (target.Constant constant) h lacks = tt
-placeless items s places target.None h lacks = lacks
-
-lacking : (items : List HqItem) (s : State) (places : DeferredTarget → Option ℕ) (goes_to : DeferredTarget) → HasItems items s places → IsPlaceless items goes_to → LacksPlace places goes_to
-lacking items s places (target.Label label) h none = by_spot (some_or_none (spot_of label.0 h.list))
+    by_place : (places (target.Label label) ≡ None) ⊎ ((place : ℕ) × (places (target.Label label) ≡ Some place)) → places (target.Label label) ≡ None
+    by_place (inl e) = e
+    by_place (inr place) = absurd (none (h.only_labels label.0 place.0 place.1))
+lacking items places (target.Constant constant) h none = by_place (some_or_none (places (target.Constant constant)))
   where
-    by_spot : (spot_of label.0 h.list ≡ None) ⊎ ((spot : ℕ) × (spot_of label.0 h.list ≡ Some spot)) → places (target.Label label) ≡ None
-    by_spot (inl e) = h.put.others (target.Label label) e ∙ h.none (target.Label label)
-    by_spot (inr spot) = absurd (none (spot_binds items h.list label.0 spot.0 h.makes spot.1))
-lacking items s places (target.Constant constant) h none = h.put.others (target.Constant constant) tt ∙ h.none (target.Constant constant)
-lacking items s places target.None h none = none
+    by_place : (places (target.Constant constant) ≡ None) ⊎ ((place : ℕ) × (places (target.Constant constant) ≡ Some place)) → places (target.Constant constant) ≡ None
+    by_place (inl e) = e
+    by_place (inr place) = absurd (none (h.only_constants constant.0 place.0 place.1))
+lacking items places target.None h none = none
 
-pub unbound_at : (items : List HqItem) (s : State) (places : DeferredTarget → Option ℕ) (number : ℕ) → HasItems items s places → OpenAt places items number → UnboundAt items number
-unbound_at items s places number h found = record {
+pub unbound_at : (items : List HqItem) (places : DeferredTarget → Option ℕ) (number : ℕ) → HasPlaces places items → OpenAt places items number → UnboundAt items number
+unbound_at items places number h found = record {
   item = found.item;
   there = found.there;
   goes_to = found.opens.0;
   refers = found.opens.1;
-  unbound = placeless items s places found.opens.0 h found.opens.2;
-  first = λ k earlier other lt is refers none. found.first k earlier lt is (other, refers, lacking items s places other h none);
+  unbound = placeless items places found.opens.0 h found.opens.2;
+  first = λ k earlier other lt is refers none. found.first k earlier lt is (other, refers, lacking items places other h none);
 }
 
 -- none of the first refers to what has no place

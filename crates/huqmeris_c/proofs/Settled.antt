@@ -1,7 +1,7 @@
-use Rattle.std.proofs.Common.{◌≡◌, ◌∙◌, ◌+◌, ◌-◌, ◌⊎◌, inl, inr, ℕ, zero, suc, ℤ, pos, ◌-ℤ◌, refl, sym, ap, subst, arith, Bool, true, false, Option, Some, None, List, [], ◌∷◌, ◌++◌, drop, get_or, length, take, slice_get}
-use Rattle.std.proofs.Math.Seq.{take-length}
+use Rattle.std.proofs.Common.{◌≡◌, ◌∙◌, ◌+◌, ◌-◌, ◌≤◌, ◌⊎◌, All, inl, inr, ℕ, zero, suc, ℤ, pos, ◌-ℤ◌, refl, sym, ap, subst, arith, Bool, true, false, Option, Some, None, List, [], ◌∷◌, ◌++◌, drop, get_or, length, length-append, take, slice_get}
 use Rattle.std.proofs.lemmas.Bool.{eq-eqb}
-use Rattle.std.proofs.lemmas.List.{drop_more}
+use Rattle.std.proofs.lemmas.List.{drop_at, drop_more, get_or-drop, length-drop, length-take-le, take-append-drop}
+use Rattle.std.proofs.lemmas.List.Elements.{All-cons}
 use Rattle.std.proofs.lemmas.Option.{same_Some}
 use Rattle.std.specs.Prelude.{◌==◌, if◌then◌else◌, option_map, slice_index, unwrap_or}
 use Rattle.cax64_address.specs.declared.amode.Amode.TheVariants.{ImmReg, ImmRegRegShift, RipRelative}
@@ -26,9 +26,10 @@ use Rattle.cax64_sink.specs.declared.Notice.TheVariants.{Trap, Target}
 use Rattle.cax64_sink.specs.declared.TrapCode.{TrapCode}
 use Rattle.cax64_plain.specs.Plain.{plain}
 use Rattle.huqmeris_c.proofs.Made.{if_none, list_is, map_none}
+use Rattle.huqmeris_c.specs.Data.{AreBound, code_of, data_from, data_of}
 use Rattle.huqmeris_c.specs.Encodes.{no_offsets}
 use Rattle.huqmeris_c.specs.Items.{Assembled, AssembledTo, ItemsAre, LeadsTo, ReadAs, jump_named, lengths, list_spans, target_in}
-use Rattle.huqmeris_c.specs.Putting.{HasItems, MakesEach, core_becomes, core_fault}
+use Rattle.huqmeris_c.specs.Putting.{Behind, HasItems, MakesEach, core_becomes, core_fault}
 use Rattle.huqmeris_c.specs.declared.item.HqItem.{HqItem}
 use Rattle.huqmeris_c.specs.declared.progress.HqDone.{HqDone}
 use Rattle.x64_assemble.proofs.Entries.{are_free, spans_few}
@@ -37,10 +38,11 @@ use Rattle.x64_assemble.specs.Listed.{inst_told}
 use Rattle.x64_assemble.specs.Putting.{AreFree}
 use Rattle.x64_assemble.specs.declared.item.Item.{Item}
 use Rattle.x64_assemble.specs.declared.item.Item.TheVariants as item
-use Rattle.x64_code_buffer.specs.Filled.{uses_behind}
+use Rattle.x64_code_buffer.proofs.Settling.{FieldWithin, field_within, same_list}
+use Rattle.x64_code_buffer.specs.Filled.{places_told, uses_behind}
 use Rattle.x64_code_buffer.specs.Jump.{jump_parts, long_row, short_row}
-use Rattle.x64_code_buffer.specs.Laid.{EachSettled, JumpSettledBy, JumpsTo, LaidOut, LineLeads, LineSettledAs, LinesRead, Piece, PieceSettled, open_jump, parts_in, reading_in, uses_after, whole}
-use Rattle.x64_code_buffer.specs.Use.{Use, uses_of}
+use Rattle.x64_code_buffer.specs.Laid.{EachOpen, EachSettled, JumpSettledBy, JumpsTo, Laid, LaidOut, LineLeads, LineSettledAs, LinesRead, Piece, PieceSettled, open_jump, parts_in, piece_field, piece_fields, reading_in, readings_in, uses_after, whole}
+use Rattle.x64_code_buffer.specs.Use.{IsOutside, Use, links, uses_of}
 use Rattle.x64_code_buffer.specs.declared.jump.Jump.{Jump}
 use Rattle.x64_core.specs.Core.{core_len, core_meant}
 use Rattle.x64_core.specs.Line.{core_line}
@@ -333,36 +335,89 @@ are_lengths places lens all n at (item.Jump jump to ∷ xs) [] us readings count
 are_lengths places lens all n at (item.Jump jump to ∷ xs) (p ∷ ps) us [] count reads settled = absurd settled
 are_lengths places lens all n at (item.Jump jump to ∷ xs) (p ∷ ps) us (q ∷ readings) count reads settled = one_length lens n (entries xs) q.length (lengths readings) count (piece_length places (at + (reading_in p).length) p q us settled.0 ∙ reads.1) (are_lengths places lens all (n + 1) (at + (reading_in p).length) xs ps (uses_after p us) readings (omega arith) reads.2 settled.1)
 
+-- What stands behind the code.
+
+-- each field ends up to a place
+abbrev Below : ℕ → List ℕ → Type 0
+Below end [] = Unit {0}
+Below end (x ∷ xs) = (x + 4 ≤ end) × Below end xs
+
+below_more : (low end : ℕ) (xs : List ℕ) → low ≤ end → Below low xs → Below end xs
+below_more low end [] h k = tt
+below_more low end (x ∷ xs) h k = let e : x + 4 ≤ low = k.0 in (omega (arith, h, e), below_more low end xs h k.1)
+
+below_both : (at low end : ℕ) (xs ys : List ℕ) → low ≤ end → FieldWithin at low xs → Below end ys → Below end (xs ++ ys)
+below_both at low end [] ys h w k = k
+below_both at low end (x ∷ xs) ys h w k = let e : x + 4 ≤ low = w.1 in (omega (arith, h, e), subst (λ (z : List ℕ). Below end (z ++ ys)) (sym w.2) k)
+
+fields_below : (at : ℕ) (ps : List Piece) (a : List ℕ) → LinesRead (readings_in ps) a → EachOpen ps → Below (at + length a) (piece_fields at ps)
+fields_below at [] a h opened = tt
+fields_below at (p ∷ ps) a h opened =
+    let n : ℕ = (reading_in p).length in
+    let within : n ≤ length a = h.2 in
+    let rest : length (drop n a) ≡ length a - n = length-drop n a in
+    below_both at (at + n) (at + length a) (piece_field at p) (piece_fields (at + n) ps) (omega (arith, within)) (field_within p at a h.0 h.1 h.2 opened.0)
+    (below_more (at + n + length (drop n a)) (at + length a) (piece_fields (at + n) ps) (omega (arith, within, rest)) (fields_below (at + n) ps (drop n a) h.3 opened.1))
+
+outside_above : (high i : ℕ) (us : List Use) → high ≤ i → Below high (places_told us) → All (IsOutside i) (links us)
+outside_above high i [] h k = λ n d within. absurd (omega arith)
+outside_above high i ((at, target.Label l) ∷ us) h k = let e : at + 4 ≤ high = k.0 in All-cons (IsOutside i) (at, target.Label l) (links us) (inr (omega (arith, h, e))) (outside_above high i us h k.1)
+outside_above high i ((at, target.Constant c) ∷ us) h k = let e : at + 4 ≤ high = k.0 in All-cons (IsOutside i) (at, target.Constant c) (links us) (inr (omega (arith, h, e))) (outside_above high i us h k.1)
+outside_above high i ((at, target.None) ∷ us) h k = outside_above high i us h k.1
+
+-- what is behind all fields is outside of them
+all_outside : (ps : List Piece) (n i : ℕ) (s : State) (places : DeferredTarget → Option ℕ) → Laid ps n s places → n ≤ i → All (IsOutside i) (links (uses_of s.notices))
+all_outside ps n i s places h behind =
+    let size : length (take n s.bytes) ≡ n = length-take-le n s.bytes h.within in
+    let below : Below (0 + length (take n s.bytes)) (piece_fields 0 ps) = fields_below 0 ps (take n s.bytes) h.reads h.opened in
+    outside_above (0 + length (take n s.bytes)) i (uses_of s.notices) (omega (arith, size, behind)) (subst (λ (l : List ℕ). Below (0 + length (take n s.bytes)) l) (sym h.told) below)
+
+rest_stays : (n : ℕ) (old new : List ℕ) → length new ≡ length old → ((i : ℕ) → n ≤ i → get_or new i 0 ≡ get_or old i 0) → drop n new ≡ drop n old
+rest_stays n old new size same =
+    let a : length (drop n new) ≡ length new - n = length-drop n new in
+    let b : length (drop n old) ≡ length old - n = length-drop n old in
+    same_list (drop n new) (drop n old) (omega (arith, size, a, b)) (λ i within. get_or-drop n new i 0 ∙ same (n + i) (omega arith) ∙ sym (get_or-drop n old i 0))
+
 -- All of them.
 
-all_assembled : (items : List HqItem) (s : State) (places : DeferredTarget → Option ℕ) (code : List ℕ) → (h : HasItems items s places) → LaidOut h.put.more (length s.bytes) s places code → length code ≡ length s.bytes → Assembled items code
-all_assembled items s places code h out size =
-    let xs : List (Item Core) = h.list in
-    let lens : List ℕ = h.put.lens in
-    let all : take (length s.bytes) code ≡ code = ap (λ (n : ℕ). take n code) (sym size) ∙ take-length code in
-    let start : length h.before.bytes ≡ 0 = ap (λ (l : List ℕ). length l) h.bytes in
-    let told : uses_of s.notices ≡ uses_of (all_told core_becomes xs 0 xs h.put.more) = ap uses_of h.put.told ∙ ap (λ (l : List Notice). uses_of (l ++ all_told core_becomes xs (length h.before.bytes) xs h.put.more)) h.notices ∙ ap (λ (n : ℕ). uses_of (all_told core_becomes xs n xs h.put.more)) start in
-    let free : AreFree h.given h.old xs = are_free core_fault h.given h.old xs h.tested in
+all_assembled : (given : ℕ) (items : List HqItem) (s : State) (places : DeferredTarget → Option ℕ) (new : List ℕ) → (h : Behind given (code_of items) (data_of items) s places) → LaidOut h.items.put.more (length h.before.bytes) s places new → length new ≡ length s.bytes → ((i : ℕ) → All (IsOutside i) (links (uses_of s.notices)) → get_or new i 0 ≡ get_or s.bytes i 0) → Assembled items new
+all_assembled given items s places new h out size others =
+    let front : HasItems given (code_of items) h.before h.old = h.items in
+    let xs : List (Item Core) = front.list in
+    let lens : List ℕ = front.put.lens in
+    let n : ℕ = length h.before.bytes in
+    let held : List ℕ = data_from n (data_of items) in
+    let all : length s.bytes ≡ n + length held = ap (λ (l : List ℕ). length l) h.bytes ∙ length-append h.before.bytes held in
+    let code : List ℕ = take n new in
+    let count : length code ≡ n = length-take-le n new (omega (arith, size, all)) in
+    let rest : drop n new ≡ drop n s.bytes = rest_stays n s.bytes new size (λ i behind. others i (all_outside front.put.more n i s places h.laid behind)) in
+    let data_is : drop n s.bytes ≡ held = ap (λ (l : List ℕ). drop n l) h.bytes ∙ drop_at h.before.bytes held n refl in
+    let start : length front.before.bytes ≡ 0 = ap (λ (l : List ℕ). length l) front.bytes in
+    let told : uses_of s.notices ≡ uses_of (all_told core_becomes xs 0 xs front.put.more) = ap uses_of h.notices ∙ ap uses_of front.put.told ∙ ap (λ (l : List Notice). uses_of (l ++ all_told core_becomes xs (length front.before.bytes) xs front.put.more)) front.notices ∙ ap (λ (n : ℕ). uses_of (all_told core_becomes xs n xs front.put.more)) start in
+    let free : AreFree given front.old xs = are_free core_fault given front.old xs front.tested in
     let spots : Spots xs 0 xs = λ k label is. let e : entries (take k xs) ≡ 0 + entries (take k xs) = omega arith in spot_there xs k label is (free k label is).2 ∙ ap (λ (n : ℕ). Some n) e in
-    let bound : Bound places lens xs = λ label spot is. let e : length h.before.bytes + place_in lens spot ≡ place_in lens spot = omega (arith, start) in h.put.bound label spot is ∙ ap (λ (n : ℕ). Some n) e in
-    let count : length lens ≡ entries xs = h.put.least.layout.as_many ∙ spans_few (λ core. core_len no_offsets (core_view core)) xs xs in
-    let counted : length lens ≡ 0 + entries xs = omega (arith, count) in
-    let long : lengths out.now ≡ lens = are_lengths places lens xs 0 0 xs h.put.more (uses_of s.notices) out.now counted h.put.reads out.settled in
+    let bound : Bound places lens xs = λ label spot is. let e : length front.before.bytes + place_in lens spot ≡ place_in lens spot = omega (arith, start) in h.stays (target.Label (record { 0 = label })) (place_in lens spot) (front.put.bound label spot is ∙ ap (λ (n : ℕ). Some n) e) in
+    let few : length lens ≡ entries xs = front.put.least.layout.as_many ∙ spans_few (λ core. core_len no_offsets (core_view core)) xs xs in
+    let counted : length lens ≡ 0 + entries xs = omega (arith, few) in
+    let long : lengths out.now ≡ lens = are_lengths places lens xs 0 0 xs front.put.more (uses_of s.notices) out.now counted front.put.reads out.settled in
     record {
+      code = code;
+      is = sym (take-append-drop n new) ∙ ap (λ (l : List ℕ). code ++ l) (rest ∙ data_is) ∙ ap (λ (m : ℕ). code ++ data_from m (data_of items)) (sym count);
       readings = out.now;
-      reads = subst (λ (l : List ℕ). LinesRead out.now l) all out.reads;
+      reads = out.reads;
       places = places;
-      are = items_are places lens xs 0 0 items xs h.put.more (uses_of s.notices) out.now h.makes h.put.reads refl spots bound told out.settled;
+      are = items_are places lens xs 0 0 (code_of items) xs front.put.more (uses_of s.notices) out.now front.makes front.put.reads refl spots bound told out.settled;
+      bound = subst (λ (m : ℕ). AreBound places m (data_of items)) (sym count) h.bound;
       list = xs;
-      is = list_is items xs h.makes;
-      least = subst (λ (l : List ℕ). IsLeast (list_spans xs) l) (sym long) h.put.least;
+      lists = list_is (code_of items) xs front.makes;
+      least = subst (λ (l : List ℕ). IsLeast (list_spans xs) l) (sym long) front.put.least;
     }
 
-pub all_put : (items : List HqItem) (code : List ℕ) (done : HqDone) (s : State) (places : DeferredTarget → Option ℕ) (bytes : List ℕ) → (h : HasItems items s places) → LaidOut h.put.more (length s.bytes) s places bytes → length bytes ≡ length s.bytes → done.items ≡ length items → done.bytes ≡ length bytes → AssembledTo items code (bytes ++ drop (length bytes) code) done
-all_put items code done s places bytes h out size number len = record {
+pub all_put : (given : ℕ) (items : List HqItem) (code : List ℕ) (done : HqDone) (s : State) (places : DeferredTarget → Option ℕ) (bytes : List ℕ) → (h : Behind given (code_of items) (data_of items) s places) → LaidOut h.items.put.more (length h.before.bytes) s places bytes → length bytes ≡ length s.bytes → ((i : ℕ) → All (IsOutside i) (links (uses_of s.notices)) → get_or bytes i 0 ≡ get_or s.bytes i 0) → done.items ≡ length items → done.bytes ≡ length bytes → AssembledTo items code (bytes ++ drop (length bytes) code) done
+all_put given items code done s places bytes h out size others number len = record {
   added = bytes;
   front = ap (λ (n : ℕ). bytes ++ drop n code) (sym len);
   len = len;
   number = number;
-  assembled = all_assembled items s places bytes h out size;
+  assembled = all_assembled given items s places bytes h out size others;
 }

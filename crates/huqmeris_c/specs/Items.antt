@@ -1,4 +1,4 @@
-use Rattle.std.specs.Prelude.{◌≡◌, ◌≤◌, ◌<◌, ◌+◌, ◌-◌, ◌++◌, ◌⊎◌, ℕ, ℤ, pos, ◌-ℤ◌, nat_lt, if◌then◌else◌, Option, Some, None, List, [], ◌∷◌, drop, take, length, slice_get, slice_index_or}
+use Rattle.std.specs.Prelude.{◌≡◌, ◌==◌, ◌||◌, ◌≤◌, ◌<◌, ◌+◌, ◌-◌, ◌++◌, ◌⊎◌, Bool, true, false, ℕ, ℤ, pos, ◌-ℤ◌, nat_lt, if◌then◌else◌, Option, Some, None, List, [], ◌∷◌, drop, take, length, slice_get, slice_index_or}
 use Rattle.cax64_address.specs.declared.amode.Amode.{Amode}
 use Rattle.cax64_address.specs.declared.amode.Amode.TheVariants.{ImmReg, ImmRegRegShift, RipRelative}
 use Rattle.cax64_encoder.specs.Place.{memory_in}
@@ -12,6 +12,7 @@ use Rattle.huqmeris_c.specs.declared.progress.HqDone.{HqDone}
 use Rattle.huqmeris_c.specs.declared.item.HqItem.{HqItem}
 use Rattle.cax64_sink.specs.declared.DeferredTarget.{DeferredTarget}
 use Rattle.cax64_sink.specs.declared.DeferredTarget.TheVariants as target
+use Rattle.huqmeris_c.specs.Data.{AreBound, code_of, data_from, data_of, is_data}
 use Rattle.huqmeris_c.specs.Each.{HasFault}
 use Rattle.huqmeris_c.specs.Encodes.{no_offsets}
 use Rattle.huqmeris_c.specs.declared.jump.TheConstants.{JUMPS}
@@ -29,7 +30,7 @@ use Rattle.x64_assemble.specs.declared.item.Item.TheVariants as item
 use Rattle.x64_layout.specs.Layout.{IsLeast}
 use Rattle.x64_layout.specs.declared.span.Span.{Span}
 
--- What items become.
+-- What items of code become.
 
 -- the jump of a kind of items
 abbrev pub jump_named : ℕ → Option Jump
@@ -121,37 +122,52 @@ abbrev pub lengths : List LineReading → List ℕ
 lengths [] = []
 lengths (reading ∷ later) = reading.length ∷ lengths later
 
--- Bytes are those of items: they read in turn, whatever follows, as these, and nothing is left; and no choice of the forms of
--- the jumps makes one of them shorter.
-pub record Assembled (items : List HqItem) (code : List ℕ) : Type 0 where
+-- Bytes are those of items. Those of code read in turn, whatever follows, as these, and nothing is left; and no choice of the
+-- forms of the jumps makes one of them shorter. Behind them stand those of data.
+pub record Assembled (items : List HqItem) (bytes : List ℕ) : Type 0 where
+  pub code : List ℕ
+  pub is : bytes ≡ code ++ data_from (length code) (data_of items)
   pub readings : List LineReading
   pub reads : LinesRead readings code
   pub places : DeferredTarget → Option ℕ
-  pub are : ItemsAre places items 0 readings
+  pub are : ItemsAre places (code_of items) 0 readings
+  pub bound : AreBound places (length code) (data_of items)
   pub list : List (Item Core)
-  pub is : ListIs items list
+  pub lists : ListIs (code_of items) list
   pub least : IsLeast (list_spans list) (lengths readings)
 
 -- Why items aren't assembled.
 
--- one of some items is the place of a label
-abbrev pub Binds : ℕ → List HqItem → Type 0
-Binds number [] = ⊥
-Binds number (item ∷ later) = ((item.kind ≡ 1) × (item.number ≡ number)) ⊎ Binds number later
+-- one of some items has this kind and number: is the place of this label (1), or of this constant (20)
+abbrev pub Binds : ℕ → ℕ → List HqItem → Type 0
+Binds kind number [] = ⊥
+Binds kind number (item ∷ later) = ((item.kind ≡ kind) × (item.number ≡ number)) ⊎ Binds kind number later
 
--- the integers are none: of no kind, or of no instruction
-abbrev pub NoItem : HqItem → ℤ → Type 0
-NoItem item status =
-    ((status ≡ pos 12) × (item.kind ≡ 0 → ⊥) × (item.kind ≡ 1 → ⊥) × (jump_named item.kind ≡ None))
-    ⊎ ((status ≡ pos 1) × (item.kind ≡ 0) × ((core : Core) → plain (core_view core) ≡ item.inst → ⊥))
+-- one of some items is data
+abbrev pub has_data : List HqItem → Bool
+has_data [] = false
+has_data (item ∷ later) = is_data item.kind || has_data later
 
--- one can't be put behind these, among so many: the instruction has a fault; or the label's number isn't below theirs, or it
--- has a place already
+-- an item of this kind is an instruction or a jump
+abbrev pub IsCode : ℕ → Type 0
+IsCode kind = (kind ≡ 0) ⊎ ((jump : Jump) × (jump_named kind ≡ Some jump))
+
+-- The integers behind these are none: of no kind; code behind data; more bytes than a struct has, or padding to more than 64; or
+-- of no instruction.
+abbrev pub NoItem : List HqItem → HqItem → ℤ → Type 0
+NoItem before item status =
+    ((status ≡ pos 12) × (item.kind ≡ 0 → ⊥) × (item.kind ≡ 1 → ⊥) × (jump_named item.kind ≡ None) × (is_data item.kind ≡ false))
+    ⊎ (((status ≡ pos 12) × IsCode item.kind × (has_data before ≡ true))
+    ⊎ (((status ≡ pos 12) × (((item.kind ≡ 21) × (24 < item.number)) ⊎ ((item.kind ≡ 22) × (6 < item.number))))
+    ⊎ ((status ≡ pos 1) × (item.kind ≡ 0) × (has_data before ≡ false) × ((core : Core) → plain (core_view core) ≡ item.inst → ⊥))))
+
+-- one can't be put behind these, among so many: the instruction has a fault; or the label's number isn't below theirs; or the
+-- label or the constant has a place already
 abbrev pub CantBePut : ℕ → List HqItem → HqItem → ℤ → Type 0
 CantBePut count before item status =
     ((item.kind ≡ 0) × HasFault item.inst status)
     ⊎ (((status ≡ pos 13) × (item.kind ≡ 1) × (count ≤ item.number))
-    ⊎ ((status ≡ pos 14) × (item.kind ≡ 1) × Binds item.number before))
+    ⊎ ((status ≡ pos 14) × ((item.kind ≡ 1) ⊎ (item.kind ≡ 20)) × Binds item.kind item.number before))
 
 -- the first that is refused so has this number
 pub record FirstRefused (Refused : List HqItem → HqItem → ℤ → Type 0) (items : List HqItem) (number : ℕ) (status : ℤ) : Type 0 where
@@ -160,11 +176,15 @@ pub record FirstRefused (Refused : List HqItem → HqItem → ℤ → Type 0) (i
   pub why : Refused (take number items) item status
   pub first : (k : ℕ) (earlier : HqItem) (other : ℤ) → k < number → slice_get items k ≡ Some earlier → Refused (take k items) earlier other → ⊥
 
+-- each is an item
+abbrev pub AreItems : List HqItem → Type 0
+AreItems items = (k : ℕ) (item : HqItem) (status : ℤ) → slice_get items k ≡ Some item → NoItem (take k items) item status → ⊥
+
 -- the first that is none; or all are items, and it's the first that can't be put
 abbrev pub RefusedAt : List HqItem → ℕ → ℤ → Type 0
 RefusedAt items number status =
-    FirstRefused (λ before. NoItem) items number status
-    ⊎ (((list : List (Item Core)) × ListIs items list) × FirstRefused (CantBePut (length items)) items number status)
+    FirstRefused NoItem items number status
+    ⊎ (AreItems items × FirstRefused (CantBePut (length items)) items number status)
 
 -- there was no memory; or there are too many; or one is refused
 abbrev pub Unlisted : List HqItem → ℕ → ℤ → Type 0
@@ -179,10 +199,10 @@ RefersTo item goes_to =
     ((item.kind ≡ 0) × ((core : Core) × (plain (core_view core) ≡ item.inst) × (target_in (memory_in (core_view core).place) ≡ Some goes_to)))
     ⊎ (((jump : Jump) × (jump_named item.kind ≡ Some jump)) × (goes_to ≡ target.Label (record { 0 = item.number })))
 
--- no item is the place of this label; a constant has none
+-- no item is the place of this label or constant
 abbrev pub IsPlaceless : List HqItem → DeferredTarget → Type 0
-IsPlaceless items (target.Label label) = Binds label.0 items → ⊥
-IsPlaceless items (target.Constant constant) = Unit {0}
+IsPlaceless items (target.Label label) = Binds 1 label.0 items → ⊥
+IsPlaceless items (target.Constant constant) = Binds 20 constant.0 items → ⊥
 IsPlaceless items target.None = ⊥
 
 -- the first that refers to what has no place has this number

@@ -5,6 +5,7 @@ pub mod Outcome
 pub mod OfReading
 pub mod InTurn
 pub mod Each
+pub mod Data
 pub mod Items
 pub mod Text
 -- Steps of the proofs.

@@ -1,18 +1,21 @@
 //! Items that are assembled.
 
-ghost use Rattle.std.specs.Prelude.{◌≡◌, ◌+◌, IfErr, OnOk, pos};
-ghost use Rattle.huqmeris_c.specs.Items.{AssembledAs, Unlisted};
-ghost use Rattle.huqmeris_c.specs.Putting.{Begun, HasItems, TellsOf};
+ghost use Rattle.std.specs.Prelude.{◌≡◌, ◌+◌, ◌≤◌, ◌⊎◌, [], IfErr, List, OnOk, length, pos};
+ghost use Rattle.huqmeris_c.specs.Data.{code_of, data_of};
+ghost use Rattle.huqmeris_c.specs.Items.{AssembledAs, CantBePut, FirstRefused, Unlisted};
+ghost use Rattle.huqmeris_c.specs.Putting.{Begun, Behind, MakesEach, TellsOf};
+ghost use Rattle.huqmeris_c.specs.declared.item.HqItem.{HqItem};
 ghost use Rattle.x64_code_buffer.specs.Buffer.{buffer_state, label_count, places_of};
 
+use crate::data_items::put_data;
 use crate::item::HqItem;
-use crate::list::{Refused, list_items};
+use crate::list::{Refused, list_code};
 use crate::progress::HqDone;
 use crate::status::{HQ_BAD_LABEL, HQ_BOUND_TWICE, HQ_NO_MEMORY, HQ_TOO_MANY, HQ_UNBOUND};
 use crate::unbound::first_open;
 use cax64_plain::status::{HQ_FULL, HQ_OK, HQ_OUT_OF_RANGE, fault_status};
 use std::alloc::Global;
-use x64_assemble::{Layout, LayoutError};
+use x64_assemble::{Item, Layout, LayoutError};
 use x64_code_buffer::{BindError, CodeBuffer};
 use x64_core::Core;
 use x64_core_assemble::ByCore;
@@ -50,14 +53,31 @@ fn give_labels(count: u32, buffer: &mut CodeBuffer<Global>) -> Result<(), Refuse
     Ok(())
 }
 
-/// Puts items into a buffer that has nothing, in their least layout.
+/// Puts a list of items of code into a buffer that has nothing but labels, in its least layout.
+fn put_code(
+    alloc: Global,
+    list: &[Item<Core>],
+    buffer: &mut CodeBuffer<Global>,
+) -> Result<(), Refused>
+    requires { Begun (label_count buffer.old) buffer.old }
+    ensures put { (code : List HqItem) → MakesEach code list.now → OnOk result (Behind (label_count buffer.old) code [] (buffer_state buffer.new) (places_of buffer.new)) }
+    ensures refused { (code : List HqItem) → MakesEach code list.now → length code ≤ 165191049 → IfErr result (λ refused. (refused.status ≡ pos 11) ⊎ FirstRefused (CantBePut (label_count buffer.old)) code refused.number refused.status) }
+    ensures labels { label_count buffer.new ≡ label_count buffer.old }
+{
+    match Layout::new(alloc).assemble_by::<ByCore, Core, Global>(list, buffer) {
+        Ok(()) => Ok(()),
+        Err(error) => Err(told_of(&error)),
+    }
+}
+
+/// Puts items into a buffer that has nothing: those of code in their least layout, and behind them those of data.
 fn put_items(
     alloc: Global,
     items: &[HqItem],
     buffer: &mut CodeBuffer<Global>,
 ) -> Result<(), Refused>
     requires { Begun 0 buffer.old }
-    ensures put { OnOk result (HasItems items.now (buffer_state buffer.new) (places_of buffer.new)) }
+    ensures put { OnOk result (Behind (length items.now) (code_of items.now) (data_of items.now) (buffer_state buffer.new) (places_of buffer.new)) }
     ensures refused { IfErr result (λ refused. Unlisted items.now refused.number refused.status) }
 {
     if items.len() > MOST_SPANS {
@@ -67,18 +87,32 @@ fn put_items(
         });
     }
     let mut list = Vec::new(alloc);
-    list_items(items, &mut list)?;
-    give_labels(items.len() as u32, buffer)?;
-    match Layout::new(alloc).assemble_by::<ByCore, Core, Global>(&list, buffer) {
+    let count = match list_code(items, &mut list) {
+        Ok(count) => count,
+        Err(refused) => return Err(refused),
+    };
+    if let Err(refused) = give_labels(items.len() as u32, buffer) {
+        return Err(refused);
+    }
+    if let Err(refused) = put_code(alloc, &list, buffer) {
+        return Err(refused);
+    }
+    match put_data(&items[count..], buffer) {
         Ok(()) => Ok(()),
-        Err(error) => Err(told_of(&error)),
+        Err(refused) => Err(Refused {
+            number: count + refused.number,
+            status: refused.status,
+        }),
     }
 }
 
-/// Assembles items: instructions, places of labels, and jumps to them, into the front of some bytes, all of them or none.
+/// Assembles items into the front of some bytes, all of them or none: instructions, places of labels, and jumps to them; behind
+/// them data, which instructions refer to as constants or labels. The first item that is data begins it: behind that no
+/// instruction and no jump may stand.
 ///
 /// A label's number is below that of all items. Each jump has the shortest form in which all of them reach: no choice of forms
-/// has fewer bytes. An instruction may refer to a label too. At `HQ_OK` `done` has how many items and bytes there are, at
+/// has fewer bytes. An instruction may refer to a label too. A jump to a
+/// label behind data has its long form. At `HQ_OK` `done` has how many items and bytes there are, at
 /// `HQ_FULL` how many there would be; at another status `items` is the number of the item that is refused, from 0: the first
 /// that is none, or else the first that has a fault or whose label can't be bound, or else the first that refers to what has no
 /// place. What instructions tell of traps isn't told. No late offset is known.

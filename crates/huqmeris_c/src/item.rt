@@ -62,14 +62,25 @@ pub const HQ_ITEM_JLE: u32 = 18;
 /// An item: a jump to a label at greater, of signed numbers.
 pub const HQ_ITEM_JG: u32 = 19;
 
-/// What is assembled: an instruction, the place of a label, or a jump to one.
+/// An item: the place of a constant, which is that of what comes next. It is data: behind it only data and places of labels
+/// stand.
+pub const HQ_ITEM_CONSTANT: u32 = 20;
+
+/// An item: bytes, which are data too: the first of the 24 in which an instruction would stand, as many as the number says.
+pub const HQ_ITEM_BYTES: u32 = 21;
+
+/// An item: padding, which is data too: zeros, up to a multiple of 2 to the number, at most 6, from the first byte on.
+pub const HQ_ITEM_ALIGN: u32 = 22;
+
+/// What is assembled: an instruction, the place of a label, a jump to one, or data behind the code.
 #[repr(C)]
 #[derive(Clone, Copy, Debug, PartialEq)]
 pub struct HqItem {
     /// Which it is: `HQ_ITEM_INST` and the like.
     pub kind: u32,
-    /// The number of the label, below that of all items. Of an instruction it isn't looked at.
+    /// The number of the label, below that of all items; that of the constant; how many bytes there are; or the power of
+    /// 2 of padding. Of an instruction it isn't looked at.
     pub number: u32,
-    /// The instruction. Of other items it isn't looked at.
+    /// The instruction, or the bytes. Of other items it isn't looked at.
     pub inst: HqInst,
 }

@@ -6,6 +6,7 @@
 
 mod assemble;
 mod convert;
+mod data_items;
 mod decode;
 mod decode_all;
 mod encode;

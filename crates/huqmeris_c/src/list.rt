@@ -2,9 +2,10 @@
 
 ghost use Rattle.std.specs.Prelude.{◌≡◌, ◌++◌, ◌⊎◌, ◌∷◌, [], IfErr, IfOk, List, OnOk, pos};
 ghost use Rattle.huqmeris_c.specs.Items.{FirstRefused, NoItem};
-ghost use Rattle.huqmeris_c.specs.Putting.{Makes, MakesEach};
+ghost use Rattle.huqmeris_c.specs.Putting.{ListedTo, Makes, MakesEach, NoCode};
 ghost use Rattle.huqmeris_c.specs.declared.item.HqItem.{HqItem};
 
+use crate::data_items::{code_len, first_bad};
 use crate::item::{HQ_ITEM_INST, HQ_ITEM_LABEL, HqItem};
 use crate::jump::jump_of;
 use crate::status::{HQ_BAD_ITEM, HQ_NO_MEMORY};
@@ -24,7 +25,7 @@ pub(crate) struct Refused {
 /// The item that these integers are, or why they are none.
 fn item_of(item: &HqItem) -> Result<Item<Core>, i32>
     ensures made { IfOk result (λ x. Makes item.now x) }
-    ensures refused { IfErr result (λ status. NoItem item.now status) }
+    ensures refused { IfErr result (λ status. NoCode item.now status) }
 {
     if item.kind == HQ_ITEM_INST {
         return match item.inst.core() {
@@ -45,7 +46,7 @@ fn item_of(item: &HqItem) -> Result<Item<Core>, i32>
 /// Lists an item behind others.
 fn list_item(item: &HqItem, list: &mut Vec<Item<Core>, Global>) -> Result<(), i32>
     ensures listed { (before : List HqItem) → MakesEach before list.old.items → OnOk result (MakesEach (before ++ item.now ∷ []) list.new.items) }
-    ensures refused { IfErr result (λ status. (status ≡ pos 11) ⊎ NoItem item.now status) }
+    ensures refused { IfErr result (λ status. (status ≡ pos 11) ⊎ NoCode item.now status) }
 {
     // The prover wants this type named where a list of instructions is kept over a call.
     let _place = CorePlace::Absent;
@@ -59,14 +60,14 @@ fn list_item(item: &HqItem, list: &mut Vec<Item<Core>, Global>) -> Result<(), i3
     Ok(())
 }
 
-/// Lists items.
-pub(crate) fn list_items(
+/// Lists items of code.
+fn list_items(
     items: &[HqItem],
     list: &mut Vec<Item<Core>, Global>,
 ) -> Result<(), Refused>
     requires { list.old.items ≡ [] }
     ensures listed { OnOk result (MakesEach items.now list.new.items) }
-    ensures refused { IfErr result (λ refused. (refused.status ≡ pos 11) ⊎ FirstRefused (λ before. NoItem) items.now refused.number refused.status) }
+    ensures refused { IfErr result (λ refused. (refused.status ≡ pos 11) ⊎ FirstRefused (λ before. NoCode) items.now refused.number refused.status) }
 {
     if list.reserve_exact(items.len()).is_err() {
         return Err(Refused {
@@ -80,4 +81,26 @@ pub(crate) fn list_items(
         }
     }
     Ok(())
+}
+
+/// Lists the items of code, and tells how many there are; tests the data behind them.
+pub(crate) fn list_code(
+    items: &[HqItem],
+    list: &mut Vec<Item<Core>, Global>,
+) -> Result<usize, Refused>
+    requires { list.old.items ≡ [] }
+    ensures listed { IfOk result (λ count. ListedTo items.now count list.new.items) }
+    ensures refused { IfErr result (λ refused. (refused.status ≡ pos 11) ⊎ FirstRefused NoItem items.now refused.number refused.status) }
+{
+    let count = code_len(items);
+    if let Err(refused) = list_items(&items[..count], list) {
+        return Err(refused);
+    }
+    if let Some(number) = first_bad(&items[count..]) {
+        return Err(Refused {
+            number: count + number,
+            status: HQ_BAD_ITEM,
+        });
+    }
+    Ok(count)
 }

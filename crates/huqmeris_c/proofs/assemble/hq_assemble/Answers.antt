@@ -1,14 +1,19 @@
-use Rattle.std.proofs.Common.{◌≡◌, ◌∙◌, ℕ, ℤ, inl, inr, refl, sym, ap, subst, rules, Option, List, ◌++◌, drop, length, FitsSigned, w32}
+use Rattle.std.proofs.Common.{◌≡◌, ◌∙◌, ℕ, ℤ, inl, inr, refl, sym, ap, subst, rules, Option, List, All, ◌++◌, drop, get_or, length, FitsSigned, w32}
 use Rattle.std.proofs.lemmas.Int.{to_z-of_z}
 use Rattle.cax64_sink.specs.declared.DeferredTarget.{DeferredTarget}
 use Rattle.huqmeris_c.proofs.Made.{finished}
 use Rattle.huqmeris_c.proofs.Opened.{unbound_at}
 use Rattle.huqmeris_c.proofs.Settled.{all_put}
 use Rattle.huqmeris_c.specs.Items.{AssembledTo, Unlisted}
-use Rattle.huqmeris_c.specs.Putting.{HasItems, OpenAt}
+use Rattle.huqmeris_c.proofs.Splits.{joined}
+use Rattle.huqmeris_c.specs.Data.{code_of, data_of}
+use Rattle.huqmeris_c.specs.Putting.{Behind, HasPlaces, OpenAt}
+use Rattle.huqmeris_c.specs.declared.item.HqItem.{HqItem}
 use Rattle.huqmeris_c.specs.declared.progress.HqDone.{HqDone}
 use Rattle.x64_code_buffer.specs.Buffer.{buffer_state, places_of}
 use Rattle.x64_code_buffer.specs.Laid.{LaidOut}
+use Rattle.x64_code_buffer.specs.Use.{IsOutside, links, uses_of}
+use Rattle.cax64_sink.specs.Sink.{State}
 use Rattle.huqmeris_c.proofs.assemble.hq_assemble.Goals as goal
 
 pub returns-in-Err : goal.returns-in-Err
@@ -20,16 +25,21 @@ pub returns-then-is_err : goal.returns-then-is_err
 returns-then-is_err c =
     let same : places_of c.finish_in_place.new.self ≡ places_of c.put_items.new.buffer = λ i goes_to. c.finish_in_place.ensures.places goes_to i in
     let found : OpenAt (places_of c.put_items.new.buffer) c.args.items.now c.in-Some.number = subst (λ (p : DeferredTarget → Option ℕ). OpenAt p c.args.items.now c.in-Some.number) same c.in-Some.ensures in
-    inr (refl, inr (inl (refl, unbound_at c.args.items.now (buffer_state c.put_items.new.buffer) (places_of c.put_items.new.buffer) c.in-Some.number c.in_default.ensures.put found)))
+    let are : HasPlaces (places_of c.put_items.new.buffer) c.args.items.now = subst (λ (l : List HqItem). HasPlaces (places_of c.put_items.new.buffer) l) (joined c.args.items.now) c.in_default.ensures.put.are in
+    inr (refl, inr (inl (refl, unbound_at c.args.items.now (places_of c.put_items.new.buffer) c.in-Some.number are found)))
 
 pub returns : goal.returns
 returns c =
     let bytes : List ℕ = c.bytes-bytes.result.now in
     let done : HqDone = record { items = length c.args.items.now; bytes = length bytes; uses = 0 } in
-    let h : HasItems c.args.items.now (buffer_state c.put_items.new.buffer) (places_of c.put_items.new.buffer) = c.in_default.ensures.put in
-    let laid = c.finish_in_place.ensures.laid h.put.more (length (buffer_state c.put_items.new.buffer).bytes) h.put.laid in
-    let out : LaidOut h.put.more (length (buffer_state c.put_items.new.buffer).bytes) (buffer_state c.put_items.new.buffer) (places_of c.put_items.new.buffer) (buffer_state c.finish_in_place.new.self).bytes = finished c.finish_in_place.result (sym c.is_err.ensures.value ∙ c.if-is_err.false) laid in
-    let here : LaidOut h.put.more (length (buffer_state c.put_items.new.buffer).bytes) (buffer_state c.put_items.new.buffer) (places_of c.put_items.new.buffer) bytes = subst (λ (l : List ℕ). LaidOut h.put.more (length (buffer_state c.put_items.new.buffer).bytes) (buffer_state c.put_items.new.buffer) (places_of c.put_items.new.buffer) l) (sym c.bytes-bytes.ensures) out in
-    let size : length bytes ≡ length (buffer_state c.put_items.new.buffer).bytes = ap (λ (l : List ℕ). length l) c.bytes-bytes.ensures ∙ c.finish_in_place.ensures.length in
-    let put : AssembledTo c.args.items.now c.args.code.now (bytes ++ drop (length bytes) c.args.code.now) done = all_put c.args.items.now c.args.code.now done (buffer_state c.put_items.new.buffer) (places_of c.put_items.new.buffer) bytes h here size refl refl in
+    let s : State = buffer_state c.put_items.new.buffer in
+    let places : DeferredTarget → Option ℕ = places_of c.put_items.new.buffer in
+    let h : Behind (length c.args.items.now) (code_of c.args.items.now) (data_of c.args.items.now) s places = c.in_default.ensures.put in
+    let well = sym c.is_err.ensures.value ∙ c.if-is_err.false in
+    let laid = c.finish_in_place.ensures.laid h.items.put.more (length h.before.bytes) h.laid in
+    let out : LaidOut h.items.put.more (length h.before.bytes) s places (buffer_state c.finish_in_place.new.self).bytes = finished c.finish_in_place.result well laid in
+    let here : LaidOut h.items.put.more (length h.before.bytes) s places bytes = subst (λ (l : List ℕ). LaidOut h.items.put.more (length h.before.bytes) s places l) (sym c.bytes-bytes.ensures) out in
+    let size : length bytes ≡ length s.bytes = ap (λ (l : List ℕ). length l) c.bytes-bytes.ensures ∙ c.finish_in_place.ensures.length in
+    let others : (i : ℕ) → All (IsOutside i) (links (uses_of s.notices)) → get_or bytes i 0 ≡ get_or s.bytes i 0 = λ i outside. ap (λ (l : List ℕ). get_or l i 0) c.bytes-bytes.ensures ∙ finished c.finish_in_place.result well (c.finish_in_place.ensures.others i outside) in
+    let put : AssembledTo c.args.items.now c.args.code.now (bytes ++ drop (length bytes) c.args.code.now) done = all_put (length c.args.items.now) c.args.items.now c.args.code.now done s places bytes h here size others refl refl in
     inl (refl, subst (λ (l : List ℕ). AssembledTo c.args.items.now c.args.code.now (l ++ drop (length bytes) c.args.code.now) done) (sym c.copy_from_slice.ensures.after) put)
