@@ -4,6 +4,7 @@
 
 #include <stddef.h>
 #include <stdint.h>
+#include <string.h>
 
 #ifdef __cplusplus
 #define HQ_RESTRICT __restrict
@@ -135,6 +136,15 @@ extern "C" {
 #define HQ_ITEM_JLE 18u
 /* An item: a jump to a label at greater, of signed numbers. */
 #define HQ_ITEM_JG 19u
+/*
+ * An item: the place of a constant, which is that of what comes next. It is data: behind it only data and places of labels
+ * stand.
+ */
+#define HQ_ITEM_CONSTANT 20u
+/* An item: bytes, which are data too: the first of the 24 in which an instruction would stand, as many as the number says. */
+#define HQ_ITEM_BYTES 21u
+/* An item: padding, which is data too: zeros, up to a multiple of 2 to the number, at most 6, from the first byte on. */
+#define HQ_ITEM_ALIGN 22u
 /* No register is given. */
 #define HQ_NO_REG 256u
 /* No immediate is given. */
@@ -908,13 +918,16 @@ _Static_assert(offsetof(hq_done, bytes) == 8, "hq_done.bytes");
 _Static_assert(offsetof(hq_done, uses) == 16, "hq_done.uses");
 #endif
 
-/* What is assembled: an instruction, the place of a label, or a jump to one. */
+/* What is assembled: an instruction, the place of a label, a jump to one, or data behind the code. */
 typedef struct hq_item {
     /* Which it is: `HQ_ITEM_INST` and the like. */
     uint32_t kind;
-    /* The number of the label, below that of all items. Of an instruction it isn't looked at. */
+    /*
+     * The number of the label, below that of all items; that of the constant; how many bytes there are; or the power of
+     * 2 of padding. Of an instruction it isn't looked at.
+     */
     uint32_t number;
-    /* The instruction. Of other items it isn't looked at. */
+    /* The instruction, or the bytes. Of other items it isn't looked at. */
     hq_inst inst;
 } hq_item;
 #if !defined(__cplusplus) && __STDC_VERSION__ >= 201112L
@@ -925,10 +938,13 @@ _Static_assert(offsetof(hq_item, inst) == 8, "hq_item.inst");
 #endif
 
 /*
- * Assembles items: instructions, places of labels, and jumps to them, into the front of some bytes, all of them or none.
+ * Assembles items into the front of some bytes, all of them or none: instructions, places of labels, and jumps to them; behind
+ * them data, which instructions refer to as constants or labels. The first item that is data begins it: behind that no
+ * instruction and no jump may stand.
  *
  * A label's number is below that of all items. Each jump has the shortest form in which all of them reach: no choice of forms
- * has fewer bytes. An instruction may refer to a label too. At `HQ_OK` `done` has how many items and bytes there are, at
+ * has fewer bytes. An instruction may refer to a label too. A jump to a
+ * label behind data has its long form. At `HQ_OK` `done` has how many items and bytes there are, at
  * `HQ_FULL` how many there would be; at another status `items` is the number of the item that is refused, from 0: the first
  * that is none, or else the first that has a fault or whose label can't be bound, or else the first that refers to what has no
  * place. What instructions tell of traps isn't told. No late offset is known.
@@ -1078,7 +1094,7 @@ static inline hq_place hq_constant(uint32_t constant)
     return p;
 }
 
-/* Items: an instruction; the place of a label, `HQ_ITEM_LABEL`, or a jump to it, `HQ_ITEM_JMP` and the like. */
+/* Items: an instruction; the place of a label or a constant, a jump to a label, or padding, by kind and number; bytes. */
 static inline hq_item hq_item_of(const hq_inst *inst)
 {
     hq_item i = {HQ_ITEM_INST, 0, {0, 0, 0, 0, 0, 0, 0, 0, 0, 0, 0, 0, 0, 0}};
@@ -1086,11 +1102,20 @@ static inline hq_item hq_item_of(const hq_inst *inst)
     return i;
 }
 
-static inline hq_item hq_item_at(uint32_t kind, uint32_t label)
+static inline hq_item hq_item_at(uint32_t kind, uint32_t number)
 {
     hq_item i = {0, 0, {0, 0, 0, 0, 0, 0, 0, 0, 0, 0, 0, 0, 0, 0}};
     i.kind = kind;
-    i.number = label;
+    i.number = number;
+    return i;
+}
+
+/* An item of up to 24 bytes. Of more none is read, and `hq_assemble` refuses the item. */
+static inline hq_item hq_item_bytes(const void *bytes, uint32_t count)
+{
+    hq_item i = hq_item_at(HQ_ITEM_BYTES, count);
+    if (count > 0 && count <= sizeof i.inst)
+        memcpy(&i.inst, bytes, count);
     return i;
 }
 

@@ -289,7 +289,7 @@ static inline hq_place hq_constant(uint32_t constant)
     return p;
 }
 
-/* Items: an instruction; the place of a label, `HQ_ITEM_LABEL`, or a jump to it, `HQ_ITEM_JMP` and the like. */
+/* Items: an instruction; the place of a label or a constant, a jump to a label, or padding, by kind and number; bytes. */
 static inline hq_item hq_item_of(const hq_inst *inst)
 {
     hq_item i = {HQ_ITEM_INST, 0, {0, 0, 0, 0, 0, 0, 0, 0, 0, 0, 0, 0, 0, 0}};
@@ -297,18 +297,27 @@ static inline hq_item hq_item_of(const hq_inst *inst)
     return i;
 }
 
-static inline hq_item hq_item_at(uint32_t kind, uint32_t label)
+static inline hq_item hq_item_at(uint32_t kind, uint32_t number)
 {
     hq_item i = {0, 0, {0, 0, 0, 0, 0, 0, 0, 0, 0, 0, 0, 0, 0, 0}};
     i.kind = kind;
-    i.number = label;
+    i.number = number;
+    return i;
+}
+
+/* An item of up to 24 bytes. Of more none is read, and `hq_assemble` refuses the item. */
+static inline hq_item hq_item_bytes(const void *bytes, uint32_t count)
+{
+    hq_item i = hq_item_at(HQ_ITEM_BYTES, count);
+    if (count > 0 && count <= sizeof i.inst)
+        memcpy(&i.inst, bytes, count);
     return i;
 }
 """
 
 
 def header(found, known, calls, names):
-    out = ["/* Written by c/write.py. What each call owes and is owed: docs/C.md. */", "#ifndef HUQMERIS_H", "#define HUQMERIS_H", "", "#include <stddef.h>", "#include <stdint.h>", ""]
+    out = ["/* Written by c/write.py. What each call owes and is owed: docs/C.md. */", "#ifndef HUQMERIS_H", "#define HUQMERIS_H", "", "#include <stddef.h>", "#include <stdint.h>", "#include <string.h>", ""]
     out += ["#ifdef __cplusplus", "#define HQ_RESTRICT __restrict", 'extern "C" {', "#else", "#define HQ_RESTRICT restrict", "#endif", ""]
     for constant in found:
         out += comment(constant.doc) + [f"#define {constant.name} {c_number(constant)}"]

@@ -46,12 +46,32 @@ void rattle_dealloc(void *at)
     free(at);
 }
 
-enum { LABELS = 40, ROOM = 1024 };
+enum { LABELS = 40, CONSTANTS = 40, MOST = 3 * LABELS + 3 * CONSTANTS + 2, ROOM = 4096 };
 
-/* A list that lets all that grows grow: many labels, many bytes. Answers how many growths it was refused in. */
+/* Loads of many constants, and behind them the constants. */
+static int add_constants(hq_item *items, size_t *count)
+{
+    static const uint8_t bytes[24] = {1, 2, 3};
+    for (uint32_t constant = 0; constant < CONSTANTS; constant++) {
+        hq_place place = hq_constant(constant);
+        hq_inst load;
+        if (hq_make(HQ_LINE_MOVUPS_A, 1, HQ_NO_REG, &place, HQ_NO_IMM, &load) != HQ_OK)
+            return 0;
+        items[(*count)++] = hq_item_of(&load);
+    }
+    items[(*count)++] = hq_item_at(HQ_ITEM_ALIGN, 6);
+    for (uint32_t constant = 0; constant < CONSTANTS; constant++) {
+        items[(*count)++] = hq_item_at(HQ_ITEM_CONSTANT, constant);
+        items[(*count)++] = hq_item_bytes(bytes, sizeof bytes);
+    }
+    items[(*count)++] = hq_item_at(HQ_ITEM_ALIGN, 6);
+    return 1;
+}
+
+/* A list that lets all that grows grow: many labels, many bytes, many constants. Answers how many growths it was refused in. */
 static size_t assembles(int *is_wanted)
 {
-    static hq_item items[3 * LABELS];
+    static hq_item items[MOST];
     static uint8_t code[ROOM];
     hq_place place = hq_mem(0, 1 << 20);
     hq_inst inst;
@@ -64,6 +84,7 @@ static size_t assembles(int *is_wanted)
         items[count++] = hq_item_of(&inst);
         items[count++] = hq_item_at(HQ_ITEM_JE, LABELS - 1 - label);
     }
+    *is_wanted &= add_constants(items, &count);
     for (refused_at = 1;; refused_at++) {
         asked = 0;
         memset(code, 0xA5, sizeof code);

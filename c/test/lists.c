@@ -1,6 +1,6 @@
 /* Runs lists through the library: all cases of crates/core_vectors/data/core.tsv, whose path is the argument, in one call of
  * hq_encode_all and in one of hq_assemble, each into a slice at the end of a page behind which no page is, and compares with the wanted
- * bytes; each instruction's text with the wanted one; and lists with labels and jumps. The status is 0 where all is as wanted. */
+ * bytes; each instruction's text with the wanted one; and lists with labels, jumps and data. The status is 0 where all is as wanted. */
 #define _GNU_SOURCE
 #include "huqmeris_names.h"
 #include <stdio.h>
@@ -180,7 +180,7 @@ static int is_refused(const hq_item *list, size_t n, int32_t status, size_t numb
 static int are_linked(void)
 {
     hq_inst ret = made(HQ_LINE_RETQ_ZO, HQ_NO_REG, hq_nothing(), HQ_NO_IMM), lea = made(HQ_LINE_LEAQ_RM, 0, hq_label(1), HQ_NO_IMM),
-            far = made(HQ_LINE_LEAQ_RM, 0, hq_label(3), HQ_NO_IMM), constant = made(HQ_LINE_LEAQ_RM, 0, hq_constant(1), HQ_NO_IMM);
+            far = made(HQ_LINE_LEAQ_RM, 0, hq_label(3), HQ_NO_IMM);
     hq_item list[] = {hq_item_at(HQ_ITEM_LABEL, 0), hq_item_of(&lea), hq_item_at(HQ_ITEM_JMP, 0), hq_item_at(HQ_ITEM_JMP, 1), hq_item_at(HQ_ITEM_CALL, 0),
                       hq_item_at(HQ_ITEM_LABEL, 1), hq_item_of(&ret)};
     /* leaq 9(%rip), %rax; jmp -9; jmp 5; callq -16; retq */
@@ -196,12 +196,12 @@ static int are_linked(void)
         if (hq_assemble(both, 3, code, sizeof wanted, &done) != HQ_OK || memcmp(code, wanted, sizeof wanted))
             return refused("a condition is another");
     }
-    hq_item bad[] = {hq_item_at(HQ_ITEM_JG + 1, 0)}, none[] = {hq_item_at(HQ_ITEM_JMP, 0), hq_item_of(&ret)},
+    hq_item bad[] = {hq_item_at(HQ_ITEM_ALIGN + 1, 0)}, none[] = {hq_item_at(HQ_ITEM_JMP, 0), hq_item_of(&ret)},
             twice[] = {hq_item_at(HQ_ITEM_LABEL, 0), hq_item_of(&ret), hq_item_at(HQ_ITEM_LABEL, 0)}, large[] = {hq_item_of(&ret), hq_item_at(HQ_ITEM_LABEL, 2)},
-            unbound[] = {hq_item_of(&ret), hq_item_of(&far)}, pool[] = {hq_item_of(&constant)},
-            both[] = {hq_item_at(HQ_ITEM_JMP, 0), hq_item_at(HQ_ITEM_LABEL, 9), hq_item_at(HQ_ITEM_JG + 1, 0)};
+            unbound[] = {hq_item_of(&ret), hq_item_of(&far)},
+            both[] = {hq_item_at(HQ_ITEM_JMP, 0), hq_item_at(HQ_ITEM_LABEL, 9), hq_item_at(HQ_ITEM_ALIGN + 1, 0)};
     return is_refused(bad, 1, HQ_BAD_ITEM, 0) && is_refused(none, 2, HQ_UNBOUND, 0) && is_refused(twice, 3, HQ_BOUND_TWICE, 2)
-        && is_refused(large, 2, HQ_BAD_LABEL, 1) && is_refused(unbound, 2, HQ_UNBOUND, 1) && is_refused(pool, 1, HQ_UNBOUND, 0)
+        && is_refused(large, 2, HQ_BAD_LABEL, 1) && is_refused(unbound, 2, HQ_UNBOUND, 1)
         && is_refused(both, 3, HQ_BAD_ITEM, 2) && is_refused(both, 2, HQ_BAD_LABEL, 1);
 }
 
@@ -233,6 +233,138 @@ static int are_least(void)
     return 1;
 }
 
+/* A list becomes these bytes, and those behind them stay; in a slice that is too short nothing is put. */
+static int is_put(const hq_item *list, size_t n, const uint8_t *wanted, size_t len)
+{
+    hq_done done;
+    for (size_t room = len - 1; room < len + 3; room++) {
+        uint8_t *code = before(room);
+        int32_t status = hq_assemble(list, n, code, room, &done);
+        if (status != (room < len ? HQ_FULL : HQ_OK) || done.items != n || done.bytes != len)
+            return 0;
+        if (room < len ? !is_filled(code, room) : memcmp(code, wanted, len) || !is_filled(code + len, room - len))
+            return 0;
+    }
+    return 1;
+}
+
+/* A function that loads a constant of 16 bytes, which stands behind it at a multiple of 16. */
+static int is_loaded(void)
+{
+    static const uint8_t vector[] = {1, 2, 3, 4, 5, 6, 7, 0x80, 0x90, 0xa0, 0xb0, 0xc0, 0xd0, 0xe0, 0xf0, 0xff};
+    hq_inst load = made(HQ_LINE_MOVAPS_A, 1, hq_constant(7), HQ_NO_IMM), ret = made(HQ_LINE_RETQ_ZO, HQ_NO_REG, hq_nothing(), HQ_NO_IMM);
+    hq_item list[] = {hq_item_of(&load), hq_item_of(&ret), hq_item_at(HQ_ITEM_ALIGN, 4), hq_item_at(HQ_ITEM_CONSTANT, 7), hq_item_bytes(vector, 16)};
+    /* movaps 9(%rip), %xmm1; retq; zeros; the constant */
+    static const uint8_t wanted[] = {0x0f, 0x28, 0x0d, 9, 0, 0, 0, 0xc3, 0, 0, 0, 0, 0, 0, 0, 0,
+                                     1, 2, 3, 4, 5, 6, 7, 0x80, 0x90, 0xa0, 0xb0, 0xc0, 0xd0, 0xe0, 0xf0, 0xff};
+    return is_put(list, 5, wanted, sizeof wanted) || refused("a constant isn't loaded");
+}
+
+/* Instructions that refer to data, each by the distance from its end. A constant and a label of one number are two. */
+static int are_referred_to(void)
+{
+    hq_inst load = made(HQ_LINE_MOVUPS_A, 1, hq_constant(UINT32_MAX), HQ_NO_IMM), lea = made(HQ_LINE_LEAQ_RM, 0, hq_label(2), HQ_NO_IMM),
+            compare = made(HQ_LINE_CMPL_MI_SXB, HQ_NO_REG, hq_constant(2), 5), end = made(HQ_LINE_LEAQ_RM, 0, hq_constant(0), HQ_NO_IMM);
+    hq_item list[] = {hq_item_of(&load), hq_item_of(&lea), hq_item_of(&compare), hq_item_at(HQ_ITEM_ALIGN, 3),
+                      hq_item_at(HQ_ITEM_CONSTANT, UINT32_MAX), hq_item_at(HQ_ITEM_CONSTANT, 2), hq_item_bytes("abc", 3),
+                      hq_item_at(HQ_ITEM_LABEL, 2), hq_item_bytes("d", 1)},
+            last[] = {hq_item_of(&end), hq_item_of(&end), hq_item_at(HQ_ITEM_CONSTANT, 0)};
+    /* movups 17(%rip), %xmm1; leaq 13(%rip), %rax; cmpl $5, 3(%rip); zeros; abc; d */
+    static const uint8_t wanted[] = {0x0f, 0x10, 0x0d, 0x11, 0, 0, 0, 0x48, 0x8d, 0x05, 0x0d, 0, 0, 0, 0x83, 0x3d, 3, 0, 0, 0, 5,
+                                     0, 0, 0, 'a', 'b', 'c', 'd'};
+    /* leaq 7(%rip), %rax; leaq 0(%rip), %rax */
+    static const uint8_t ends[] = {0x48, 0x8d, 0x05, 7, 0, 0, 0, 0x48, 0x8d, 0x05, 0, 0, 0, 0};
+    return (is_put(list, 9, wanted, sizeof wanted) && is_put(last, 3, ends, sizeof ends)) || refused("data isn't referred to");
+}
+
+/* Bytes, none, one, and as many as an item holds, as they stand in memory. */
+static int are_held(void)
+{
+    static const uint8_t wanted[] = {0xc3, 'U', 1, 2, 3, 4, 5, 6, 7, 8, 9, 10, 11, 12, 0xfe, 0xff, 0xff, 0xff, 0x81, 0x82, 0x83, 0x84, 0xfc, 0xfd, 0xfe, 0xff};
+    hq_inst ret = made(HQ_LINE_RETQ_ZO, HQ_NO_REG, hq_nothing(), HQ_NO_IMM);
+    hq_inst fields = {0x0201, 3, 4, 5, 6, 7, 8, 9, 10, 11, 12, -2, 0x84838281, 0xfffefdfc};
+    hq_item list[] = {hq_item_of(&ret), hq_item_bytes(NULL, 0), hq_item_bytes("U", 1), hq_item_bytes(wanted + 2, 24)};
+    if (!is_put(list, 4, wanted, sizeof wanted))
+        return refused("bytes are others");
+    list[1].inst = list[3].inst = fields; /* of which none is put, and all */
+    memset((uint8_t *)&list[2].inst + 1, 0xff, sizeof fields - 1);
+    return is_put(list, 4, wanted, sizeof wanted) || refused("bytes of a struct are others");
+}
+
+/* Padding up to each power of 2, behind as many bytes as an item holds, and fewer. */
+static int are_padded(void)
+{
+    static const uint8_t held[24] = {1, 2, 3, 4, 5, 6, 7, 8, 9, 10, 11, 12, 13, 14, 15, 16, 17, 18, 19, 20, 21, 22, 23, 24};
+    for (uint32_t power = 0; power <= 6; power++)
+        for (uint32_t count = 0; count <= 24; count++) {
+            hq_item list[] = {hq_item_bytes(held, count), hq_item_at(HQ_ITEM_ALIGN, power), hq_item_bytes("U", 1), hq_item_at(HQ_ITEM_ALIGN, 0)};
+            uint8_t wanted[65] = {0};
+            size_t at = count;
+            memcpy(wanted, held, count);
+            while (at % ((size_t)1 << power))
+                at++;
+            wanted[at] = 'U';
+            memset(&list[1].inst, 0xff, sizeof list[1].inst);
+            if (!is_put(list, 4, wanted, at + 1))
+                return refused("padding is another");
+        }
+    return 1;
+}
+
+/* A jump to a label behind data has its long form where a short one would reach too; one to the end of the code is short. */
+static int are_far(void)
+{
+    hq_inst ret = made(HQ_LINE_RETQ_ZO, HQ_NO_REG, hq_nothing(), HQ_NO_IMM);
+    hq_item end[] = {hq_item_at(HQ_ITEM_JMP, 0), hq_item_at(HQ_ITEM_LABEL, 0), hq_item_at(HQ_ITEM_CONSTANT, 0)},
+            behind[] = {hq_item_at(HQ_ITEM_JMP, 0), hq_item_at(HQ_ITEM_CONSTANT, 0), hq_item_at(HQ_ITEM_LABEL, 0)},
+            over[] = {hq_item_at(HQ_ITEM_JMP, 1), hq_item_at(HQ_ITEM_JG, 0), hq_item_at(HQ_ITEM_CALL, 0), hq_item_at(HQ_ITEM_LABEL, 1),
+                      hq_item_of(&ret), hq_item_at(HQ_ITEM_ALIGN, 4), hq_item_at(HQ_ITEM_LABEL, 0), hq_item_bytes("U", 1)};
+    static const uint8_t near_jump[] = {0xeb, 0}, far_jump[] = {0xe9, 0, 0, 0, 0};
+    /* jmp 11; jg 8; callq 3; retq; two zeros; U */
+    static const uint8_t all[] = {0xeb, 0x0b, 0x0f, 0x8f, 8, 0, 0, 0, 0xe8, 3, 0, 0, 0, 0xc3, 0, 0, 'U'};
+    return (is_put(end, 3, near_jump, sizeof near_jump) && is_put(behind, 3, far_jump, sizeof far_jump) && is_put(over, 8, all, sizeof all))
+        || refused("a jump to data is another");
+}
+
+/* More bytes than an item holds, padding to more than 64, and code behind data are no items. */
+static int are_no_items(void)
+{
+    static const uint32_t counts[] = {25, 64, 256, UINT32_MAX}, powers[] = {7, 32, 64, 70, UINT32_MAX};
+    static const uint8_t bytes[25];
+    hq_inst ret = made(HQ_LINE_RETQ_ZO, HQ_NO_REG, hq_nothing(), HQ_NO_IMM), bad = ret;
+    bad.reserved = 1;
+    for (size_t i = 0; i < 4; i++) {
+        hq_item many[] = {hq_item_of(&ret), hq_item_bytes(bytes, counts[i])};
+        if (!is_refused(many, 2, HQ_BAD_ITEM, 1))
+            return refused("too many bytes are put");
+    }
+    for (size_t i = 0; i < 5; i++) {
+        hq_item wide[] = {hq_item_of(&ret), hq_item_at(HQ_ITEM_ALIGN, powers[i])};
+        if (!is_refused(wide, 2, HQ_BAD_ITEM, 1))
+            return refused("too much padding is put");
+    }
+    hq_item code[] = {hq_item_of(&ret), hq_item_bytes(bytes, 0), hq_item_at(HQ_ITEM_LABEL, 0), hq_item_of(&ret)},
+            jump[] = {hq_item_at(HQ_ITEM_CONSTANT, 0), hq_item_at(HQ_ITEM_LABEL, 0), hq_item_at(HQ_ITEM_JMP, 0)},
+            behind[] = {hq_item_at(HQ_ITEM_ALIGN, 0), hq_item_of(&bad)}, in_front[] = {hq_item_of(&bad), hq_item_at(HQ_ITEM_ALIGN, 7)};
+    return (is_refused(code, 4, HQ_BAD_ITEM, 3) && is_refused(jump, 3, HQ_BAD_ITEM, 2) && is_refused(behind, 2, HQ_BAD_ITEM, 1)
+            && is_refused(in_front, 2, HQ_BAD_INST, 0)) || refused("code stands behind data");
+}
+
+/* Constants and labels that can't be bound behind code, or have no place; and which of two refusals comes first. */
+static int are_not_bound(void)
+{
+    static const uint8_t bytes[25];
+    hq_inst lea = made(HQ_LINE_LEAQ_RM, 0, hq_constant(1), HQ_NO_IMM);
+    hq_item load = hq_item_of(&lea), constant = hq_item_at(HQ_ITEM_CONSTANT, 0), label = hq_item_at(HQ_ITEM_LABEL, 0), other = hq_item_at(HQ_ITEM_LABEL, 1);
+    hq_item twice[] = {load, constant, constant}, again[] = {label, constant, label}, both[] = {constant, label, hq_item_bytes(bytes, 24), constant},
+            large[] = {load, constant, hq_item_at(HQ_ITEM_LABEL, 3)}, open[] = {label, load, constant, other}, none[] = {label, load},
+            first[] = {hq_item_at(HQ_ITEM_LABEL, 9), constant, constant, hq_item_bytes(bytes, 25)};
+    return (is_refused(twice, 3, HQ_BOUND_TWICE, 2) && is_refused(again, 3, HQ_BOUND_TWICE, 2) && is_refused(both, 4, HQ_BOUND_TWICE, 3)
+            && is_refused(large, 3, HQ_BAD_LABEL, 2) && is_refused(open, 4, HQ_UNBOUND, 1) && is_refused(none, 2, HQ_UNBOUND, 1)
+            && is_refused(first, 4, HQ_BAD_ITEM, 3) && is_refused(first, 3, HQ_BAD_LABEL, 0) && is_refused(first + 1, 2, HQ_BOUND_TWICE, 1))
+        || refused("data isn't refused");
+}
+
 /* A virtual register has no name, and there is no line 584. */
 static int are_named(void)
 {
@@ -255,7 +387,8 @@ int main(int argc, char **argv)
     if (!file || at == MAP_FAILED || mprotect(at + ROOM, page, PROT_NONE))
         return 2;
     guard = at + ROOM;
-    if (!read_cases(file) || !are_encoded() || !are_assembled() || !are_told() || !are_linked() || !are_least() || !are_named())
+    if (!read_cases(file) || !are_encoded() || !are_assembled() || !are_told() || !are_linked() || !are_least() || !is_loaded() || !are_referred_to()
+        || !are_held() || !are_padded() || !are_far() || !are_no_items() || !are_not_bound() || !are_named())
         return refused("lists through C: not as wanted") + 1;
     printf("lists through C: %zu instructions of %zu bytes, as wanted\n", count, size);
     return 0;

@@ -1,13 +1,13 @@
 /* Hands the library lists of random instructions and items, most of them near ones that can be assembled, and slices of random
  * bytes of any length, and prints a number of all answers: two archives that answer alike print the same. Tests besides that a refusal
- * leaves the slices as they were, that what is encoded is what hq_encode puts for each, and that what is assembled is read to its end
- * by lines of the core. The status is 0 where that is so. */
+ * leaves the slices as they were, that what is encoded is what hq_encode puts for each, and that of items the refusal is the one that is
+ * computed here, and so are, by what hq_encode puts and by the lengths that hq_decode tells, all bytes. The status is 0 where that is so. */
 #include "huqmeris.h"
 #include <inttypes.h>
 #include <stdio.h>
 #include <string.h>
 
-enum { ROUNDS = 20000, MOST = 12, ROOM = 13 * MOST };
+enum { ROUNDS = 20000, MOST = 12, ROOM = 13 * MOST, MOST_DATA = 8, MOST_ITEMS = MOST + 4 + MOST_DATA, MOST_BYTES = 1024 };
 
 static uint64_t state = 88172645463325252u, sum = 14695981039346656037u;
 
@@ -37,7 +37,7 @@ static void fill(hq_inst *inst)
         case 0: place = hq_nothing(); break;
         case 1: case 2: place = hq_reg((uint8_t)(next() % 16)); break;
         case 3: place = hq_index((uint8_t)(next() % 16), (uint8_t)(next() % 17), (uint8_t)(next() % 4), (int32_t)next() % 300); break;
-        case 4: place = hq_label(next() % 4); break;
+        case 4: place = next() % 2 ? hq_label(next() % 4) : hq_constant(next() % 4); break;
         default: place = hq_mem((uint8_t)(next() % 16), (int32_t)next() % 300); break;
         }
         place.trap = (uint8_t)(place.place >= HQ_PLACE_BASE && place.place <= HQ_PLACE_INDEX && next() % 4 == 0);
@@ -94,38 +94,175 @@ static int are_encoded(unsigned *encoded)
     return done.items == n && done.bytes == at && done.uses == told && is_blank(code + at, sizeof code - at) && is_blank(uses + told, (MOST - told) * sizeof *uses);
 }
 
-/* An item is one that is refused so. */
-static int is_at_fault(const hq_item *items, size_t n, size_t number, int32_t status)
+static int is_data(const hq_item *item) { return item->kind >= HQ_ITEM_CONSTANT && item->kind <= HQ_ITEM_ALIGN; }
+
+static int is_jump(const hq_item *item) { return item->kind >= HQ_ITEM_JMP && item->kind <= HQ_ITEM_JG; }
+
+/* Why this is no item, behind data or before. */
+static int32_t badness(const hq_item *item, int behind)
 {
-    const hq_item *item = &items[number];
-    size_t places = 0, before = 0;
-    for (size_t i = 0; i < n; i++)
-        if (items[i].kind == HQ_ITEM_LABEL && items[i].number == item->number) {
-            places++;
-            before += i < number;
-        }
-    switch (hq_code(status)) {
-    case HQ_BAD_ITEM:
-        return item->kind > HQ_ITEM_JG;
-    case HQ_BAD_LABEL:
-        return item->kind == HQ_ITEM_LABEL && item->number >= n;
-    case HQ_BOUND_TWICE:
-        return item->kind == HQ_ITEM_LABEL && before;
-    case HQ_UNBOUND:
-        return item->kind == HQ_ITEM_INST || (item->kind >= HQ_ITEM_JMP && !places);
-    default:
-        return item->kind == HQ_ITEM_INST && hq_check(&item->inst) == status;
+    switch (item->kind) {
+    case HQ_ITEM_LABEL: case HQ_ITEM_CONSTANT: return HQ_OK;
+    case HQ_ITEM_BYTES: return item->number > 24 ? HQ_BAD_ITEM : HQ_OK;
+    case HQ_ITEM_ALIGN: return item->number > 6 ? HQ_BAD_ITEM : HQ_OK;
+    case HQ_ITEM_INST: return behind ? HQ_BAD_ITEM : hq_check(&item->inst) == HQ_BAD_INST ? HQ_BAD_INST : HQ_OK;
+    default: return behind || !is_jump(item) ? HQ_BAD_ITEM : HQ_OK;
     }
 }
 
-static int are_assembled(unsigned *assembled)
+/* The first item that is the place of a label or a constant; as many as there are where none is. */
+static size_t bound_by(const hq_item *items, size_t n, uint32_t kind, uint32_t number)
 {
-    hq_item items[MOST + 4];
-    hq_done done = {77, 77, 77};
-    uint8_t code[ROOM + 64];
-    size_t n = 0, labels = next() % 4, room = next() % 8 ? sizeof code : next() % sizeof code, at = 0, count = 0, all;
-    memset(code, 0xA5, sizeof code);
-    all = next() % MOST;
+    for (size_t i = 0; i < n; i++)
+        if (items[i].kind == kind && items[i].number == number)
+            return i;
+    return n;
+}
+
+/* Why an item can't stand behind those before it. */
+static int32_t fault(const hq_item *items, size_t n, size_t i)
+{
+    if (items[i].kind == HQ_ITEM_INST)
+        return hq_check(&items[i].inst);
+    if (items[i].kind == HQ_ITEM_LABEL && items[i].number >= n)
+        return HQ_BAD_LABEL;
+    if (items[i].kind == HQ_ITEM_LABEL || items[i].kind == HQ_ITEM_CONSTANT)
+        return bound_by(items, i, items[i].kind, items[i].number) < i ? HQ_BOUND_TWICE : HQ_OK;
+    return HQ_OK;
+}
+
+/* An item refers to a label or a constant: which item is its place. */
+static int refers(const hq_item *items, size_t n, size_t i, size_t *place)
+{
+    const hq_item *item = &items[i];
+    if (item->kind != HQ_ITEM_INST) {
+        *place = bound_by(items, n, HQ_ITEM_LABEL, item->number);
+        return is_jump(item);
+    }
+    *place = bound_by(items, n, item->inst.place == HQ_PLACE_LABEL ? HQ_ITEM_LABEL : HQ_ITEM_CONSTANT, item->inst.target);
+    return item->inst.place == HQ_PLACE_LABEL || item->inst.place == HQ_PLACE_CONSTANT;
+}
+
+/* Why items are refused, and which of them. */
+static int32_t refusal(const hq_item *items, size_t n, size_t *number)
+{
+    size_t place;
+    int32_t status = HQ_OK;
+    int behind = 0;
+    for (*number = 0; *number < n; behind |= is_data(&items[*number]), ++*number)
+        if ((status = badness(&items[*number], behind)) != HQ_OK)
+            return status;
+    for (*number = 0; *number < n; ++*number)
+        if ((status = fault(items, n, *number)) != HQ_OK)
+            return status;
+    for (*number = 0; *number < n; ++*number)
+        if (refers(items, n, *number, &place) && place == n)
+            return HQ_UNBOUND;
+    return HQ_OK;
+}
+
+/* A jump has its opcode, the distance, and the short form exactly where that reaches a label before data. */
+static int is_jump_put(const hq_item *item, const uint8_t *code, size_t len, int64_t distance, int is_behind)
+{
+    uint8_t wanted[6] = {0};
+    uint32_t condition = item->kind - HQ_ITEM_JO;
+    int is_always = item->kind == HQ_ITEM_JMP, is_call = item->kind == HQ_ITEM_CALL;
+    size_t most = is_always || is_call ? 5 : 6, bytes = len == 2 ? 1 : 4;
+    int64_t near = distance < 0 ? distance + (int64_t)len - 2 : distance; /* from the end of the short form */
+    if (len != (!is_call && !is_behind && near >= -128 && near < 128 ? 2 : most))
+        return 0;
+    wanted[len == 6] = (uint8_t)(is_call ? 0xe8 : is_always ? len == 2 ? 0xeb : 0xe9 : (len == 2 ? 0x70 : 0x80) + condition);
+    if (len == 6)
+        wanted[0] = 0x0f;
+    for (size_t i = 0; i < bytes; i++)
+        wanted[len - bytes + i] = (uint8_t)((uint64_t)distance >> 8 * i);
+    return memcmp(code, wanted, len) == 0;
+}
+
+/* An instruction has the bytes that hq_encode puts, and where it refers to something, the distance. */
+static int is_inst_put(const hq_inst *inst, const uint8_t *code, size_t len, int64_t distance)
+{
+    uint8_t one[13];
+    uint32_t n;
+    hq_use use;
+    if (hq_encode(inst, one, sizeof one, &n, &use) != HQ_OK || n != len)
+        return 0;
+    if (use.kind == HQ_TOLD_LABEL || use.kind == HQ_TOLD_CONSTANT)
+        for (size_t i = 0; i < 4; i++)
+            one[use.at + i] = (uint8_t)((uint64_t)distance >> 8 * i);
+    return memcmp(code, one, len) == 0;
+}
+
+/* The places of items, and behind them that of the end: code is read, and data is what they hold. */
+static int are_placed(const hq_item *items, size_t n, const uint8_t *code, size_t len, size_t *places)
+{
+    size_t at = 0;
+    hq_reading r;
+    for (size_t i = 0, behind = 0; i < n; i++) {
+        const hq_item *item = &items[i];
+        places[i] = at;
+        behind |= is_data(item);
+        if (item->kind == HQ_ITEM_BYTES) {
+            if (item->number > len - at || memcmp(code + at, &item->inst, item->number))
+                return 0;
+            at += item->number;
+        } else if (item->kind == HQ_ITEM_ALIGN) {
+            for (; at % ((size_t)1 << item->number); at++)
+                if (at == len || code[at])
+                    return 0;
+        } else if (!behind && item->kind != HQ_ITEM_LABEL) {
+            if (hq_decode(code + at, len - at, &r) != HQ_OK)
+                return 0;
+            at += r.length;
+        }
+    }
+    places[n] = at;
+    return at == len;
+}
+
+/* The bytes are those of the items. */
+static int are_put(const hq_item *items, size_t n, const uint8_t *code, size_t len)
+{
+    size_t places[MOST_ITEMS + 1], first = 0, place;
+    if (!are_placed(items, n, code, len, places))
+        return 0;
+    while (first < n && !is_data(&items[first]))
+        first++;
+    for (size_t i = 0; i < first; i++) {
+        const uint8_t *at = code + places[i];
+        size_t has = places[i + 1] - places[i];
+        int64_t distance = refers(items, n, i, &place) ? (int64_t)places[place] - (int64_t)places[i + 1] : 0;
+        if (items[i].kind == HQ_ITEM_INST && !is_inst_put(&items[i].inst, at, has, distance))
+            return 0;
+        if (is_jump(&items[i]) && !is_jump_put(&items[i], at, has, distance, place > first))
+            return 0;
+    }
+    return 1;
+}
+
+/* Items of data, and now and then what can't stand there. Most constants and labels have a number that no other has. */
+static size_t add_data(hq_item *items, size_t n, uint32_t labels)
+{
+    uint32_t constants = 0;
+    for (size_t i = 0, more = next() % (MOST_DATA + 1); i < more; i++) {
+        uint8_t bytes[24];
+        for (size_t k = 0; k < sizeof bytes; k++)
+            bytes[k] = (uint8_t)next();
+        switch (next() % 8) {
+        case 0: case 1: case 2: items[n] = hq_item_at(HQ_ITEM_CONSTANT, next() % 32 ? constants++ : next() % 4); break;
+        case 3: case 4: items[n] = next() % 32 ? hq_item_bytes(bytes, next() % 25) : hq_item_at(HQ_ITEM_BYTES, next() % 30); break;
+        case 5: items[n] = hq_item_at(HQ_ITEM_ALIGN, next() % 32 ? next() % 7 : next() % 10); break;
+        case 6: items[n] = hq_item_at(HQ_ITEM_LABEL, next() % 32 ? labels++ : next() % 32); break;
+        default: items[n] = hq_item_at(next() % 16 ? HQ_ITEM_CONSTANT : next() % 30, next() % 8 ? constants++ : next() % 4); break;
+        }
+        n++;
+    }
+    return n;
+}
+
+static size_t random_items(hq_item *items)
+{
+    size_t n = 0, labels = next() % 4, all = next() % MOST;
     for (size_t i = 0; i < all; i++) {
         hq_inst inst;
         fill(&inst);
@@ -142,24 +279,34 @@ static int are_assembled(unsigned *assembled)
         items[i] = items[k];
         items[k] = item;
     }
+    return next() % 2 ? n : add_data(items, n, (uint32_t)labels);
+}
+
+static int are_assembled(unsigned *assembled, unsigned *with_data)
+{
+    hq_item items[MOST_ITEMS];
+    hq_done done = {77, 77, 77}, all;
+    uint8_t code[MOST_BYTES];
+    size_t n = random_items(items), room = next() % 8 ? sizeof code : next() % 200, number;
+    int32_t wanted = refusal(items, n, &number);
+    memset(code, 0xA5, sizeof code);
     int32_t status = hq_assemble(items, n, code, room, &done);
     add(&status, sizeof status);
     add(&done, sizeof done);
     add(code, sizeof code);
-    if (status == HQ_FULL)
-        return is_blank(code, sizeof code) && done.bytes > room && done.items == n;
-    if (status != HQ_OK)
-        return is_blank(code, sizeof code) && done.items < n && is_at_fault(items, n, done.items, status);
+    if (done.items != number)
+        return 0;
+    if (status == HQ_FULL && wanted == HQ_OK)
+        return is_blank(code, sizeof code) && done.bytes > room && hq_assemble(items, n, code, sizeof code, &all) == HQ_OK && all.bytes == done.bytes;
+    if (status != wanted || status != HQ_OK)
+        return status == wanted && is_blank(code, sizeof code);
     ++*assembled;
     for (size_t i = 0; i < n; i++)
-        count += items[i].kind != HQ_ITEM_LABEL;
-    while (at < done.bytes) {
-        hq_reading r;
-        if (hq_decode(code + at, done.bytes - at, &r) != HQ_OK || count-- == 0)
-            return 0;
-        at += r.length;
-    }
-    return done.items == n && count == 0 && at == done.bytes && is_blank(code + at, sizeof code - at);
+        if (is_data(&items[i])) {
+            ++*with_data;
+            break;
+        }
+    return done.bytes <= room && are_put(items, n, code, done.bytes) && is_blank(code + done.bytes, sizeof code - done.bytes);
 }
 
 /* Any bytes at all, as lists. */
@@ -189,12 +336,12 @@ static int are_answered(void)
 
 int main(void)
 {
-    unsigned encoded = 0, assembled = 0;
+    unsigned encoded = 0, assembled = 0, with_data = 0;
     for (int round = 0; round < ROUNDS; round++)
-        if (!are_encoded(&encoded) || !are_assembled(&assembled) || !are_answered()) {
+        if (!are_encoded(&encoded) || !are_assembled(&assembled, &with_data) || !are_answered()) {
             printf("round %d isn't as wanted\n", round);
             return 1;
         }
-    printf("random lists through C: %d, %u of them encoded and %u assembled; answers %016" PRIx64 "\n", ROUNDS, encoded, assembled, sum);
-    return !(encoded && assembled);
+    printf("random lists through C: %d, %u of them encoded and %u assembled, %u with data; answers %016" PRIx64 "\n", ROUNDS, encoded, assembled, with_data, sum);
+    return !(encoded && assembled && with_data);
 }

@@ -107,6 +107,34 @@ impl Item {
     pub fn jump(kind: u32, number: u32) -> Item {
         Item { kind, number, inst: Inst::default() }
     }
+
+    /// The place of a constant.
+    pub fn constant(number: u32) -> Item {
+        Item { kind: sys::HQ_ITEM_CONSTANT, number, inst: Inst::default() }
+    }
+
+    /// These bytes, or `None` where they are more than 24.
+    pub fn bytes(bytes: &[u8]) -> Option<Item> {
+        let mut held = [0; size_of::<Inst>()];
+        held.get_mut(..bytes.len())?.copy_from_slice(bytes);
+        Some(Item { kind: sys::HQ_ITEM_BYTES, number: bytes.len() as u32, inst: Inst::holding(held) })
+    }
+
+    /// Zeros up to a multiple of `1 << power` from the first byte of the code on, where `power` is at most 6.
+    pub fn align(power: u32) -> Item {
+        Item { kind: sys::HQ_ITEM_ALIGN, number: power, inst: Inst::default() }
+    }
+}
+
+impl Inst {
+    /// The struct that these bytes are in memory, which needn't be an instruction.
+    fn holding(bytes: [u8; size_of::<Inst>()]) -> Inst {
+        let [l0, l1, place, reg, vvvv, base, index, scale, trap, has_offset, offset, reserved, words @ ..] = bytes;
+        let [d0, d1, d2, d3, t0, t1, t2, t3, i0, i1, i2, i3] = words;
+        let (line, disp) = (u16::from_le_bytes([l0, l1]), i32::from_le_bytes([d0, d1, d2, d3]));
+        let (target, imm) = (u32::from_le_bytes([t0, t1, t2, t3]), u32::from_le_bytes([i0, i1, i2, i3]));
+        Inst { line, place, reg, vvvv, base, index, scale, trap, has_offset, offset, reserved, disp, target, imm }
+    }
 }
 
 /// Assembles items into the front of `code`: all, or none.
@@ -180,6 +208,11 @@ impl Place {
     pub fn label(label: u32) -> Place {
         Place { place: sys::HQ_PLACE_LABEL, target: label, ..Place::default() }
     }
+
+    /// Memory at a constant.
+    pub fn constant(constant: u32) -> Place {
+        Place { place: sys::HQ_PLACE_CONSTANT, target: constant, ..Place::default() }
+    }
 }
 
 /// Reads the instruction at the front.
@@ -235,6 +268,54 @@ mod tests {
         assert_eq!(code[..done.bytes], [0x48, 0x83, 0xEF, 0x01, 0x75, 0xFA, 0xC3]);
         let stopped = assemble(&[Item::inst(ret()), Item::jump(sys::HQ_ITEM_JMP, 0)], &mut code).unwrap_err();
         assert_eq!((stopped.status, stopped.done.items), (Status(sys::HQ_UNBOUND), 1));
+    }
+
+    /// `movaps` of a constant into the first register.
+    fn load(constant: u32) -> Item {
+        Item::inst(Inst::new(sys::HQ_LINE_MOVAPS_A, Some(0), None, Place::constant(constant), None).unwrap())
+    }
+
+    #[test]
+    fn assembles_a_constant() {
+        let bytes = [1, 2, 3, 4, 5, 6, 7, 0x80, 0x90, 0xA0, 0xB0, 0xC0, 0xD0, 0xE0, 0xF0, 0xFF];
+        let items = [load(7), Item::inst(ret()), Item::align(4), Item::constant(7), Item::bytes(&bytes).unwrap()];
+        let mut code = [0xCC; 33];
+        let done = assemble(&items, &mut code).unwrap();
+        assert_eq!((done.items, done.bytes, code[32]), (5, 32, 0xCC));
+        assert_eq!(code[..16], [0x0F, 0x28, 0x05, 9, 0, 0, 0, 0xC3, 0, 0, 0, 0, 0, 0, 0, 0]);
+        let read = Readings(&code).next().unwrap();
+        let at = usize::from(read.length) + read.disp as usize;
+        assert_eq!((read.line, read.place_kind, &code[at..at + 16]), (sys::HQ_LINE_MOVAPS_A, sys::HQ_READ_RELATIVE, &bytes[..]));
+        let refused = |items: &[Item]| assemble(items, &mut [0; 64]).map_err(|stopped| (stopped.status, stopped.done.items));
+        assert_eq!(refused(&items[..3]), Err((Status(sys::HQ_UNBOUND), 0)));
+        assert_eq!(refused(&[load(7), Item::constant(7), Item::constant(7)]), Err((Status(sys::HQ_BOUND_TWICE), 2)));
+    }
+
+    #[test]
+    fn assembles_bytes() {
+        let bytes: [u8; 25] = core::array::from_fn(|i| 0x7B + i as u8);
+        assert_eq!(Item::bytes(&bytes), None);
+        for count in 0..25 {
+            let mut code = [0xCC; 33];
+            let items = [load(0), Item::inst(ret()), Item::constant(0), Item::bytes(&bytes[..count]).unwrap()];
+            assert_eq!(assemble(&items, &mut code).unwrap().bytes, 8 + count);
+            assert_eq!(code[..8], [0x0F, 0x28, 0x05, 1, 0, 0, 0, 0xC3]);
+            assert_eq!((&code[8..8 + count], code[8 + count]), (&bytes[..count], 0xCC));
+        }
+    }
+
+    #[test]
+    fn assembles_padding() {
+        for power in 0..7 {
+            let mut code = [0xCC; 66];
+            let (at, one) = (8_usize.next_multiple_of(1 << power), Item::bytes(&[1]).unwrap());
+            let items = [load(0), Item::inst(ret()), Item::align(power), Item::constant(0), one];
+            assert_eq!(assemble(&items, &mut code).unwrap().bytes, at + 1);
+            assert_eq!(code[..8], [0x0F, 0x28, 0x05, at as u8 - 7, 0, 0, 0, 0xC3]);
+            assert!(code[8..at].iter().all(|&byte| byte == 0) && code[at..at + 2] == [1, 0xCC]);
+        }
+        let stopped = assemble(&[Item::inst(ret()), Item::align(7)], &mut [0; 128]).unwrap_err();
+        assert_eq!((stopped.status, stopped.done.items), (Status(sys::HQ_BAD_ITEM), 1));
     }
 
     #[test]

@@ -122,6 +122,13 @@ pub const HQ_ITEM_JGE: u32 = 17;
 pub const HQ_ITEM_JLE: u32 = 18;
 /// An item: a jump to a label at greater, of signed numbers.
 pub const HQ_ITEM_JG: u32 = 19;
+/// An item: the place of a constant, which is that of what comes next. It is data: behind it only data and places of labels
+/// stand.
+pub const HQ_ITEM_CONSTANT: u32 = 20;
+/// An item: bytes, which are data too: the first of the 24 in which an instruction would stand, as many as the number says.
+pub const HQ_ITEM_BYTES: u32 = 21;
+/// An item: padding, which is data too: zeros, up to a multiple of 2 to the number, at most 6, from the first byte on.
+pub const HQ_ITEM_ALIGN: u32 = 22;
 /// No register is given.
 pub const HQ_NO_REG: u16 = 256;
 /// No immediate is given.
@@ -850,15 +857,16 @@ pub struct hq_done {
 
 const _: () = assert!(size_of::<hq_done>() == 24 && align_of::<hq_done>() == 8);
 
-/// What is assembled: an instruction, the place of a label, or a jump to one.
+/// What is assembled: an instruction, the place of a label, a jump to one, or data behind the code.
 #[repr(C)]
 #[derive(Clone, Copy, Debug, Default, PartialEq, Eq, Hash)]
 pub struct hq_item {
     /// Which it is: `HQ_ITEM_INST` and the like.
     pub kind: u32,
-    /// The number of the label, below that of all items. Of an instruction it isn't looked at.
+    /// The number of the label, below that of all items; that of the constant; how many bytes there are; or the power of
+    /// 2 of padding. Of an instruction it isn't looked at.
     pub number: u32,
-    /// The instruction. Of other items it isn't looked at.
+    /// The instruction, or the bytes. Of other items it isn't looked at.
     pub inst: hq_inst,
 }
 
@@ -866,10 +874,13 @@ const _: () = assert!(size_of::<hq_item>() == 32 && align_of::<hq_item>() == 4);
 
 #[link(name = "huqmeris", kind = "static")]
 unsafe extern "C" {
-    /// Assembles items: instructions, places of labels, and jumps to them, into the front of some bytes, all of them or none.
+    /// Assembles items into the front of some bytes, all of them or none: instructions, places of labels, and jumps to them; behind
+    /// them data, which instructions refer to as constants or labels. The first item that is data begins it: behind that no
+    /// instruction and no jump may stand.
     ///
     /// A label's number is below that of all items. Each jump has the shortest form in which all of them reach: no choice of forms
-    /// has fewer bytes. An instruction may refer to a label too. At `HQ_OK` `done` has how many items and bytes there are, at
+    /// has fewer bytes. An instruction may refer to a label too. A jump to a
+    /// label behind data has its long form. At `HQ_OK` `done` has how many items and bytes there are, at
     /// `HQ_FULL` how many there would be; at another status `items` is the number of the item that is refused, from 0: the first
     /// that is none, or else the first that has a fault or whose label can't be bound, or else the first that refers to what has no
     /// place. What instructions tell of traps isn't told. No late offset is known.
