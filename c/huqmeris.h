@@ -52,11 +52,11 @@ extern "C" {
 #define HQ_TOO_MANY 10
 /* The allocator gave no memory. */
 #define HQ_NO_MEMORY 11
-/* The integers are no item. */
+/* The integers are no item, or one of code behind data. */
 #define HQ_BAD_ITEM 12
 /* The label's number isn't below that of all items. */
 #define HQ_BAD_LABEL 13
-/* The label has a place already. */
+/* The label or the constant has a place already. */
 #define HQ_BOUND_TWICE 14
 /* A label or a constant that is referred to has no place. */
 #define HQ_UNBOUND 15
@@ -943,11 +943,11 @@ _Static_assert(offsetof(hq_item, inst) == 8, "hq_item.inst");
  * instruction and no jump may stand.
  *
  * A label's number is below that of all items. Each jump has the shortest form in which all of them reach: no choice of forms
- * has fewer bytes. An instruction may refer to a label too. A jump to a
- * label behind data has its long form. At `HQ_OK` `done` has how many items and bytes there are, at
- * `HQ_FULL` how many there would be; at another status `items` is the number of the item that is refused, from 0: the first
- * that is none, or else the first that has a fault or whose label can't be bound, or else the first that refers to what has no
- * place. What instructions tell of traps isn't told. No late offset is known.
+ * has fewer bytes. A jump to a label behind data has its long form. An instruction may refer to a label too. At `HQ_OK` `done`
+ * has how many items and bytes there are, at `HQ_FULL` how many there would be; at another status `items` is the number of the
+ * item that is refused, from 0: the first that is none, or else the first that has a fault or whose label or constant can't be
+ * bound, or else the first that refers to what has no place. What instructions tell of traps isn't told. No late offset is
+ * known.
  *
  * It asks for memory, and has given all of it back when it answers.
  */

@@ -38,11 +38,11 @@ pub const HQ_FAULT_RANGE: i32 = 20;
 pub const HQ_TOO_MANY: i32 = 10;
 /// The allocator gave no memory.
 pub const HQ_NO_MEMORY: i32 = 11;
-/// The integers are no item.
+/// The integers are no item, or one of code behind data.
 pub const HQ_BAD_ITEM: i32 = 12;
 /// The label's number isn't below that of all items.
 pub const HQ_BAD_LABEL: i32 = 13;
-/// The label has a place already.
+/// The label or the constant has a place already.
 pub const HQ_BOUND_TWICE: i32 = 14;
 /// A label or a constant that is referred to has no place.
 pub const HQ_UNBOUND: i32 = 15;
@@ -879,11 +879,11 @@ unsafe extern "C" {
     /// instruction and no jump may stand.
     ///
     /// A label's number is below that of all items. Each jump has the shortest form in which all of them reach: no choice of forms
-    /// has fewer bytes. An instruction may refer to a label too. A jump to a
-    /// label behind data has its long form. At `HQ_OK` `done` has how many items and bytes there are, at
-    /// `HQ_FULL` how many there would be; at another status `items` is the number of the item that is refused, from 0: the first
-    /// that is none, or else the first that has a fault or whose label can't be bound, or else the first that refers to what has no
-    /// place. What instructions tell of traps isn't told. No late offset is known.
+    /// has fewer bytes. A jump to a label behind data has its long form. An instruction may refer to a label too. At `HQ_OK` `done`
+    /// has how many items and bytes there are, at `HQ_FULL` how many there would be; at another status `items` is the number of the
+    /// item that is refused, from 0: the first that is none, or else the first that has a fault or whose label or constant can't be
+    /// bound, or else the first that refers to what has no place. What instructions tell of traps isn't told. No late offset is
+    /// known.
     ///
     /// It asks for memory, and has given all of it back when it answers.
     pub unsafe fn hq_assemble(items: *const hq_item, items_len: usize, code: *mut u8, code_len: usize, done: *mut hq_done) -> i32;

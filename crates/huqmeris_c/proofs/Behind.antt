@@ -55,6 +55,7 @@ front_places given front s places h = record {
     by_spot : (n : ℕ) → Binds 1 n front → places (target.Label (record { 0 = n })) ≡ None → (spot_of n h.list ≡ None) ⊎ ((spot : ℕ) × (spot_of n h.list ≡ Some spot)) → ⊥
     by_spot n binds none (inl e) = binds_spot front h.list n h.makes binds e
     by_spot n binds none (inr spot) = no_place places (target.Label (record { 0 = n })) _ (h.put.bound n spot.0 spot.1) none
+
     by_place : (n place : ℕ) → places (target.Label (record { 0 = n })) ≡ Some place → (spot_of n h.list ≡ None) ⊎ ((spot : ℕ) × (spot_of n h.list ≡ Some spot)) → Binds 1 n front
     by_place n place some (inl e) = absurd (no_place places (target.Label (record { 0 = n })) place some (h.put.others (target.Label (record { 0 = n })) e ∙ h.none (target.Label (record { 0 = n }))))
     by_place n place some (inr spot) = spot_binds front h.list n spot.0 h.makes spot.1
@@ -107,9 +108,11 @@ label_more given at xs x old new kind adds h = record {
     labels : (n : ℕ) → new (target.Label (record { 0 = n })) ≡ None → Binds 1 n xs ⊎ ((x.kind ≡ 1) × (x.number ≡ n)) → ⊥
     labels n none (inl b) = h.labels n b (other_none (target.Label (record { 0 = x.number })) at old new adds (target.Label (record { 0 = n })) none)
     labels n none (inr b) = no_place new (target.Label (record { 0 = x.number })) at adds.bound (ap (λ (m : ℕ). new (target.Label (record { 0 = m }))) b.1 ∙ none)
+
     only : (n place : ℕ) → new (target.Label (record { 0 = n })) ≡ Some place → (n ≡ x.number) ⊎ (n ≡ x.number → ⊥) → Binds 1 n (xs ++ x ∷ [])
     only n place some (inl e) = binds_last 1 n xs x kind (sym e)
     only n place some (inr d) = binds_before 1 n xs x (h.only_labels n place (sym (adds.others (target.Label (record { 0 = n })) (λ e. d (ap number_of e))) ∙ some))
+
     constants : (n : ℕ) → new (target.Constant (record { 0 = n })) ≡ None → Binds 20 n xs ⊎ ((x.kind ≡ 20) × (x.number ≡ n)) → ⊥
     constants n none (inl b) = h.constants n b (other_none (target.Label (record { 0 = x.number })) at old new adds (target.Constant (record { 0 = n })) none)
     constants n none (inr b) = kinds x.kind 1 20 kind b.0 (λ z. omega (arith, z))
@@ -125,9 +128,11 @@ constant_more at xs x old new kind adds h = record {
     labels : (n : ℕ) → new (target.Label (record { 0 = n })) ≡ None → Binds 1 n xs ⊎ ((x.kind ≡ 1) × (x.number ≡ n)) → ⊥
     labels n none (inl b) = h.labels n b (other_none (target.Constant (record { 0 = x.number })) at old new adds (target.Label (record { 0 = n })) none)
     labels n none (inr b) = kinds x.kind 1 20 b.0 kind (λ z. omega (arith, z))
+
     constants : (n : ℕ) → new (target.Constant (record { 0 = n })) ≡ None → Binds 20 n xs ⊎ ((x.kind ≡ 20) × (x.number ≡ n)) → ⊥
     constants n none (inl b) = h.constants n b (other_none (target.Constant (record { 0 = x.number })) at old new adds (target.Constant (record { 0 = n })) none)
     constants n none (inr b) = no_place new (target.Constant (record { 0 = x.number })) at adds.bound (ap (λ (m : ℕ). new (target.Constant (record { 0 = m }))) b.1 ∙ none)
+
     only : (n place : ℕ) → new (target.Constant (record { 0 = n })) ≡ Some place → (n ≡ x.number) ⊎ (n ≡ x.number → ⊥) → Binds 20 n (xs ++ x ∷ [])
     only n place some (inl e) = binds_last 20 n xs x kind (sym e)
     only n place some (inr d) = binds_before 20 n xs x (h.only_constants n place (sym (adds.others (target.Constant (record { 0 = n })) (λ e. d (ap number_of e))) ∙ some))
@@ -145,6 +150,7 @@ places_more given at xs x old new (inr (inr b)) h = record {
     labels : (n : ℕ) → new (target.Label (record { 0 = n })) ≡ None → Binds 1 n xs ⊎ ((x.kind ≡ 1) × (x.number ≡ n)) → ⊥
     labels n none (inl c) = h.labels n c (sym (b.2 (target.Label (record { 0 = n }))) ∙ none)
     labels n none (inr c) = b.0 c.0
+
     constants : (n : ℕ) → new (target.Constant (record { 0 = n })) ≡ None → Binds 20 n xs ⊎ ((x.kind ≡ 20) × (x.number ≡ n)) → ⊥
     constants n none (inl c) = h.constants n c (sym (b.2 (target.Constant (record { 0 = n }))) ∙ none)
     constants n none (inr c) = b.1 c.0
@@ -264,9 +270,10 @@ PutUpTo given front items b i = Behind given front (take i items) (buffer_state 
 
 pub put_more : {A : Type 0} (given : ℕ) (front items : List HqItem) (d : HqItem) (i : ℕ) (b c : CodeBuffer A) → i < length items → IsDatum (get_or items i d) → label_count b ≡ given → PutsDatum (get_or items i d) b c → PutUpTo given front items b i → PutUpTo given front items c (i + 1)
 put_more given front items d i b c within datum count put h =
-    let binds : BindsAt given (length (buffer_state b).bytes) (get_or items i d) (places_of b) (places_of c) = subst (λ (n : ℕ). BindsAt n (length (buffer_state b).bytes) (get_or items i d) (places_of b) (places_of c)) count put.binds in
-    (subst (λ (l : List HqItem). Behind given front l (buffer_state c) (places_of c)) (sym (take_more items i d within)) (behind_more given front (take i items) (get_or items i d) b c h.0 put),
-    λ k earlier other lt is denied. by_order k earlier other lt is denied binds (cases_lt k i))
+    let binds : BindsAt given (length (buffer_state b).bytes) (get_or items i d) (places_of b) (places_of c) = subst (λ (n : ℕ). BindsAt n (length (buffer_state b).bytes) (get_or items i d) (places_of b) (places_of c)) count put.binds in (
+      subst (λ (l : List HqItem). Behind given front l (buffer_state c) (places_of c)) (sym (take_more items i d within)) (behind_more given front (take i items) (get_or items i d) b c h.0 put),
+      λ k earlier other lt is denied. by_order k earlier other lt is denied binds (cases_lt k i),
+    )
   where
     by_order : (k : ℕ) (earlier : HqItem) (other : ℤ) → k < i + 1 → slice_get items k ≡ Some earlier → CantBePut given (front ++ take k items) earlier other → BindsAt given (length (buffer_state b).bytes) (get_or items i d) (places_of b) (places_of c) → (k < i) ⊎ (i ≤ k) → ⊥
     by_order k earlier other lt is denied binds (inl less) = h.1 k earlier other less is denied

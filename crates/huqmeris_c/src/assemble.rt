@@ -111,11 +111,11 @@ fn put_items(
 /// instruction and no jump may stand.
 ///
 /// A label's number is below that of all items. Each jump has the shortest form in which all of them reach: no choice of forms
-/// has fewer bytes. An instruction may refer to a label too. A jump to a
-/// label behind data has its long form. At `HQ_OK` `done` has how many items and bytes there are, at
-/// `HQ_FULL` how many there would be; at another status `items` is the number of the item that is refused, from 0: the first
-/// that is none, or else the first that has a fault or whose label can't be bound, or else the first that refers to what has no
-/// place. What instructions tell of traps isn't told. No late offset is known.
+/// has fewer bytes. A jump to a label behind data has its long form. An instruction may refer to a label too. At `HQ_OK` `done`
+/// has how many items and bytes there are, at `HQ_FULL` how many there would be; at another status `items` is the number of the
+/// item that is refused, from 0: the first that is none, or else the first that has a fault or whose label or constant can't be
+/// bound, or else the first that refers to what has no place. What instructions tell of traps isn't told. No late offset is
+/// known.
 ///
 /// It asks for memory, and has given all of it back when it answers.
 #[unsafe(no_mangle)]

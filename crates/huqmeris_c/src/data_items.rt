@@ -9,9 +9,7 @@ ghost use Rattle.x64_code_buffer.specs.Binding.{AddsBinding, SamePlaces};
 ghost use Rattle.x64_code_buffer.specs.Padding.{missing_to};
 ghost use Rattle.x64_code_buffer.specs.Buffer.{StaysFilled, buffer_state, label_count, places_of};
 
-use crate::item::{
-    HQ_ITEM_ALIGN, HQ_ITEM_BYTES, HQ_ITEM_CONSTANT, HQ_ITEM_LABEL, HqItem,
-};
+use crate::item::{HQ_ITEM_ALIGN, HQ_ITEM_BYTES, HQ_ITEM_CONSTANT, HQ_ITEM_LABEL, HqItem};
 use crate::list::Refused;
 use crate::status::{HQ_BAD_LABEL, HQ_BOUND_TWICE, HQ_NO_MEMORY};
 use cax64_plain::HqInst;

@@ -61,10 +61,7 @@ fn list_item(item: &HqItem, list: &mut Vec<Item<Core>, Global>) -> Result<(), i3
 }
 
 /// Lists items of code.
-fn list_items(
-    items: &[HqItem],
-    list: &mut Vec<Item<Core>, Global>,
-) -> Result<(), Refused>
+fn list_items(items: &[HqItem], list: &mut Vec<Item<Core>, Global>) -> Result<(), Refused>
     requires { list.old.items ≡ [] }
     ensures listed { OnOk result (MakesEach items.now list.new.items) }
     ensures refused { IfErr result (λ refused. (refused.status ≡ pos 11) ⊎ FirstRefused (λ before. NoCode) items.now refused.number refused.status) }

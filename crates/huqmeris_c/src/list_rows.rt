@@ -3,7 +3,8 @@
 use crate::assemble::hq_assemble;
 use crate::encode_all::hq_encode_all;
 use crate::item::{
-    HQ_ITEM_CALL, HQ_ITEM_INST, HQ_ITEM_JG, HQ_ITEM_JMP, HQ_ITEM_JNE, HQ_ITEM_LABEL, HqItem,
+    HQ_ITEM_ALIGN, HQ_ITEM_BYTES, HQ_ITEM_CALL, HQ_ITEM_CONSTANT, HQ_ITEM_INST, HQ_ITEM_JMP,
+    HQ_ITEM_JNE, HQ_ITEM_LABEL, HqItem,
 };
 use crate::progress::HqDone;
 use crate::status::{HQ_BAD_ITEM, HQ_BAD_LABEL, HQ_BOUND_TWICE, HQ_NO_NAME, HQ_UNBOUND};
@@ -12,7 +13,7 @@ use cax64_address::amode::Amode;
 use cax64_plain::status::{HQ_BAD_INST, HQ_BAD_LINE, HQ_FULL, HQ_OK};
 use cax64_plain::told::{HQ_TOLD_LABEL, HQ_TOLD_NOTHING};
 use cax64_plain::{HqInst, HqUse};
-use cax64_sink::{DeferredTarget, Label};
+use cax64_sink::{Constant, DeferredTarget, Label};
 use x64_core::ops::arithmetic::{ADDQ_RM, SUBQ_MI_SXB};
 use x64_core::ops::bits::POPCNTQ_RM;
 use x64_core::ops::control::RETQ_ZO;
@@ -22,6 +23,12 @@ use x64_core::ops::moves::LEAQ_RM;
 fn address_of(number: u32) -> HqInst {
     let label = DeferredTarget::Label(Label(number));
     HqInst::of(&LEAQ_RM.mem(0, Amode::RipRelative { target: label }))
+}
+
+/// `leaq 0(%rip), %rax` of a constant.
+fn address_of_constant(number: u32) -> HqInst {
+    let constant = DeferredTarget::Constant(Constant(number));
+    HqInst::of(&LEAQ_RM.mem(0, Amode::RipRelative { target: constant }))
 }
 
 fn inst(inst: HqInst) -> HqItem {
@@ -115,13 +122,132 @@ fn a_loop_is_assembled(rt: HostRuntime) {
     assert_eq!(rt; code[21], 0xCC);
 }
 
+/// `leaq` of a constant and of a label, `retq`, and behind them zeros up to a multiple of 16, the constant, three bytes, the label,
+/// and all 24 bytes of a struct.
+#[test]
+fn data_stands_behind_code(rt: HostRuntime) {
+    let ret = HqInst::of(&RETQ_ZO.bare());
+    let three = HqInst {
+        line: 0x201,
+        place: 3,
+        ..ret
+    };
+    let all = HqInst {
+        line: 0x201,
+        place: 3,
+        reg: 4,
+        vvvv: 5,
+        base: 6,
+        index: 7,
+        scale: 8,
+        trap: 9,
+        has_offset: 10,
+        offset: 11,
+        reserved: 12,
+        disp: -2,
+        target: 0x1413_1211,
+        imm: 0x1817_1615,
+    };
+    let items = [
+        inst(address_of_constant(u32::MAX)),
+        inst(address_of(1)),
+        inst(ret),
+        label(HQ_ITEM_ALIGN, 4),
+        label(HQ_ITEM_CONSTANT, u32::MAX),
+        HqItem {
+            kind: HQ_ITEM_BYTES,
+            number: 3,
+            inst: three,
+        },
+        label(HQ_ITEM_LABEL, 1),
+        HqItem {
+            kind: HQ_ITEM_BYTES,
+            number: 24,
+            inst: all,
+        },
+    ];
+    let wanted = [
+        0x48, 0x8D, 0x05, 0x09, 0, 0, 0, 0x48, 0x8D, 0x05, 0x05, 0, 0, 0, 0xC3, 0, 1, 2, 3, 1, 2,
+        3, 4, 5, 6, 7, 8, 9, 10, 11, 12, 0xFE, 0xFF, 0xFF, 0xFF, 0x11, 0x12, 0x13, 0x14, 0x15,
+        0x16, 0x17, 0x18,
+    ];
+    let (mut code, mut done) = ([0xCC; 44], HqDone::NOTHING);
+    assert_eq!(rt;
+        hq_assemble(rt.alloc(), &items, &mut code[..42], &mut done),
+        HQ_FULL
+    );
+    assert_eq!(rt; (done.items, done.bytes), (8, 43));
+    assert_eq!(rt; code.as_slice(), [0xCC; 44].as_slice());
+    assert_eq!(rt;
+        hq_assemble(rt.alloc(), &items, &mut code, &mut done),
+        HQ_OK
+    );
+    assert_eq!(rt; (done.items, done.bytes), (8, 43));
+    assert!(rt; code.as_slice().starts_with(wanted.as_slice()));
+    assert_eq!(rt; code[43], 0xCC);
+}
+
+/// What a list is refused for by its data, and at which item.
+#[test]
+fn data_is_refused(rt: HostRuntime) {
+    let ret = inst(HqInst::of(&RETQ_ZO.bare()));
+    let mut code = [0xCC; 64];
+    let mut done = HqDone::NOTHING;
+    let behind = [label(HQ_ITEM_CONSTANT, 0), label(HQ_ITEM_LABEL, 0), ret];
+    assert_eq!(rt;
+        hq_assemble(rt.alloc(), &behind, &mut code, &mut done),
+        HQ_BAD_ITEM
+    );
+    assert_eq!(rt; done.items, 2);
+    let long = [ret, label(HQ_ITEM_BYTES, 25)];
+    assert_eq!(rt;
+        hq_assemble(rt.alloc(), &long, &mut code, &mut done),
+        HQ_BAD_ITEM
+    );
+    assert_eq!(rt; done.items, 1);
+    let wide = [ret, label(HQ_ITEM_ALIGN, 7)];
+    assert_eq!(rt;
+        hq_assemble(rt.alloc(), &wide, &mut code, &mut done),
+        HQ_BAD_ITEM
+    );
+    assert_eq!(rt; done.items, 1);
+    let twice = [
+        ret,
+        label(HQ_ITEM_CONSTANT, 9),
+        label(HQ_ITEM_CONSTANT, 8),
+        label(HQ_ITEM_CONSTANT, 9),
+    ];
+    assert_eq!(rt;
+        hq_assemble(rt.alloc(), &twice, &mut code, &mut done),
+        HQ_BOUND_TWICE
+    );
+    assert_eq!(rt; done.items, 3);
+    let large = [ret, label(HQ_ITEM_ALIGN, 0), label(HQ_ITEM_LABEL, 3)];
+    assert_eq!(rt;
+        hq_assemble(rt.alloc(), &large, &mut code, &mut done),
+        HQ_BAD_LABEL
+    );
+    assert_eq!(rt; done.items, 2);
+    let unbound = [
+        ret,
+        inst(address_of_constant(9)),
+        label(HQ_ITEM_CONSTANT, 8),
+    ];
+    assert_eq!(rt;
+        hq_assemble(rt.alloc(), &unbound, &mut code, &mut done),
+        HQ_UNBOUND
+    );
+    assert_eq!(rt; done.items, 1);
+    assert_eq!(rt; code.as_slice(), [0xCC; 64].as_slice());
+}
+
 /// What each list is refused for, and at which item.
 #[test]
 fn items_are_refused(rt: HostRuntime) {
     let ret = inst(HqInst::of(&RETQ_ZO.bare()));
     let mut code = [0xCC; 16];
     let mut done = HqDone::NOTHING;
-    let unknown = [ret, label(HQ_ITEM_JG + 1, 0)];
+    let unknown = [ret, label(HQ_ITEM_ALIGN + 1, 0)];
     assert_eq!(rt;
         hq_assemble(rt.alloc(), &unknown, &mut code, &mut done),
         HQ_BAD_ITEM

@@ -6,13 +6,13 @@ pub const HQ_TOO_MANY: i32 = 10;
 /// The allocator gave no memory.
 pub const HQ_NO_MEMORY: i32 = 11;
 
-/// The integers are no item.
+/// The integers are no item, or one of code behind data.
 pub const HQ_BAD_ITEM: i32 = 12;
 
 /// The label's number isn't below that of all items.
 pub const HQ_BAD_LABEL: i32 = 13;
 
-/// The label has a place already.
+/// The label or the constant has a place already.
 pub const HQ_BOUND_TWICE: i32 = 14;
 
 /// A label or a constant that is referred to has no place.
