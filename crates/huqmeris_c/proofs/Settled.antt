@@ -1,9 +1,10 @@
-use Rattle.std.proofs.Common.{◌≡◌, ◌∙◌, ◌+◌, ◌-◌, ◌≤◌, ◌⊎◌, All, inl, inr, ℕ, zero, suc, ℤ, pos, ◌-ℤ◌, refl, sym, ap, subst, arith, Bool, true, false, Option, Some, None, List, [], ◌∷◌, ◌++◌, drop, get_or, length, length-append, take, slice_get}
+use Rattle.std.proofs.Common.{◌≡◌, ◌∙◌, ◌+◌, ◌-◌, ◌<◌, ◌≤◌, ◌⊎◌, All, inl, inr, ℕ, zero, suc, ℤ, pos, ◌-ℤ◌, refl, sym, ap, subst, arith, Bool, true, false, Option, Some, None, List, [], ◌∷◌, ◌++◌, drop, get_or, length, length-append, take, slice_get}
 use Rattle.std.proofs.lemmas.Bool.{eq-eqb}
-use Rattle.std.proofs.lemmas.List.{drop_at, drop_more, get_or-drop, length-drop, length-take-le, take-append-drop}
+use Rattle.std.proofs.lemmas.List.{drop_at, drop_more, get_or-drop, length-drop, length-take-le, take-append-drop, take_more}
 use Rattle.std.proofs.lemmas.List.Elements.{All-cons}
 use Rattle.std.proofs.lemmas.Option.{same_Some}
-use Rattle.std.specs.Prelude.{◌==◌, if◌then◌else◌, option_map, slice_index, unwrap_or}
+use Rattle.std.specs.Prelude.{◌==◌, if◌then◌else◌, map, option_map, slice_index, unwrap_or}
+use Rattle.cax64_address.specs.declared.amode.Amode.{Amode}
 use Rattle.cax64_address.specs.declared.amode.Amode.TheVariants.{ImmReg, ImmRegRegShift, RipRelative}
 use Rattle.cax64_encoder.specs.Notices.{trap_notice}
 use Rattle.cax64_encoder.specs.Place.{displacement_in, memory_in, place_read}
@@ -25,11 +26,15 @@ use Rattle.cax64_sink.specs.declared.Notice.{Notice}
 use Rattle.cax64_sink.specs.declared.Notice.TheVariants.{Trap, Target}
 use Rattle.cax64_sink.specs.declared.TrapCode.{TrapCode}
 use Rattle.cax64_plain.specs.Plain.{plain}
+use Rattle.cax64_plain.specs.Told.{told}
+use Rattle.cax64_plain.specs.declared.told.HqUse.{HqUse}
 use Rattle.huqmeris_c.proofs.Made.{if_none, list_is, map_none}
 use Rattle.huqmeris_c.specs.Data.{AreBound, code_of, data_from, data_of}
 use Rattle.huqmeris_c.specs.Encodes.{no_offsets}
 use Rattle.huqmeris_c.specs.Items.{Assembled, AssembledTo, ItemsAre, LeadsTo, ReadAs, jump_named, lengths, list_spans, target_in}
-use Rattle.huqmeris_c.specs.Putting.{Behind, HasItems, MakesEach, core_becomes, core_fault}
+use Rattle.huqmeris_c.specs.Each.{uses_told}
+use Rattle.huqmeris_c.specs.Putting.{Behind, HasItems, MakesEach, core_becomes, core_fault, traps_in}
+use Rattle.huqmeris_c.specs.Traps.{trap_told, traps_told}
 use Rattle.huqmeris_c.specs.declared.item.HqItem.{HqItem}
 use Rattle.huqmeris_c.specs.declared.progress.HqDone.{HqDone}
 use Rattle.x64_assemble.proofs.Entries.{are_free, spans_few}
@@ -335,6 +340,58 @@ are_lengths places lens all n at (item.Jump jump to ∷ xs) [] us readings count
 are_lengths places lens all n at (item.Jump jump to ∷ xs) (p ∷ ps) us [] count reads settled = absurd settled
 are_lengths places lens all n at (item.Jump jump to ∷ xs) (p ∷ ps) us (q ∷ readings) count reads settled = one_length lens n (entries xs) q.length (lengths readings) count (piece_length places (at + (reading_in p).length) p q us settled.0 ∙ reads.1) (are_lengths places lens all (n + 1) (at + (reading_in p).length) xs ps (uses_after p us) readings (omega arith) reads.2 settled.1)
 
+-- Traps.
+
+pub traps_both : (a b : List Notice) → traps_in (a ++ b) ≡ traps_in a ++ traps_in b
+traps_both [] b = refl
+traps_both (Trap at code ∷ a) b = ap (λ (l : List HqUse). told (Some (Trap at code)) ∷ l) (traps_both a b)
+traps_both (Target at goes_to ∷ a) b = traps_both a b
+
+pub traps_more : (notices : List Notice) (d : Notice) (i : ℕ) (old new : List HqUse) → i < length notices → new ≡ old ++ traps_in (get_or notices i d ∷ []) → old ≡ traps_in (take i notices) → new ≡ traps_in (take (i + 1) notices)
+traps_more notices d i old new within adds h =
+    adds
+    ∙ ap (λ (l : List HqUse). l ++ traps_in (get_or notices i d ∷ [])) h
+    ∙ sym (traps_both (take i notices) (get_or notices i d ∷ []))
+    ∙ ap traps_in (sym (take_more notices i d within))
+
+one_trap : (trap : Option TrapCode) (at : ℕ) → traps_in (trap_notice trap at) ≡ uses_told (trap_notice trap at)
+one_trap None at = refl
+one_trap (Some code) at = refl
+
+no_traps : (goes_to : DeferredTarget) (fields : List ℕ) → traps_in (map (λ field. Target field goes_to) fields) ≡ []
+no_traps goes_to [] = refl
+no_traps goes_to (field ∷ fields) = no_traps goes_to fields
+
+inst_traps : (memory : Option (Amode ℕ)) (at : ℕ) (p : Piece) → traps_in (inst_told memory at p) ≡ trap_told memory at
+inst_traps None at p = refl
+inst_traps (Some (ImmReg base simm32 trap)) at p = one_trap trap at
+inst_traps (Some (ImmRegRegShift base index scale simm32 trap)) at p = one_trap trap at
+inst_traps (Some (RipRelative goes_to)) at p = no_traps goes_to (piece_field at p)
+
+jump_traps : (o : Option ℕ) (to : Label) (at : ℕ) (p : Piece) → traps_in (jump_told o to at p) ≡ []
+jump_traps None to at p = no_traps (target.Label to) (piece_field at p)
+jump_traps (Some spot) to at p = refl
+
+traps_are : (places : DeferredTarget → Option ℕ) (lens : List ℕ) (all : List (Item Core)) (n at : ℕ) (xs : List (Item Core)) (ps : List Piece) (us : List Use) (readings : List LineReading) → EachReads core_becomes lens all n xs ps → EachSettled places at ps us readings → traps_in (all_told core_becomes all at xs ps) ≡ traps_told xs at readings
+traps_are places lens all n at [] ps us readings reads settled = refl
+traps_are places lens all n at (item.Bind label ∷ xs) ps us readings reads settled = traps_are places lens all n at xs ps us readings reads settled
+traps_are places lens all n at (item.Inst core ∷ xs) [] us readings reads settled = absurd reads
+traps_are places lens all n at (item.Inst core ∷ xs) (p ∷ ps) us [] reads settled = absurd settled
+traps_are places lens all n at (item.Inst core ∷ xs) (p ∷ ps) us (q ∷ readings) reads settled =
+    let long : q.length ≡ (reading_in p).length = piece_length places (at + (reading_in p).length) p q us settled.0 in
+    traps_both (inst_told (memory_in (core_view core).place) at p) (all_told core_becomes all (at + (reading_in p).length) xs ps)
+    ∙ ap (λ (l : List HqUse). l ++ traps_in (all_told core_becomes all (at + (reading_in p).length) xs ps)) (inst_traps (memory_in (core_view core).place) at p)
+    ∙ ap (λ (l : List HqUse). trap_told (memory_in (core_view core).place) at ++ l) (traps_are places lens all (n + 1) (at + (reading_in p).length) xs ps (uses_after p us) readings reads.2 settled.1)
+    ∙ ap (λ (m : ℕ). trap_told (memory_in (core_view core).place) at ++ traps_told xs (at + m) readings) (sym long)
+traps_are places lens all n at (item.Jump jump to ∷ xs) [] us readings reads settled = absurd reads
+traps_are places lens all n at (item.Jump jump to ∷ xs) (p ∷ ps) us [] reads settled = absurd settled
+traps_are places lens all n at (item.Jump jump to ∷ xs) (p ∷ ps) us (q ∷ readings) reads settled =
+    let long : q.length ≡ (reading_in p).length = piece_length places (at + (reading_in p).length) p q us settled.0 in
+    traps_both (jump_told (spot_of to.0 all) to at p) (all_told core_becomes all (at + (reading_in p).length) xs ps)
+    ∙ ap (λ (l : List HqUse). l ++ traps_in (all_told core_becomes all (at + (reading_in p).length) xs ps)) (jump_traps (spot_of to.0 all) to at p)
+    ∙ traps_are places lens all (n + 1) (at + (reading_in p).length) xs ps (uses_after p us) readings reads.2 settled.1
+    ∙ ap (λ (m : ℕ). traps_told xs (at + m) readings) (sym long)
+
 -- What stands behind the code.
 
 -- each field ends up to a place
@@ -380,7 +437,7 @@ rest_stays n old new size same =
 
 -- All of them.
 
-all_assembled : (given : ℕ) (items : List HqItem) (s : State) (places : DeferredTarget → Option ℕ) (new : List ℕ) → (h : Behind given (code_of items) (data_of items) s places) → LaidOut h.items.put.more (length h.before.bytes) s places new → length new ≡ length s.bytes → ((i : ℕ) → All (IsOutside i) (links (uses_of s.notices)) → get_or new i 0 ≡ get_or s.bytes i 0) → Assembled items new
+abbrev all_assembled : (given : ℕ) (items : List HqItem) (s : State) (places : DeferredTarget → Option ℕ) (new : List ℕ) → (h : Behind given (code_of items) (data_of items) s places) → LaidOut h.items.put.more (length h.before.bytes) s places new → length new ≡ length s.bytes → ((i : ℕ) → All (IsOutside i) (links (uses_of s.notices)) → get_or new i 0 ≡ get_or s.bytes i 0) → Assembled items new
 all_assembled given items s places new h out size others =
     let front : HasItems given (code_of items) h.before h.old = h.items in
     let xs : List (Item Core) = front.list in
@@ -413,11 +470,20 @@ all_assembled given items s places new h out size others =
       least = subst (λ (l : List ℕ). IsLeast (list_spans xs) l) (sym long) front.put.least;
     }
 
-pub all_put : (given : ℕ) (items : List HqItem) (code : List ℕ) (done : HqDone) (s : State) (places : DeferredTarget → Option ℕ) (bytes : List ℕ) → (h : Behind given (code_of items) (data_of items) s places) → LaidOut h.items.put.more (length h.before.bytes) s places bytes → length bytes ≡ length s.bytes → ((i : ℕ) → All (IsOutside i) (links (uses_of s.notices)) → get_or bytes i 0 ≡ get_or s.bytes i 0) → done.items ≡ length items → done.bytes ≡ length bytes → AssembledTo items code (bytes ++ drop (length bytes) code) done
-all_put given items code done s places bytes h out size others number len = record {
-  added = bytes;
-  front = ap (λ (n : ℕ). bytes ++ drop n code) (sym len);
-  len = len;
-  number = number;
-  assembled = all_assembled given items s places bytes h out size others;
-}
+pub all_put : (given : ℕ) (items : List HqItem) (code : List ℕ) (uses heard : List HqUse) (done : HqDone) (s : State) (places : DeferredTarget → Option ℕ) (bytes : List ℕ) → (h : Behind given (code_of items) (data_of items) s places) → LaidOut h.items.put.more (length h.before.bytes) s places bytes → length bytes ≡ length s.bytes → ((i : ℕ) → All (IsOutside i) (links (uses_of s.notices)) → get_or bytes i 0 ≡ get_or s.bytes i 0) → heard ≡ traps_in s.notices → done.items ≡ length items → done.bytes ≡ length bytes → done.uses ≡ length heard → AssembledTo items code (bytes ++ drop (length bytes) code) uses (heard ++ drop (length heard) uses) done
+all_put given items code uses heard done s places bytes h out size others traps number len count =
+    let front : HasItems given (code_of items) h.before h.old = h.items in
+    let xs : List (Item Core) = front.list in
+    let start : length front.before.bytes ≡ 0 = ap (λ (l : List ℕ). length l) front.bytes in
+    let notices : s.notices ≡ all_told core_becomes xs 0 xs front.put.more = h.notices ∙ front.put.told ∙ ap (λ (l : List Notice). l ++ all_told core_becomes xs (length front.before.bytes) xs front.put.more) front.notices ∙ ap (λ (n : ℕ). all_told core_becomes xs n xs front.put.more) start in
+    record {
+      added = bytes;
+      front = ap (λ (n : ℕ). bytes ++ drop n code) (sym len);
+      len = len;
+      number = number;
+      assembled = all_assembled given items s places bytes h out size others;
+      traps = heard;
+      are = traps ∙ ap traps_in notices ∙ traps_are places front.put.lens xs 0 0 xs front.put.more (uses_of s.notices) out.now front.put.reads out.settled;
+      told = ap (λ (n : ℕ). heard ++ drop n uses) (sym count);
+      count = count;
+    }

@@ -8,6 +8,8 @@ use Rattle.cax64_machine_code.specs.Rows.{line_of}
 use Rattle.cax64_machine_code.specs.declared.line.Line.{Line}
 use Rattle.cax64_machine_code.specs.declared.row.Row.{Row}
 use Rattle.cax64_plain.specs.Plain.{plain}
+use Rattle.cax64_plain.specs.declared.told.HqUse.{HqUse}
+use Rattle.huqmeris_c.specs.Traps.{traps_told}
 use Rattle.huqmeris_c.specs.declared.progress.HqDone.{HqDone}
 use Rattle.huqmeris_c.specs.declared.item.HqItem.{HqItem}
 use Rattle.cax64_sink.specs.declared.DeferredTarget.{DeferredTarget}
@@ -215,23 +217,27 @@ pub record UnboundAt (items : List HqItem) (number : ℕ) : Type 0 where
   pub first : (k : ℕ) (earlier : HqItem) (other : DeferredTarget) → k < number → slice_get items k ≡ Some earlier → RefersTo earlier other → IsPlaceless items other → ⊥
 
 -- nothing was put: the items can't be listed; or what one refers to has no place, or is too far; or there is too little room,
--- and it's told how many bytes there are
-abbrev pub NotAssembled : List HqItem → ℕ → HqDone → ℤ → Type 0
-NotAssembled items room done status =
+-- and it's told how many bytes and traps there are
+abbrev pub NotAssembled : List HqItem → ℕ → ℕ → HqDone → ℤ → Type 0
+NotAssembled items room places done status =
     Unlisted items done.items status
     ⊎ (((status ≡ pos 15) × UnboundAt items done.items)
     ⊎ ((status ≡ pos 9)
-    ⊎ ((status ≡ pos 6) × (room < done.bytes))))
+    ⊎ ((status ≡ pos 6) × ((room < done.bytes) ⊎ (places < done.uses)))))
 
--- The bytes of all items stand at the front, as many as told, and behind them all is as before.
-pub record AssembledTo (items : List HqItem) (code code' : List ℕ) (done : HqDone) : Type 0 where
+-- The bytes of all items stand at the front, as many as told, and so do the traps of the code; behind them all is as before.
+pub record AssembledTo (items : List HqItem) (code code' : List ℕ) (uses uses' : List HqUse) (done : HqDone) : Type 0 where
   pub added : List ℕ
   pub front : code' ≡ added ++ drop done.bytes code
   pub len : done.bytes ≡ length added
   pub number : done.items ≡ length items
   pub assembled : Assembled items added
+  pub traps : List HqUse
+  pub are : traps ≡ traps_told assembled.list 0 assembled.readings
+  pub told : uses' ≡ traps ++ drop done.uses uses
+  pub count : done.uses ≡ length traps
 
-abbrev pub AssembledAs : List HqItem → List ℕ → List ℕ → HqDone → ℤ → Type 0
-AssembledAs items code code' done status =
-    ((status ≡ pos 0) × AssembledTo items code code' done)
-    ⊎ ((code' ≡ code) × NotAssembled items (length code) done status)
+abbrev pub AssembledAs : List HqItem → List ℕ → List ℕ → List HqUse → List HqUse → HqDone → ℤ → Type 0
+AssembledAs items code code' uses uses' done status =
+    ((status ≡ pos 0) × AssembledTo items code code' uses uses' done)
+    ⊎ ((code' ≡ code) × (uses' ≡ uses) × NotAssembled items (length code) (length uses) done status)

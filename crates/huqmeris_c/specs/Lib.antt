@@ -6,6 +6,7 @@ pub mod OfReading
 pub mod InTurn
 pub mod Each
 pub mod Data
+pub mod Traps
 pub mod Items
 pub mod Text
 -- Steps of the proofs.

@@ -3,8 +3,12 @@ use Rattle.std.specs.Prelude.{◌≡◌, ◌<◌, ◌≤◌, ◌⊎◌, ◌++◌
 use Rattle.cax64_encoder.specs.declared.fault.Fault.{Fault}
 use Rattle.cax64_plain.specs.Plain.{plain}
 use Rattle.cax64_plain.specs.Status.{fault_status}
+use Rattle.cax64_plain.specs.Told.{told}
+use Rattle.cax64_plain.specs.declared.told.HqUse.{HqUse}
 use Rattle.cax64_sink.specs.Sink.{State}
 use Rattle.cax64_sink.specs.declared.DeferredTarget.{DeferredTarget}
+use Rattle.cax64_sink.specs.declared.Notice.{Notice}
+use Rattle.cax64_sink.specs.declared.Notice.TheVariants.{Trap, Target}
 use Rattle.cax64_sink.specs.declared.DeferredTarget.TheVariants as target
 use Rattle.huqmeris_c.specs.Encodes.{no_offsets}
 use Rattle.huqmeris_c.specs.Data.{AreBound, code_of, data_from, data_in, data_of}
@@ -150,6 +154,12 @@ pub record FirstBehind (given : ℕ) (front rest : List HqItem) (number : ℕ) (
   pub there : slice_get rest number ≡ Some item
   pub why : CantBePut given (front ++ take number rest) item status
   pub first : NoneBehind given front rest number
+
+-- the traps that notices tell
+abbrev pub traps_in : List Notice → List HqUse
+traps_in [] = []
+traps_in (Trap at code ∷ later) = told (Some (Trap at code)) ∷ traps_in later
+traps_in (Target at goes_to ∷ later) = traps_in later
 
 -- what is told of a list that can't be put
 abbrev pub TellsOf : LayoutError → ℕ → ℤ → Type 0

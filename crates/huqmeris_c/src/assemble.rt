@@ -12,7 +12,9 @@ use crate::item::HqItem;
 use crate::list::{Refused, list_code};
 use crate::progress::HqDone;
 use crate::status::{HQ_BAD_LABEL, HQ_BOUND_TWICE, HQ_NO_MEMORY, HQ_TOO_MANY, HQ_UNBOUND};
+use crate::traps::list_traps;
 use crate::unbound::first_open;
+use cax64_plain::HqUse;
 use cax64_plain::status::{HQ_FULL, HQ_OK, HQ_OUT_OF_RANGE, fault_status};
 use std::alloc::Global;
 use x64_assemble::{Item, Layout, LayoutError};
@@ -106,16 +108,16 @@ fn put_items(
     }
 }
 
-/// Assembles items into the front of some bytes, all of them or none: instructions, places of labels, and jumps to them; behind
+/// Assembles items into the front of some bytes, all of them or nothing: instructions, places of labels, and jumps to them; behind
 /// them data, which instructions refer to as constants or labels. The first item that is data begins it: behind that no
 /// instruction and no jump may stand.
 ///
 /// A label's number is below that of all items. Each jump has the shortest form in which all of them reach: no choice of forms
 /// has fewer bytes. A jump to a label behind data has its long form. An instruction may refer to a label too. At `HQ_OK` `done`
-/// has how many items and bytes there are, at `HQ_FULL` how many there would be; at another status `items` is the number of the
+/// has how many items, bytes and traps there are, at `HQ_FULL` how many there would be; at another status `items` is the number of the
 /// item that is refused, from 0: the first that is none, or else the first that has a fault or whose label or constant can't be
-/// bound, or else the first that refers to what has no place. What instructions tell of traps isn't told. No late offset is
-/// known.
+/// bound, or else the first that refers to what has no place. `uses` gets the traps of instructions,
+/// in their order, each at the place of the instruction. No late offset is known.
 ///
 /// It asks for memory, and has given all of it back when it answers.
 #[unsafe(no_mangle)]
@@ -123,15 +125,20 @@ pub extern "C" fn hq_assemble(
     alloc: Global,
     items: &[HqItem],
     code: &mut [u8],
+    uses: &mut [HqUse],
     done: &mut HqDone,
 ) -> i32
-    ensures { AssembledAs items.now code.old code.new done.new result }
+    ensures { AssembledAs items.now code.old code.new uses.old uses.new done.new result }
 {
     let mut buffer = CodeBuffer::new(alloc);
     *done = HqDone::NOTHING;
     if let Err(refused) = put_items(alloc, items, &mut buffer) {
         done.items = refused.number;
         return refused.status;
+    }
+    let mut traps = Vec::new(alloc);
+    if let Err(status) = list_traps(buffer.notices(), &mut traps) {
+        return status;
     }
     if buffer.finish_in_place().is_err() {
         let Some(number) = first_open(items, &buffer) else {
@@ -141,11 +148,17 @@ pub extern "C" fn hq_assemble(
         return HQ_UNBOUND;
     }
     let bytes = buffer.bytes();
+    let told = traps.as_slice();
     done.items = items.len();
     done.bytes = bytes.len();
+    done.uses = told.len();
     if code.len() < bytes.len() {
         return HQ_FULL;
     }
+    if uses.len() < told.len() {
+        return HQ_FULL;
+    }
     code[..bytes.len()].copy_from_slice(bytes);
+    uses[..told.len()].copy_from_slice(told);
     HQ_OK
 }

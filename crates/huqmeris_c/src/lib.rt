@@ -24,5 +24,6 @@ mod rename;
 mod rows;
 mod status;
 mod text;
+mod traps;
 mod unbound;
 mod version;

@@ -7,8 +7,9 @@ use Rattle.huqmeris_c.proofs.Settled.{all_put}
 use Rattle.huqmeris_c.specs.Items.{AssembledTo, Unlisted}
 use Rattle.huqmeris_c.proofs.Splits.{joined}
 use Rattle.huqmeris_c.specs.Data.{code_of, data_of}
-use Rattle.huqmeris_c.specs.Putting.{Behind, HasPlaces, OpenAt}
+use Rattle.huqmeris_c.specs.Putting.{Behind, HasPlaces, OpenAt, traps_in}
 use Rattle.huqmeris_c.specs.declared.item.HqItem.{HqItem}
+use Rattle.cax64_plain.specs.declared.told.HqUse.{HqUse}
 use Rattle.huqmeris_c.specs.declared.progress.HqDone.{HqDone}
 use Rattle.x64_code_buffer.specs.Buffer.{buffer_state, places_of}
 use Rattle.x64_code_buffer.specs.Laid.{LaidOut}
@@ -19,19 +20,20 @@ use Rattle.huqmeris_c.proofs.assemble.hq_assemble.Goals as goal
 pub returns-in-Err : goal.returns-in-Err
 returns-in-Err c =
     let small : FitsSigned w32 c.in-Err.refused.status = search rules in
-    inr (refl, inl (subst (λ (z : ℤ). Unlisted c.args.items.now c.in-Err.refused.number z) (sym (to_z-of_z w32 c.in-Err.refused.status small)) c.in-Err.ensures.refused))
+    inr (refl, refl, inl (subst (λ (z : ℤ). Unlisted c.args.items.now c.in-Err.refused.number z) (sym (to_z-of_z w32 c.in-Err.refused.status small)) c.in-Err.ensures.refused))
 
 pub returns-then-is_err : goal.returns-then-is_err
 returns-then-is_err c =
     let same : places_of c.finish_in_place.new.self ≡ places_of c.put_items.new.buffer = λ i goes_to. c.finish_in_place.ensures.places goes_to i in
     let found : OpenAt (places_of c.put_items.new.buffer) c.args.items.now c.in-Some.number = subst (λ (p : DeferredTarget → Option ℕ). OpenAt p c.args.items.now c.in-Some.number) same c.in-Some.ensures in
     let are : HasPlaces (places_of c.put_items.new.buffer) c.args.items.now = subst (λ (l : List HqItem). HasPlaces (places_of c.put_items.new.buffer) l) (joined c.args.items.now) c.in_default.ensures.put.are in
-    inr (refl, inr (inl (refl, unbound_at c.args.items.now (places_of c.put_items.new.buffer) c.in-Some.number are found)))
+    inr (refl, refl, inr (inl (refl, unbound_at c.args.items.now (places_of c.put_items.new.buffer) c.in-Some.number are found)))
 
 pub returns : goal.returns
 returns c =
     let bytes : List ℕ = c.bytes-bytes.result.now in
-    let done : HqDone = record { items = length c.args.items.now; bytes = length bytes; uses = 0 } in
+    let heard : List HqUse = c.as_slice-told.result.now in
+    let done : HqDone = record { items = length c.args.items.now; bytes = length bytes; uses = length heard } in
     let s : State = buffer_state c.put_items.new.buffer in
     let places : DeferredTarget → Option ℕ = places_of c.put_items.new.buffer in
     let h : Behind (length c.args.items.now) (code_of c.args.items.now) (data_of c.args.items.now) s places = c.in_default.ensures.put in
@@ -41,5 +43,6 @@ returns c =
     let here : LaidOut h.items.put.more (length h.before.bytes) s places bytes = subst (λ (l : List ℕ). LaidOut h.items.put.more (length h.before.bytes) s places l) (sym c.bytes-bytes.ensures) out in
     let size : length bytes ≡ length s.bytes = ap (λ (l : List ℕ). length l) c.bytes-bytes.ensures ∙ c.finish_in_place.ensures.length in
     let others : (i : ℕ) → All (IsOutside i) (links (uses_of s.notices)) → get_or bytes i 0 ≡ get_or s.bytes i 0 = λ i outside. ap (λ (l : List ℕ). get_or l i 0) c.bytes-bytes.ensures ∙ finished c.finish_in_place.result well (c.finish_in_place.ensures.others i outside) in
-    let put : AssembledTo c.args.items.now c.args.code.now (bytes ++ drop (length bytes) c.args.code.now) done = all_put (length c.args.items.now) c.args.items.now c.args.code.now done s places bytes h here size others refl refl in
-    inl (refl, subst (λ (l : List ℕ). AssembledTo c.args.items.now c.args.code.now (l ++ drop (length bytes) c.args.code.now) done) (sym c.copy_from_slice.ensures.after) put)
+    let put : AssembledTo c.args.items.now c.args.code.now (bytes ++ drop (length bytes) c.args.code.now) c.args.uses.now (heard ++ drop (length heard) c.args.uses.now) done = all_put (length c.args.items.now) c.args.items.now c.args.code.now c.args.uses.now heard done s places bytes h here size others (c.as_slice-told.ensures.value ∙ c.in_default-list_traps.ensures.listed ∙ ap traps_in c.notices.ensures) refl refl refl in
+    let codes = subst (λ (l : List ℕ). AssembledTo c.args.items.now c.args.code.now (l ++ drop (length bytes) c.args.code.now) c.args.uses.now (heard ++ drop (length heard) c.args.uses.now) done) (sym c.copy_from_slice.ensures.after) put in
+    inl (refl, subst (λ (l : List HqUse). AssembledTo c.args.items.now c.args.code.now (c.copy_from_slice.new.self ++ drop (length bytes) c.args.code.now) c.args.uses.now (l ++ drop (length heard) c.args.uses.now) done) (sym c.copy_from_slice-2.ensures.after) codes)
