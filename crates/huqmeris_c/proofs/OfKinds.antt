@@ -1,11 +1,10 @@
-use Rattle.std.proofs.Common.{◌≡◌, ◌∙◌, ◌-◌, ◌<◌, ◌≤◌, ℕ, refl, sym, ap, arith, Bool, false, Option, Some, None, length}
+use Rattle.std.proofs.Common.{◌≡◌, ◌∙◌, ◌-◌, ◌<◌, ◌≤◌, ℕ, refl, sym, ap, arith, Bool, false, Option, Some, None, length, slice_get}
 use Rattle.std.proofs.lemmas.Bool.Decides.{nat_tests}
-use Rattle.std.proofs.lemmas.List.{get_or_default}
+use Rattle.std.proofs.lemmas.Option.{slice_get-get_or}
 use Rattle.std.specs.Prelude.{if◌then◌else◌, nat_lt, slice_index_or}
-use Rattle.huqmeris_c.specs.Items.{jump_named}
+use Rattle.huqmeris_c.specs.Items.{jump_named, jumps}
 use Rattle.huqmeris_c.specs.declared.jump.TheConstants.{JUMPS}
 use Rattle.x64_code_buffer.specs.declared.jump.Jump.{Jump}
-use Rattle.x64_code_buffer.specs.declared.jump.Jump.TheVariants.{Always}
 
 -- The jump of a kind of items is the one in its place.
 
@@ -15,6 +14,6 @@ jump_there kind d low high =
     let within : kind - 2 < length JUMPS = omega (arith, count, low, high) in
     let a : nat_lt kind 2 ≡ false = grind (arith, nat_tests, low) in
     let b : nat_lt 19 kind ≡ false = grind (arith, nat_tests, high) in
-    ap (λ (j : Jump). Some j) (get_or_default JUMPS (kind - 2) d Always within)
-    ∙ sym (ap (λ (t : Bool). if t then None else Some (slice_index_or JUMPS (kind - 2) Always)) b)
-    ∙ sym (ap (λ (t : Bool). if t then None else (if nat_lt 19 kind then None else Some (slice_index_or JUMPS (kind - 2) Always))) a)
+    sym (slice_get-get_or JUMPS (kind - 2) d within)
+    ∙ sym (ap (λ (t : Bool). if t then None else slice_get jumps (kind - 2)) b)
+    ∙ sym (ap (λ (t : Bool). if t then None else (if nat_lt 19 kind then None else slice_get jumps (kind - 2))) a)

@@ -1,4 +1,4 @@
-use Rattle.std.specs.Prelude.{◌≡◌, ◌==◌, ◌||◌, ◌≤◌, ◌<◌, ◌+◌, ◌-◌, ◌++◌, ◌⊎◌, Bool, true, false, ℕ, ℤ, pos, ◌-ℤ◌, nat_lt, if◌then◌else◌, Option, Some, None, List, [], ◌∷◌, drop, take, length, slice_get, slice_index_or}
+use Rattle.std.specs.Prelude.{◌≡◌, ◌==◌, ◌||◌, ◌≤◌, ◌<◌, ◌+◌, ◌-◌, ◌++◌, ◌⊎◌, Bool, true, false, ℕ, ℤ, pos, ◌-ℤ◌, nat_lt, if◌then◌else◌, Option, Some, None, List, [], ◌∷◌, drop, take, length, slice_get}
 use Rattle.cax64_address.specs.declared.amode.Amode.{Amode}
 use Rattle.cax64_address.specs.declared.amode.Amode.TheVariants.{ImmReg, ImmRegRegShift, RipRelative}
 use Rattle.cax64_encoder.specs.Place.{memory_in}
@@ -17,12 +17,12 @@ use Rattle.cax64_sink.specs.declared.DeferredTarget.TheVariants as target
 use Rattle.huqmeris_c.specs.Data.{AreBound, code_of, data_from, data_of, is_data}
 use Rattle.huqmeris_c.specs.Each.{HasFault}
 use Rattle.huqmeris_c.specs.Encodes.{no_offsets}
-use Rattle.huqmeris_c.specs.declared.jump.TheConstants.{JUMPS}
 use Rattle.x64_code_buffer.specs.Filled.{HasAddress}
 use Rattle.x64_code_buffer.specs.Jump.{jump_parts, long_row, short_row}
 use Rattle.x64_code_buffer.specs.Laid.{LinesRead, parts_in}
 use Rattle.x64_code_buffer.specs.declared.jump.Jump.{Jump}
-use Rattle.x64_code_buffer.specs.declared.jump.Jump.TheVariants.{Always}
+use Rattle.x64_code_buffer.specs.declared.jump.Condition.TheVariants as on
+use Rattle.x64_code_buffer.specs.declared.jump.Jump.TheVariants as jump
 use Rattle.x64_core.specs.Core.{core_len, core_meant}
 use Rattle.x64_core.specs.View.{core_view}
 use Rattle.x64_core.specs.declared.instruction.Core.{Core}
@@ -34,9 +34,17 @@ use Rattle.x64_layout.specs.declared.span.Span.{Span}
 
 -- What items of code become.
 
+-- the jumps in the order of their kinds, from 2 to 19
+abbrev pub jumps : List Jump
+jumps =
+    jump.Always ∷ jump.Call
+    ∷ jump.If on.O ∷ jump.If on.No ∷ jump.If on.B ∷ jump.If on.Ae ∷ jump.If on.E ∷ jump.If on.Ne ∷ jump.If on.Be ∷ jump.If on.A
+    ∷ jump.If on.S ∷ jump.If on.Ns ∷ jump.If on.P ∷ jump.If on.Np ∷ jump.If on.L ∷ jump.If on.Ge ∷ jump.If on.Le ∷ jump.If on.G
+    ∷ []
+
 -- the jump of a kind of items
 abbrev pub jump_named : ℕ → Option Jump
-jump_named kind = if nat_lt kind 2 then None else (if nat_lt 19 kind then None else Some (slice_index_or JUMPS (kind - 2) Always))
+jump_named kind = if nat_lt kind 2 then None else (if nat_lt 19 kind then None else slice_get jumps (kind - 2))
 
 -- what a memory operand refers to that is relative to the end of its instruction
 abbrev pub target_in : Option (Amode ℕ) → Option DeferredTarget
