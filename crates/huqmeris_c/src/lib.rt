@@ -17,6 +17,7 @@ mod list;
 #[cfg(test)]
 mod list_rows;
 mod make;
+mod operands;
 mod patch;
 mod progress;
 mod rename;

@@ -4,6 +4,7 @@ use crate::convert::hq_inst_of_reading;
 use crate::decode::hq_decode;
 use crate::encode::{hq_check, hq_encode, hq_length};
 use crate::make::{HQ_NO_IMM, HQ_NO_REG, hq_make};
+use crate::operands::hq_operands;
 use crate::rename::hq_rename;
 use cax64_plain::laws::integers_tell_instructions;
 use cax64_plain::place::{HQ_PLACE_INDEX, HQ_PLACE_LABEL, HQ_PLACE_REGISTER};
@@ -136,6 +137,54 @@ fn memory_tells_what_it_has(rt: HostRuntime) {
         (len, told.at, told.kind, told.number),
         (7, 3, HQ_TOLD_LABEL, 9)
     );
+}
+
+/// The operands of an addition and of memory come back as they were given; those of no instruction don't.
+#[test]
+fn operands_come_back(rt: HostRuntime) {
+    let (mut reg, mut vvvv, mut place, mut imm) = (0, 0, NO_PLACE, 0);
+    let addition = HqInst::of(&ADDQ_MI_SXB.reg(40, -1));
+    assert_eq!(rt;
+        hq_operands(&addition, &mut reg, &mut vvvv, &mut place, &mut imm),
+        HQ_OK
+    );
+    assert_eq!(rt; (reg, vvvv, imm), (HQ_NO_REG, HQ_NO_REG, -1));
+    assert!(rt; place == register(40));
+    let indexed = HqPlace {
+        place: HQ_PLACE_INDEX,
+        base: 3,
+        index: 1,
+        scale: 3,
+        disp: -5,
+        ..NO_PLACE
+    };
+    let mut load = NO_INST;
+    assert_eq!(rt;
+        hq_make(
+            MOVQ_RM.op().number(),
+            255,
+            HQ_NO_REG,
+            &indexed,
+            HQ_NO_IMM,
+            &mut load
+        ),
+        HQ_OK
+    );
+    assert_eq!(rt;
+        hq_operands(&load, &mut reg, &mut vvvv, &mut place, &mut imm),
+        HQ_OK
+    );
+    assert_eq!(rt; (reg, vvvv, imm), (255, HQ_NO_REG, HQ_NO_IMM));
+    assert!(rt; place == indexed);
+    let bad = HqInst {
+        reserved: 1,
+        ..load
+    };
+    assert_eq!(rt;
+        hq_operands(&bad, &mut reg, &mut vvvv, &mut place, &mut imm),
+        HQ_BAD_INST
+    );
+    assert_eq!(rt; reg, 255);
 }
 
 /// What isn't an instruction, a line or room is refused, and nothing is written.
