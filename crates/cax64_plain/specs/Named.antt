@@ -1,9 +1,10 @@
-use Rattle.std.specs.Prelude.{ℕ, ◌==◌, ◌||◌, ◌&&◌, nat_lt, Bool, true, false, if◌then◌else◌, Option, Some, None}
+use Rattle.std.specs.Prelude.{ℕ, ◌==◌, ◌||◌, ◌&&◌, nat_le, nat_lt, Bool, true, false, if◌then◌else◌, Option, Some, None}
 use Rattle.cax64_place.specs.Kind.{has_base, has_index}
 use Rattle.cax64_place.specs.Place.{is_zero}
 use Rattle.cax64_place.specs.declared.place.PlaceKind.{PlaceKind}
 use Rattle.cax64_place.specs.declared.place.PlaceKind.TheVariants.{Absent, Register, Base, BaseAndIndex, Label, Constant, NoTarget}
 use Rattle.cax64_plain.specs.declared.place.HqPlace.{HqPlace}
+use Rattle.cax64_plain.specs.declared.place.Most.{Most}
 
 -- the late offset of a key, where there is one
 abbrev pub offset_named : ℕ → ℕ → Option ℕ
@@ -47,6 +48,10 @@ has_target BaseAndIndex = false
 has_target Label = true
 has_target Constant = true
 has_target NoTarget = false
+
+-- each number is at most the one of these, and an offset has a key only where it stands
+abbrev pub is_within : Most → HqPlace → Bool
+is_within most s = (((((((nat_le s.base most.base && nat_le s.index most.index) && nat_le s.scale most.scale) && nat_le s.trap most.trap) && nat_le s.has_offset most.has_offset) && ((s.has_offset == 1) || (s.offset == 0))) && (most.has_displacement || is_zero s.disp)) && (most.has_target || (s.target == 0))) && (s.reserved == 0)
 
 -- what a place of a kind lacks is 0, and the rest is in its range
 abbrev pub is_whole : PlaceKind → HqPlace → Bool

@@ -2,7 +2,7 @@
 
 ghost use Rattle.std.specs.Prelude.{◌≡◌, ◌≢◌, ◌≤◌, IfNone, IfSome};
 ghost use Rattle.cax64_place.specs.Tail.{kind_number};
-ghost use Rattle.cax64_plain.specs.Named.{index_beside, is_whole, offset_named};
+ghost use Rattle.cax64_plain.specs.Named.{index_beside, is_whole, is_within, offset_named};
 ghost use Rattle.cax64_plain.specs.Plain.{plain_place, target_place, trap_number};
 ghost use Rattle.x64_core.specs.View.{place_operand};
 ghost use Rattle.x64_core.specs.Viewed.{viewed};
@@ -64,6 +64,59 @@ pub struct HqPlace {
     /// The number of the label or of the constant.
     pub target: u32,
 }
+
+/// The largest numbers that stand in a place of some kind: 0 of what it lacks.
+struct Most {
+    base: u8,
+    index: u8,
+    scale: u8,
+    trap: u8,
+    has_offset: u8,
+    has_displacement: bool,
+    has_target: bool,
+}
+
+const NOTHING: Most = Most {
+    base: 0,
+    index: 0,
+    scale: 0,
+    trap: 0,
+    has_offset: 0,
+    has_displacement: false,
+    has_target: false,
+};
+
+const TARGET: Most = Most {
+    has_target: true,
+    ..NOTHING
+};
+
+/// By the number of the kind.
+static MOST: [Most; 7] = [
+    NOTHING,
+    Most {
+        base: 255,
+        ..NOTHING
+    },
+    Most {
+        base: 255,
+        trap: 255,
+        has_offset: 1,
+        has_displacement: true,
+        ..NOTHING
+    },
+    Most {
+        base: 255,
+        index: 255,
+        scale: 3,
+        trap: 255,
+        has_displacement: true,
+        ..NOTHING
+    },
+    TARGET,
+    TARGET,
+    NOTHING,
+];
 
 /// The number of a trap code, 0 for none.
 fn trap_number(trap: Option<TrapCode>) -> u8
@@ -198,28 +251,30 @@ impl HqPlace {
         }
     }
 
-    /// Whether what a place of this kind lacks is 0, and the rest is in its range. Nothing is tested one after the other, since a
-    /// branch on what a place is is often guessed wrong.
+    /// Whether each number is at most the one of these, and an offset has a key only where it stands.
+    #[inline(always)]
+    fn is_within(&self, most: &Most) -> bool
+        ensures { result ≡ is_within most.now self.now }
+    {
+        (self.base <= most.base)
+            & (self.index <= most.index)
+            & (self.scale <= most.scale)
+            & (self.trap <= most.trap)
+            & (self.has_offset <= most.has_offset)
+            & ((self.has_offset == 1) | (self.offset == 0))
+            & (most.has_displacement | (self.disp == 0))
+            & (most.has_target | (self.target == 0))
+            & (self.reserved == 0)
+    }
+
+    /// Whether what a place of this kind, which is its own, lacks is 0, and the rest is in its range. Nothing is tested one after
+    /// the other, since a branch on what a place is is often guessed wrong.
     #[inline(always)]
     fn is_whole(&self, kind: PlaceKind) -> bool
+        requires { kind_number kind ≡ self.now.place }
         ensures { result ≡ is_whole kind self.now }
     {
-        let has_displacement = matches!(kind, PlaceKind::Base | PlaceKind::BaseAndIndex);
-        let has_index = matches!(kind, PlaceKind::BaseAndIndex);
-        let has_offset = matches!(kind, PlaceKind::Base);
-        let has_base = has_displacement | matches!(kind, PlaceKind::Register);
-        let has_target = matches!(kind, PlaceKind::Label | PlaceKind::Constant);
-        (has_base | (self.base == 0))
-            & (has_index | (self.index == 0))
-            & (has_index | (self.scale == 0))
-            & (self.scale < 4)
-            & (has_displacement | (self.trap == 0))
-            & (has_offset | (self.has_offset == 0))
-            & (self.has_offset < 2)
-            & ((self.has_offset == 1) | (self.offset == 0))
-            & (has_displacement | (self.disp == 0))
-            & (has_target | (self.target == 0))
-            & (self.reserved == 0)
+        self.is_within(&MOST[usize::from(self.place)])
     }
 
     /// The numbers of the place that these integers are. `None` where they are those of none: where `place` is above 6, the scale

@@ -24,7 +24,7 @@ pub const HQ_TOLD_PLACE: u32 = 4;
 #[repr(C)]
 #[derive(Clone, Copy, Debug, PartialEq)]
 pub struct HqUse {
-    /// How many bytes of the instruction stand before it: before a target its four bytes follow.
+    /// How many bytes of the instruction, or of a list's code, stand before it: before a target its four bytes follow.
     pub at: u32,
     /// What is told: `HQ_TOLD_NOTHING` and the like.
     pub kind: u32,
