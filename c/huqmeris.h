@@ -14,7 +14,7 @@ extern "C" {
 #endif
 
 /* The version of this interface. */
-#define HQ_VERSION 1u
+#define HQ_VERSION 2u
 /* The call did what it says. */
 #define HQ_OK 0
 /* The integers are no instruction of the core. */
@@ -938,20 +938,20 @@ _Static_assert(offsetof(hq_item, inst) == 8, "hq_item.inst");
 #endif
 
 /*
- * Assembles items into the front of some bytes, all of them or none: instructions, places of labels, and jumps to them; behind
+ * Assembles items into the front of some bytes, all of them or nothing: instructions, places of labels, and jumps to them; behind
  * them data, which instructions refer to as constants or labels. The first item that is data begins it: behind that no
  * instruction and no jump may stand.
  *
  * A label's number is below that of all items. Each jump has the shortest form in which all of them reach: no choice of forms
  * has fewer bytes. A jump to a label behind data has its long form. An instruction may refer to a label too. At `HQ_OK` `done`
- * has how many items and bytes there are, at `HQ_FULL` how many there would be; at another status `items` is the number of the
+ * has how many items, bytes and traps there are, at `HQ_FULL` how many there would be; at another status `items` is the number of the
  * item that is refused, from 0: the first that is none, or else the first that has a fault or whose label or constant can't be
- * bound, or else the first that refers to what has no place. What instructions tell of traps isn't told. No late offset is
- * known.
+ * bound, or else the first that refers to what has no place. `uses` gets the traps of instructions,
+ * in their order, each at the place of the instruction. No late offset is known.
  *
  * It asks for memory, and has given all of it back when it answers.
  */
-int32_t hq_assemble(const hq_item *items, size_t items_len, uint8_t *HQ_RESTRICT code, size_t code_len, hq_done *HQ_RESTRICT done);
+int32_t hq_assemble(const hq_item *items, size_t items_len, uint8_t *HQ_RESTRICT code, size_t code_len, hq_use *HQ_RESTRICT uses, size_t uses_len, hq_done *HQ_RESTRICT done);
 
 /*
  * Why an instruction can't be encoded by `hq_encode`, which knows no late offsets: the first register that isn't below 16, or

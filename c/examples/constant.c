@@ -35,7 +35,7 @@ int main(void)
         || hq_make(HQ_LINE_RETQ_ZO, HQ_NO_REG, HQ_NO_REG, &nothing, HQ_NO_IMM, &ret) != HQ_OK)
         return 1;
     hq_item items[] = {hq_item_of(&multiply), hq_item_of(&ret), hq_item_at(HQ_ITEM_ALIGN, 3), hq_item_at(HQ_ITEM_CONSTANT, HALF), hq_item_bytes(&half, sizeof half)};
-    if (hq_assemble(items, sizeof items / sizeof *items, code, sizeof code, &done) != HQ_OK)
+    if (hq_assemble(items, sizeof items / sizeof *items, code, sizeof code, NULL, 0, &done) != HQ_OK)
         return 1;
     for (size_t i = 0; i < done.bytes; i++)
         printf("%02x%c", code[i], i + 1 < done.bytes ? ' ' : '\n');

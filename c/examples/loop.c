@@ -80,7 +80,7 @@ int main(void)
         && put(HQ_LINE_ADDQ_MI_SXB, HQ_NO_REG, hq_reg(RCX), 1)
         && put_label(HQ_ITEM_LABEL, TEST) && put(HQ_LINE_CMPQ_RM, RCX, hq_reg(RSI), HQ_NO_IMM) && put_label(HQ_ITEM_JB, AGAIN)
         && put(HQ_LINE_RETQ_ZO, HQ_NO_REG, hq_nothing(), HQ_NO_IMM);
-    int32_t status = all ? hq_assemble(items, count, code, sizeof code, &done) : HQ_BAD_INST;
+    int32_t status = all ? hq_assemble(items, count, code, sizeof code, NULL, 0, &done) : HQ_BAD_INST;
     if (status != HQ_OK) {
         printf("item %zu is refused: status %" PRId32 "\n", done.items, hq_code(status));
         return 1;

@@ -68,16 +68,39 @@ static int add_constants(hq_item *items, size_t *count)
     return 1;
 }
 
-/* A list that lets all that grows grow: many labels, many bytes, many constants. Answers how many growths it was refused in. */
-static size_t assembles(int *is_wanted)
+static int is_filled(const void *what, size_t n)
+{
+    for (size_t i = 0; i < n; i++)
+        if (((const uint8_t *)what)[i] != 0xA5)
+            return 0;
+    return 1;
+}
+
+/* Each addition's trap is told where it begins; without a code none is. */
+static int are_told(uint8_t trap, const hq_use *uses, const uint8_t *code)
+{
+    static const uint8_t front[] = {0x48, 0x03, 0x88};
+    for (size_t i = 0; trap && i < LABELS; i++) {
+        if (uses[i].kind != HQ_TOLD_TRAP || uses[i].number != trap || uses[i].at > ROOM - sizeof front || (i && uses[i].at <= uses[i - 1].at))
+            return 0;
+        if (memcmp(code + uses[i].at, front, sizeof front))
+            return 0;
+    }
+    return trap || is_filled(uses, LABELS * sizeof *uses);
+}
+
+/* A list that lets all that grows grow: many labels, many bytes, many constants, and where there is a code many traps. Answers how
+ * many growths it was refused in. */
+static size_t assembles(uint8_t trap, int *is_wanted)
 {
     static hq_item items[MOST];
+    static hq_use uses[LABELS];
     static uint8_t code[ROOM];
     hq_place place = hq_mem(0, 1 << 20);
     hq_inst inst;
     hq_done done;
     size_t refusals = 0, count = 0;
-    place.trap = 1;
+    place.trap = trap;
     *is_wanted = hq_make(HQ_LINE_ADDQ_RM, 1, HQ_NO_REG, &place, HQ_NO_IMM, &inst) == HQ_OK;
     for (uint32_t label = 0; label < LABELS; label++) {
         items[count++] = hq_item_at(HQ_ITEM_LABEL, label);
@@ -85,23 +108,21 @@ static size_t assembles(int *is_wanted)
         items[count++] = hq_item_at(HQ_ITEM_JE, LABELS - 1 - label);
     }
     *is_wanted &= add_constants(items, &count);
-    for (refused_at = 1;; refused_at++) {
+    for (refused_at = 1; *is_wanted; refused_at++) {
         asked = 0;
         memset(code, 0xA5, sizeof code);
-        int32_t status = hq_assemble(items, count, code, sizeof code, &done);
-        *is_wanted &= held == 0;
+        memset(uses, 0xA5, sizeof uses);
+        int32_t status = hq_assemble(items, count, code, sizeof code, uses, LABELS, &done);
+        int is_put = status == HQ_OK && done.items == count && done.uses == (trap ? LABELS : 0) && are_told(trap, uses, code);
+        int is_refused = status == HQ_NO_MEMORY && is_filled(code, sizeof code) && is_filled(uses, sizeof uses);
+        *is_wanted = held == 0 && refused_at < 1000 && (is_put || (is_refused && asked >= refused_at));
         if (asked < refused_at)
             break;
-        if (status == HQ_OK) /* it did with less */
-            continue;
-        refusals++;
-        for (size_t i = 0; i < sizeof code; i++)
-            *is_wanted &= code[i] == 0xA5;
-        *is_wanted &= status == HQ_NO_MEMORY && refused_at < 1000;
-        if (!*is_wanted)
-            return 0;
+        refusals += is_refused; /* else it did with less */
     }
-    *is_wanted &= done.items == count && asked >= refusals;
+    refused_at = 0;
+    if (trap) /* there is one place too few */
+        *is_wanted &= hq_assemble(items, count, code, sizeof code, uses, LABELS - 1, &done) == HQ_FULL && held == 0;
     return refusals;
 }
 
@@ -121,9 +142,7 @@ static size_t formats(int *is_wanted)
         if (asked < refused_at)
             break;
         refusals++;
-        for (size_t i = 0; i < sizeof text; i++)
-            *is_wanted &= text[i] == 0xA5;
-        *is_wanted &= status == HQ_NO_MEMORY && len == 77 && refused_at < 1000;
+        *is_wanted &= status == HQ_NO_MEMORY && len == 77 && is_filled(text, sizeof text) && refused_at < 1000;
         if (!*is_wanted)
             return 0;
     }
@@ -133,8 +152,8 @@ static size_t formats(int *is_wanted)
 
 int main(void)
 {
-    int lists = 0, texts = 0;
-    size_t of_lists = assembles(&lists), of_texts = formats(&texts);
-    printf("heap of the program's own: %zu growths of a list refused, %zu of a text\n", of_lists, of_texts);
-    return !(lists && texts && of_lists && of_texts);
+    int lists = 0, traps = 0, texts = 0;
+    size_t of_lists = assembles(0, &lists), of_traps = assembles(1, &traps), of_texts = formats(&texts);
+    printf("heap of the program's own: %zu growths of a list refused, %zu of one with traps, %zu of a text\n", of_lists, of_traps, of_texts);
+    return !(lists && traps && texts && of_lists && of_traps > of_lists && of_texts);
 }

@@ -1,6 +1,7 @@
 /* Runs lists through the library: all cases of crates/core_vectors/data/core.tsv, whose path is the argument, in one call of
  * hq_encode_all and in one of hq_assemble, each into a slice at the end of a page behind which no page is, and compares with the wanted
- * bytes; each instruction's text with the wanted one; and lists with labels, jumps and data. The status is 0 where all is as wanted. */
+ * bytes; each instruction's text with the wanted one; and lists with labels, jumps, data and traps. The status is 0 where all is as
+ * wanted. */
 #define _GNU_SOURCE
 #include "huqmeris_names.h"
 #include <stdio.h>
@@ -12,12 +13,17 @@
 enum { ROOM = 1 << 18, MOST = 9000 };
 
 static uint8_t *guard; /* the first byte that can't be touched */
+static hq_use *uses_guard; /* and the first use */
 static hq_inst insts[MOST];
 static hq_item items[MOST];
 static uint8_t want[ROOM];
+static size_t starts[MOST]; /* where each case begins in it */
 static size_t count, size;
 
 static uint8_t *before(size_t n) { return memset(guard - n, 0xA5, n); }
+
+/* So many places right before what can't be touched; null where it's none. */
+static hq_use *uses_before(size_t n) { return n ? memset(uses_guard - n, 0xA5, n * sizeof(hq_use)) : NULL; }
 
 static int is_filled(const uint8_t *p, size_t n)
 {
@@ -26,6 +32,8 @@ static int is_filled(const uint8_t *p, size_t n)
             return 0;
     return 1;
 }
+
+static int are_filled(const hq_use *uses, size_t n) { return is_filled((const uint8_t *)uses, n * sizeof *uses); }
 
 static int refused(const char *what)
 {
@@ -91,6 +99,7 @@ static int read_cases(FILE *file)
             return refused("an instruction can't be made");
         if (strcmp(hq_line_name(insts[count].line), column[1]) != 0)
             return refused("a line has another name");
+        starts[count] = size;
         for (const char *hex = column[5]; sscanf(hex, "%2x", &byte) == 1; hex += 2)
             want[size++] = (uint8_t)byte;
         if (!is_text(&insts[count], column[6])) {
@@ -129,17 +138,51 @@ static int are_assembled(void)
 {
     hq_done done = {7, 7, 7};
     uint8_t *code = before(size);
-    if (hq_assemble(items, count, code, size, &done) != HQ_OK || done.items != count || done.bytes != size || memcmp(code, want, size))
+    if (hq_assemble(items, count, code, size, NULL, 0, &done) != HQ_OK || done.items != count || done.bytes != size || done.uses != 0 || memcmp(code, want, size))
         return refused("items aren't assembled");
     code = before(size - 1);
-    if (hq_assemble(items, count, code, size - 1, &done) != HQ_FULL || done.bytes != size || !is_filled(code, size - 1))
+    if (hq_assemble(items, count, code, size - 1, NULL, 0, &done) != HQ_FULL || done.bytes != size || !is_filled(code, size - 1))
         return refused("a slice too short for items isn't refused");
     items[count / 2].inst.reserved = 1;
     code = before(size);
-    if (hq_assemble(items, count, code, size, &done) != HQ_BAD_INST || done.items != count / 2 || !is_filled(code, size))
+    if (hq_assemble(items, count, code, size, NULL, 0, &done) != HQ_BAD_INST || done.items != count / 2 || !is_filled(code, size))
         return refused("items with a bad instruction are assembled");
     items[count / 2].inst.reserved = 0;
-    return hq_assemble(NULL, 0, NULL, 0, &done) == HQ_OK && done.items == 0 && done.bytes == 0;
+    return hq_assemble(NULL, 0, NULL, 0, NULL, 0, &done) == HQ_OK && done.items == 0 && done.bytes == 0 && done.uses == 0;
+}
+
+static int has_memory(const hq_item *item)
+{
+    return item->kind == HQ_ITEM_INST && (item->inst.place == HQ_PLACE_BASE || item->inst.place == HQ_PLACE_INDEX);
+}
+
+/* All memory operands of the cases have a trap: each is told where its case begins, and the bytes are the same. */
+static int are_all_told(void)
+{
+    hq_done done = {7, 7, 7};
+    size_t told = 0, at = 0;
+    for (size_t i = 0; i < count; i++)
+        if (has_memory(&items[i]))
+            items[i].inst.trap = (uint8_t)(told++ % 255 + 1);
+    if (told == 0)
+        return refused("no case has memory");
+    uint8_t *code = before(size);
+    hq_use *uses = uses_before(told - 1);
+    if (hq_assemble(items, count, code, size, uses, told - 1, &done) != HQ_FULL || done.items != count || done.bytes != size || done.uses != told)
+        return refused("too few places for traps aren't refused");
+    if (!is_filled(code, size) || !are_filled(uses, told - 1))
+        return refused("a refused list tells traps");
+    uses = uses_before(told);
+    if (hq_assemble(items, count, code, size, uses, told, &done) != HQ_OK || done.bytes != size || done.uses != told || memcmp(code, want, size))
+        return refused("items with traps aren't assembled");
+    for (size_t i = 0; i < count; i++)
+        if (has_memory(&items[i])) {
+            if (uses[at].at != starts[i] || uses[at].kind != HQ_TOLD_TRAP || uses[at].number != items[i].inst.trap)
+                return refused("a trap of a case isn't told");
+            items[i].inst.trap = 0;
+            at++;
+        }
+    return at == told;
 }
 
 static hq_inst made(uint16_t line, uint16_t reg, hq_place place, int64_t imm)
@@ -173,7 +216,8 @@ static int is_refused(const hq_item *list, size_t n, int32_t status, size_t numb
 {
     hq_done done;
     uint8_t *code = before(64);
-    return hq_assemble(list, n, code, 64, &done) == status && done.items == number && is_filled(code, 64);
+    hq_use *uses = uses_before(4);
+    return hq_assemble(list, n, code, 64, uses, 4, &done) == status && done.items == number && is_filled(code, 64) && are_filled(uses, 4);
 }
 
 /* Jumps to labels before and behind them, each condition, a call, an instruction that refers to a label, and what is refused. */
@@ -187,13 +231,13 @@ static int are_linked(void)
     static const uint8_t bytes[] = {0x48, 0x8d, 0x05, 0x09, 0, 0, 0, 0xeb, 0xf7, 0xeb, 0x05, 0xe8, 0xf0, 0xff, 0xff, 0xff, 0xc3};
     hq_done done;
     uint8_t *code = before(sizeof bytes);
-    if (hq_assemble(list, 7, code, sizeof bytes, &done) != HQ_OK || done.bytes != sizeof bytes || done.items != 7 || memcmp(code, bytes, sizeof bytes))
+    if (hq_assemble(list, 7, code, sizeof bytes, NULL, 0, &done) != HQ_OK || done.bytes != sizeof bytes || done.items != 7 || memcmp(code, bytes, sizeof bytes))
         return refused("jumps are others");
     for (uint32_t condition = 0; condition < 16; condition++) {
         hq_item both[] = {hq_item_at(HQ_ITEM_JO + condition, 1), hq_item_at(HQ_ITEM_LABEL, 1), hq_item_at(HQ_ITEM_JO + condition, 1)};
         uint8_t wanted[] = {(uint8_t)(0x70 + condition), 0, (uint8_t)(0x70 + condition), 0xfe};
         code = before(sizeof wanted);
-        if (hq_assemble(both, 3, code, sizeof wanted, &done) != HQ_OK || memcmp(code, wanted, sizeof wanted))
+        if (hq_assemble(both, 3, code, sizeof wanted, NULL, 0, &done) != HQ_OK || memcmp(code, wanted, sizeof wanted))
             return refused("a condition is another");
     }
     hq_item bad[] = {hq_item_at(HQ_ITEM_ALIGN + 1, 0)}, none[] = {hq_item_at(HQ_ITEM_JMP, 0), hq_item_of(&ret)},
@@ -225,7 +269,7 @@ static int are_least(void)
         list[n++] = hq_item_at(HQ_ITEM_LABEL, 2);
         size_t second = MIDDLE + rest <= 127 ? 2 : 5, first = MIDDLE + second <= 127 ? 2 : 5;
         uint8_t *code = before(ROOM);
-        if (hq_assemble(list, n, code, ROOM, &done) != HQ_OK || done.bytes != first + second + MIDDLE + rest || done.items != n)
+        if (hq_assemble(list, n, code, ROOM, NULL, 0, &done) != HQ_OK || done.bytes != first + second + MIDDLE + rest || done.items != n)
             return refused("a layout isn't the least");
         if (code[0] != (first == 2 ? 0xeb : 0xe9) || code[1] != MIDDLE + second || code[first] != (second == 2 ? 0xeb : 0xe9) || code[first + 1] != MIDDLE + rest)
             return refused("a jump of a layout is another");
@@ -233,19 +277,96 @@ static int are_least(void)
     return 1;
 }
 
-/* A list becomes these bytes, and those behind them stay; in a slice that is too short nothing is put. */
-static int is_put(const hq_item *list, size_t n, const uint8_t *wanted, size_t len)
+/* A list becomes these bytes and tells these traps, where there is so much room; where there is too little of one, neither is written. */
+static int is_put_in(size_t room, size_t places, const hq_item *list, size_t n, const uint8_t *wanted, size_t len, const hq_use *traps, size_t told)
 {
     hq_done done;
-    for (size_t room = len - 1; room < len + 3; room++) {
-        uint8_t *code = before(room);
-        int32_t status = hq_assemble(list, n, code, room, &done);
-        if (status != (room < len ? HQ_FULL : HQ_OK) || done.items != n || done.bytes != len)
-            return 0;
-        if (room < len ? !is_filled(code, room) : memcmp(code, wanted, len) || !is_filled(code + len, room - len))
-            return 0;
+    uint8_t *code = before(room);
+    hq_use *uses = uses_before(places);
+    int32_t status = hq_assemble(list, n, code, room, uses, places, &done);
+    if (done.items != n || done.bytes != len || done.uses != told)
+        return 0;
+    if (room < len || places < told)
+        return status == HQ_FULL && is_filled(code, room) && are_filled(uses, places);
+    if (status != HQ_OK || memcmp(code, wanted, len) || !is_filled(code + len, room - len))
+        return 0;
+    return !places || ((!told || memcmp(uses, traps, told * sizeof *uses) == 0) && are_filled(uses + told, places - told));
+}
+
+/* And so with one byte or one place too few, with as many, and with more. */
+static int is_put_and_told(const hq_item *list, size_t n, const uint8_t *wanted, size_t len, const hq_use *traps, size_t told)
+{
+    for (size_t room = len - 1; room < len + 3; room++)
+        for (size_t places = told ? told - 1 : 0; places < told + 3; places++)
+            if (!is_put_in(room, places, list, n, wanted, len, traps, told))
+                return 0;
+    return 1;
+}
+
+/* A list without traps. */
+static int is_put(const hq_item *list, size_t n, const uint8_t *wanted, size_t len) { return is_put_and_told(list, n, wanted, len, NULL, 0); }
+
+static hq_item trapping(uint16_t line, uint16_t reg, hq_place place, int64_t imm, uint8_t trap)
+{
+    place.trap = trap;
+    hq_inst inst = made(line, reg, place, imm);
+    return hq_item_of(&inst);
+}
+
+/* Traps between jumps of both forms, and data behind. What refers to a label or a constant isn't told. */
+static int are_trapped(void)
+{
+    hq_inst lea = made(HQ_LINE_LEAQ_RM, 0, hq_constant(0), HQ_NO_IMM), ret = made(HQ_LINE_RETQ_ZO, HQ_NO_REG, hq_nothing(), HQ_NO_IMM);
+    hq_item list[] = {hq_item_at(HQ_ITEM_LABEL, 0), trapping(HQ_LINE_MOVQ_RM, 0, hq_mem(3, 5), HQ_NO_IMM, 7), hq_item_at(HQ_ITEM_JMP, 1),
+                      trapping(HQ_LINE_ADDQ_RM, 0, hq_index(7, 1, 3, 0), HQ_NO_IMM, 255), hq_item_at(HQ_ITEM_LABEL, 1), hq_item_at(HQ_ITEM_JG, 2),
+                      hq_item_at(HQ_ITEM_CALL, 0), trapping(HQ_LINE_CMPL_MI_SXB, HQ_NO_REG, hq_mem(4, -1), 5, 1), hq_item_of(&lea), hq_item_of(&ret),
+                      hq_item_at(HQ_ITEM_ALIGN, 3), hq_item_at(HQ_ITEM_CONSTANT, 0), hq_item_bytes("abcd", 4), hq_item_at(HQ_ITEM_LABEL, 2), hq_item_bytes("U", 1)};
+    /* movq 5(%rbx), %rax; jmp 4; addq (%rdi,%rcx,8), %rax; jg 28; callq -21; cmpl $5, -1(%rsp); leaq 7(%rip), %rax; retq; zeros; abcd; U */
+    static const uint8_t wanted[] = {0x48, 0x8b, 0x43, 5, 0xeb, 4, 0x48, 0x03, 0x04, 0xcf, 0x0f, 0x8f, 0x1c, 0, 0, 0, 0xe8, 0xeb, 0xff, 0xff, 0xff,
+                                     0x83, 0x7c, 0x24, 0xff, 5, 0x48, 0x8d, 0x05, 7, 0, 0, 0, 0xc3, 0, 0, 0, 0, 0, 0, 'a', 'b', 'c', 'd', 'U'};
+    static const hq_use traps[] = {{0, HQ_TOLD_TRAP, 7}, {6, HQ_TOLD_TRAP, 255}, {21, HQ_TOLD_TRAP, 1}};
+    return is_put_and_told(list, 15, wanted, sizeof wanted, traps, 3) || refused("traps are told otherwise");
+}
+
+/* A jump over loads, each with a trap: over 124 bytes it has two, over 128 it has five, and the traps stand as far behind it. */
+static int are_trapped_behind(void)
+{
+    enum { LOADS = 32 };
+    hq_item list[LOADS + 2];
+    hq_use traps[LOADS];
+    uint8_t wanted[4 * LOADS + 5];
+    for (size_t loads = LOADS - 1; loads <= LOADS; loads++) {
+        static const uint8_t load[] = {0x48, 0x8b, 0x43, 5}, far[] = {0xe9, 4 * LOADS, 0, 0, 0}, near[] = {0xeb, 4 * (LOADS - 1)};
+        size_t at = loads < LOADS ? sizeof near : sizeof far;
+        memcpy(wanted, loads < LOADS ? near : far, at);
+        list[0] = hq_item_at(HQ_ITEM_JMP, 0);
+        for (size_t i = 0; i < loads; i++, at += sizeof load) {
+            list[i + 1] = trapping(HQ_LINE_MOVQ_RM, 0, hq_mem(3, 5), HQ_NO_IMM, (uint8_t)(255 - i));
+            memcpy(wanted + at, load, sizeof load);
+            traps[i].at = (uint32_t)at;
+            traps[i].kind = HQ_TOLD_TRAP;
+            traps[i].number = (uint32_t)(255 - i);
+        }
+        list[loads + 1] = hq_item_at(HQ_ITEM_LABEL, 0);
+        if (!is_put_and_told(list, loads + 2, wanted, at, traps, loads))
+            return refused("traps behind a jump are told otherwise");
     }
     return 1;
+}
+
+/* A list that is refused tells no trap, wherever the item stands that it's refused for. */
+static int are_not_told(void)
+{
+    hq_item load = trapping(HQ_LINE_MOVQ_RM, 0, hq_mem(3, 5), HQ_NO_IMM, 7), label = hq_item_at(HQ_ITEM_LABEL, 0), constant = hq_item_at(HQ_ITEM_CONSTANT, 0);
+    hq_item none[] = {load, hq_item_at(HQ_ITEM_ALIGN + 1, 0), load}, twice[] = {load, label, label, load}, large[] = {load, hq_item_at(HQ_ITEM_LABEL, 2)},
+            open[] = {load, hq_item_at(HQ_ITEM_JE, 0), load}, unbound[] = {load, load, hq_item_at(HQ_ITEM_JMP, 0), constant, constant},
+            behind[] = {load, constant, load}, bad[] = {load, load, load}, fault[] = {load, load, load};
+    bad[1].inst.reserved = 1;
+    fault[2].inst.base = 16;
+    return (is_refused(none, 3, HQ_BAD_ITEM, 1) && is_refused(twice, 4, HQ_BOUND_TWICE, 2) && is_refused(large, 2, HQ_BAD_LABEL, 1)
+            && is_refused(open, 3, HQ_UNBOUND, 1) && is_refused(unbound, 5, HQ_BOUND_TWICE, 4) && is_refused(unbound, 4, HQ_UNBOUND, 2)
+            && is_refused(behind, 3, HQ_BAD_ITEM, 2) && is_refused(bad, 3, HQ_BAD_INST, 1)
+            && is_refused(fault, 3, hq_check(&fault[2].inst), 2) && hq_check(&fault[2].inst) != HQ_OK) || refused("a refused list tells traps");
 }
 
 /* A function that loads a constant of 16 bytes, which stands behind it at a multiple of 16. */
@@ -379,16 +500,24 @@ static int are_named(void)
     return hq_extension(HQ_LINE_POPCNTQ_RM, text, 6, &len) == HQ_OK && len == 6 && memcmp(text, "popcnt", 6) == 0 && hq_extension(HQ_LINE_ADDQ_RM, NULL, 0, &len) == HQ_OK && len == 0;
 }
 
+/* The end of so much room, where a page begins that can't be touched; null where there is none. */
+static uint8_t *guarded(void)
+{
+    size_t page = (size_t)sysconf(_SC_PAGESIZE);
+    uint8_t *at = mmap(NULL, ROOM + page, PROT_READ | PROT_WRITE, MAP_PRIVATE | MAP_ANONYMOUS, -1, 0);
+    return at == MAP_FAILED || mprotect(at + ROOM, page, PROT_NONE) ? NULL : at + ROOM;
+}
+
 int main(int argc, char **argv)
 {
     FILE *file = argc == 2 ? fopen(argv[1], "r") : NULL;
-    size_t page = (size_t)sysconf(_SC_PAGESIZE);
-    uint8_t *at = mmap(NULL, ROOM + page, PROT_READ | PROT_WRITE, MAP_PRIVATE | MAP_ANONYMOUS, -1, 0);
-    if (!file || at == MAP_FAILED || mprotect(at + ROOM, page, PROT_NONE))
+    guard = guarded();
+    uses_guard = (hq_use *)(void *)guarded();
+    if (!file || !guard || !uses_guard)
         return 2;
-    guard = at + ROOM;
-    if (!read_cases(file) || !are_encoded() || !are_assembled() || !are_told() || !are_linked() || !are_least() || !is_loaded() || !are_referred_to()
-        || !are_held() || !are_padded() || !are_far() || !are_no_items() || !are_not_bound() || !are_named())
+    if (!read_cases(file) || !are_encoded() || !are_assembled() || !are_all_told() || !are_told() || !are_linked() || !are_least() || !is_loaded()
+        || !are_referred_to() || !are_held() || !are_padded() || !are_far() || !are_no_items() || !are_not_bound() || !are_trapped() || !are_trapped_behind()
+        || !are_not_told() || !are_named())
         return refused("lists through C: not as wanted") + 1;
     printf("lists through C: %zu instructions of %zu bytes, as wanted\n", count, size);
     return 0;

@@ -1,7 +1,8 @@
 /* Hands the library lists of random instructions and items, most of them near ones that can be assembled, and slices of random
  * bytes of any length, and prints a number of all answers: two archives that answer alike print the same. Tests besides that a refusal
  * leaves the slices as they were, that what is encoded is what hq_encode puts for each, and that of items the refusal is the one that is
- * computed here, and so are, by what hq_encode puts and by the lengths that hq_decode tells, all bytes. The status is 0 where that is so. */
+ * computed here, and so are, by what hq_encode puts and by the lengths that hq_decode tells, all bytes and traps. The status is 0 where
+ * that is so. */
 #include "huqmeris.h"
 #include <inttypes.h>
 #include <stdio.h>
@@ -10,6 +11,9 @@
 enum { ROUNDS = 20000, MOST = 12, ROOM = 13 * MOST, MOST_DATA = 8, MOST_ITEMS = MOST + 4 + MOST_DATA, MOST_BYTES = 1024 };
 
 static uint64_t state = 88172645463325252u, sum = 14695981039346656037u;
+
+/* How many lists were encoded and assembled; and how many of these have data and traps, and had too few places for the traps alone. */
+static unsigned encoded, assembled, with_data, with_traps, without_places;
 
 static uint32_t next(void)
 {
@@ -40,7 +44,8 @@ static void fill(hq_inst *inst)
         case 4: place = next() % 2 ? hq_label(next() % 4) : hq_constant(next() % 4); break;
         default: place = hq_mem((uint8_t)(next() % 16), (int32_t)next() % 300); break;
         }
-        place.trap = (uint8_t)(place.place >= HQ_PLACE_BASE && place.place <= HQ_PLACE_INDEX && next() % 4 == 0);
+        if (place.place >= HQ_PLACE_BASE && place.place <= HQ_PLACE_INDEX && next() % 2)
+            place.trap = (uint8_t)(1 + next() % 255);
         if (hq_make(line, reg, next() % 8 ? HQ_NO_REG : (uint16_t)(next() % 16), &place, imm, inst) == HQ_OK)
             break;
     }
@@ -56,7 +61,7 @@ static int is_blank(const void *what, size_t n)
     return 1;
 }
 
-static int are_encoded(unsigned *encoded)
+static int are_encoded(void)
 {
     hq_inst insts[MOST];
     hq_use uses[MOST], use;
@@ -80,7 +85,7 @@ static int are_encoded(unsigned *encoded)
             return done.items == n && (done.bytes > room || done.uses > places);
         return done.items < n && hq_check(&insts[done.items]) == status;
     }
-    ++*encoded;
+    encoded++;
     for (size_t i = 0; i < n; i++) {
         if (hq_encode(&insts[i], one, sizeof one, &len, &use) != HQ_OK || at + len > room || memcmp(code + at, one, len))
             return 0;
@@ -220,11 +225,25 @@ static int are_placed(const hq_item *items, size_t n, const uint8_t *code, size_
     return at == len;
 }
 
-/* The bytes are those of the items. */
-static int are_put(const hq_item *items, size_t n, const uint8_t *code, size_t len)
+/* The traps are those of the instructions, each where the instruction begins, and there are no more. */
+static int are_told(const hq_item *items, size_t n, const size_t *places, const hq_use *uses, size_t count)
+{
+    size_t told = 0;
+    for (size_t i = 0; i < n; i++) {
+        if (items[i].kind != HQ_ITEM_INST || !items[i].inst.trap)
+            continue;
+        if (told == count || uses[told].at != places[i] || uses[told].kind != HQ_TOLD_TRAP || uses[told].number != items[i].inst.trap)
+            return 0;
+        told++;
+    }
+    return told == count;
+}
+
+/* The bytes and the traps are those of the items. */
+static int are_put(const hq_item *items, size_t n, const uint8_t *code, size_t len, const hq_use *uses, size_t count)
 {
     size_t places[MOST_ITEMS + 1], first = 0, place;
-    if (!are_placed(items, n, code, len, places))
+    if (!are_placed(items, n, code, len, places) || !are_told(items, n, places, uses, count))
         return 0;
     while (first < n && !is_data(&items[first]))
         first++;
@@ -282,31 +301,42 @@ static size_t random_items(hq_item *items)
     return next() % 2 ? n : add_data(items, n, (uint32_t)labels);
 }
 
-static int are_assembled(unsigned *assembled, unsigned *with_data)
+static int are_assembled(void)
 {
     hq_item items[MOST_ITEMS];
-    hq_done done = {77, 77, 77}, all;
+    hq_done done = {77, 77, 77}, again = {77, 77, 77};
+    hq_use uses[MOST_ITEMS];
     uint8_t code[MOST_BYTES];
-    size_t n = random_items(items), room = next() % 8 ? sizeof code : next() % 200, number;
+    size_t n = random_items(items), room = next() % 8 ? sizeof code : next() % 200, places = next() % 4 ? MOST_ITEMS : next() % 4, number;
     int32_t wanted = refusal(items, n, &number);
     memset(code, 0xA5, sizeof code);
-    int32_t status = hq_assemble(items, n, code, room, &done);
+    memset(uses, 0xA5, sizeof uses);
+    int32_t status = hq_assemble(items, n, code, room, places ? uses : NULL, places, &done);
     add(&status, sizeof status);
     add(&done, sizeof done);
     add(code, sizeof code);
-    if (done.items != number)
+    add(uses, sizeof uses);
+    if (done.items != number || (status != HQ_OK && (!is_blank(code, sizeof code) || !is_blank(uses, sizeof uses))))
         return 0;
-    if (status == HQ_FULL && wanted == HQ_OK)
-        return is_blank(code, sizeof code) && done.bytes > room && hq_assemble(items, n, code, sizeof code, &all) == HQ_OK && all.bytes == done.bytes;
-    if (status != wanted || status != HQ_OK)
-        return status == wanted && is_blank(code, sizeof code);
-    ++*assembled;
+    if (wanted != HQ_OK)
+        return status == wanted;
+    int is_full = done.bytes > room || done.uses > places;
+    if (status != (is_full ? HQ_FULL : HQ_OK) || done.bytes > sizeof code || done.uses > MOST_ITEMS)
+        return 0;
+    if (is_full) { /* with as much room as is told, it's put */
+        without_places += done.bytes <= room;
+        if (hq_assemble(items, n, code, done.bytes, uses, done.uses, &again) != HQ_OK || memcmp(&again, &done, sizeof done))
+            return 0;
+    }
+    assembled++;
+    with_traps += done.uses > 0;
     for (size_t i = 0; i < n; i++)
         if (is_data(&items[i])) {
-            ++*with_data;
+            with_data++;
             break;
         }
-    return done.bytes <= room && are_put(items, n, code, done.bytes) && is_blank(code + done.bytes, sizeof code - done.bytes);
+    return are_put(items, n, code, done.bytes, uses, done.uses) && is_blank(code + done.bytes, sizeof code - done.bytes)
+        && is_blank(uses + done.uses, (MOST_ITEMS - done.uses) * sizeof *uses);
 }
 
 /* Any bytes at all, as lists. */
@@ -324,24 +354,25 @@ static int are_answered(void)
     for (size_t i = 0; i < sizeof any.bytes; i++)
         any.bytes[i] = next() % 2 ? 0 : (uint8_t)next();
     memset(code, 0xA5, sizeof code);
+    memset(uses, 0xA5, sizeof uses);
     int32_t first = hq_encode_all(any.insts, next() % 64, code, next() % 64, uses, next() % 4, &done);
     add(&first, sizeof first);
-    int32_t second = first == HQ_OK ? HQ_OK : hq_assemble(any.items, next() % 64, code, next() % 64, &done);
+    int32_t second = first == HQ_OK ? HQ_OK : hq_assemble(any.items, next() % 64, code, next() % 64, uses, next() % 4, &done);
     add(&second, sizeof second);
     int32_t third = hq_format(&any.insts[0], text, next() % 32, &len), fourth = hq_mnemonic(&any.insts[1], text, next() % 32, &len);
     add(&third, sizeof third);
     add(&fourth, sizeof fourth);
-    return first == HQ_OK || second == HQ_OK || is_blank(code, sizeof code);
+    return first == HQ_OK || second == HQ_OK || (is_blank(code, sizeof code) && is_blank(uses, sizeof uses));
 }
 
 int main(void)
 {
-    unsigned encoded = 0, assembled = 0, with_data = 0;
     for (int round = 0; round < ROUNDS; round++)
-        if (!are_encoded(&encoded) || !are_assembled(&assembled, &with_data) || !are_answered()) {
+        if (!are_encoded() || !are_assembled() || !are_answered()) {
             printf("round %d isn't as wanted\n", round);
             return 1;
         }
-    printf("random lists through C: %d, %u of them encoded and %u assembled, %u with data; answers %016" PRIx64 "\n", ROUNDS, encoded, assembled, with_data, sum);
-    return !(encoded && assembled && with_data);
+    printf("random lists through C: %d, %u of them encoded and %u assembled, %u with data, %u with traps and %u of these after too few places; "
+           "answers %016" PRIx64 "\n", ROUNDS, encoded, assembled, with_data, with_traps, without_places, sum);
+    return !(encoded && assembled && with_data && with_traps && without_places);
 }

@@ -26,7 +26,7 @@ fn main() -> Result<(), Status> {
         put(sys::HQ_LINE_RETQ_ZO, None, Place::default(), None)?,
     ];
     let mut code = [0; 64];
-    let done = assemble(&items, &mut code).map_err(|stopped| stopped.status)?;
+    let done = assemble(&items, &mut code, &mut []).map_err(|stopped| stopped.status)?;
     let mut at = 0;
     for reading in Readings(&code[..done.bytes]) {
         let mut text = [0; 64];

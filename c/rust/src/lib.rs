@@ -137,11 +137,11 @@ impl Inst {
     }
 }
 
-/// Assembles items into the front of `code`: all, or none.
-pub fn assemble(items: &[Item], code: &mut [u8]) -> Result<Done, Stopped> {
+/// Assembles items into the front of `code`, and the traps of instructions into that of `uses`: all, or nothing.
+pub fn assemble(items: &[Item], code: &mut [u8], uses: &mut [Use]) -> Result<Done, Stopped> {
     let mut done = Done::default();
-    // SAFETY: pointers and lengths are those of two slices; the one that is written, and `done`, are ours alone.
-    let status = unsafe { sys::hq_assemble(items.as_ptr(), items.len(), code.as_mut_ptr(), code.len(), &mut done) };
+    // SAFETY: pointers and lengths are those of three slices; the two that are written, and `done`, are ours alone.
+    let status = unsafe { sys::hq_assemble(items.as_ptr(), items.len(), code.as_mut_ptr(), code.len(), uses.as_mut_ptr(), uses.len(), &mut done) };
     Stopped::of(status, done)
 }
 
@@ -239,7 +239,7 @@ impl Iterator for Readings<'_> {
 
 #[cfg(test)]
 mod tests {
-    use crate::{Inst, Item, Place, Readings, Status, Use, assemble, encode_all, extension, sys};
+    use crate::{Done, Inst, Item, Place, Readings, Status, Use, assemble, encode_all, extension, sys};
 
     fn ret() -> Inst {
         Inst::new(sys::HQ_LINE_RETQ_ZO, None, None, Place::default(), None).unwrap()
@@ -264,10 +264,32 @@ mod tests {
     fn assembles_a_loop() {
         let dec = Inst::new(sys::HQ_LINE_SUBQ_MI_SXB, None, None, Place::register(7), Some(1)).unwrap();
         let mut code = [0xCC; 16];
-        let done = assemble(&[Item::label(0), Item::inst(dec), Item::jump(sys::HQ_ITEM_JNE, 0), Item::inst(ret())], &mut code).unwrap();
+        let done = assemble(&[Item::label(0), Item::inst(dec), Item::jump(sys::HQ_ITEM_JNE, 0), Item::inst(ret())], &mut code, &mut []).unwrap();
         assert_eq!(code[..done.bytes], [0x48, 0x83, 0xEF, 0x01, 0x75, 0xFA, 0xC3]);
-        let stopped = assemble(&[Item::inst(ret()), Item::jump(sys::HQ_ITEM_JMP, 0)], &mut code).unwrap_err();
+        let stopped = assemble(&[Item::inst(ret()), Item::jump(sys::HQ_ITEM_JMP, 0)], &mut code, &mut []).unwrap_err();
         assert_eq!((stopped.status, stopped.done.items), (Status(sys::HQ_UNBOUND), 1));
+    }
+
+    /// `movq` from memory into the first register, which may raise this trap.
+    fn trapping(trap: u8) -> Item {
+        let place = Place { trap, ..Place::index(3, 1, 3, 5) };
+        Item::inst(Inst::new(sys::HQ_LINE_MOVQ_RM, Some(0), None, place, None).unwrap())
+    }
+
+    #[test]
+    fn assembles_traps() {
+        let items = [trapping(7), Item::jump(sys::HQ_ITEM_JMP, 0), trapping(255), Item::inst(ret()), Item::constant(0), Item::label(0)];
+        let blank = Use { at: 77, kind: 78, number: 79 };
+        let (mut code, mut uses) = ([0xCC; 17], [blank; 3]);
+        let stopped = assemble(&items, &mut code, &mut uses[..1]).unwrap_err();
+        assert_eq!((stopped.status, stopped.done), (Status(sys::HQ_FULL), Done { items: 6, bytes: 16, uses: 2 }));
+        let stopped = assemble(&items[..5], &mut code, &mut uses).unwrap_err();
+        assert_eq!((stopped.status, stopped.done.items), (Status(sys::HQ_UNBOUND), 1));
+        assert_eq!((code, uses), ([0xCC; 17], [blank; 3]));
+        assert_eq!(assemble(&items, &mut code, &mut uses), Ok(Done { items: 6, bytes: 16, uses: 2 }));
+        assert_eq!(code, [0x48, 0x8B, 0x44, 0xCB, 5, 0xE9, 6, 0, 0, 0, 0x48, 0x8B, 0x44, 0xCB, 5, 0xC3, 0xCC]);
+        let trap = |at, number| Use { at, kind: sys::HQ_TOLD_TRAP, number };
+        assert_eq!(uses, [trap(0, 7), trap(10, 255), blank]);
     }
 
     /// `movaps` of a constant into the first register.
@@ -280,13 +302,13 @@ mod tests {
         let bytes = [1, 2, 3, 4, 5, 6, 7, 0x80, 0x90, 0xA0, 0xB0, 0xC0, 0xD0, 0xE0, 0xF0, 0xFF];
         let items = [load(7), Item::inst(ret()), Item::align(4), Item::constant(7), Item::bytes(&bytes).unwrap()];
         let mut code = [0xCC; 33];
-        let done = assemble(&items, &mut code).unwrap();
+        let done = assemble(&items, &mut code, &mut []).unwrap();
         assert_eq!((done.items, done.bytes, code[32]), (5, 32, 0xCC));
         assert_eq!(code[..16], [0x0F, 0x28, 0x05, 9, 0, 0, 0, 0xC3, 0, 0, 0, 0, 0, 0, 0, 0]);
         let read = Readings(&code).next().unwrap();
         let at = usize::from(read.length) + read.disp as usize;
         assert_eq!((read.line, read.place_kind, &code[at..at + 16]), (sys::HQ_LINE_MOVAPS_A, sys::HQ_READ_RELATIVE, &bytes[..]));
-        let refused = |items: &[Item]| assemble(items, &mut [0; 64]).map_err(|stopped| (stopped.status, stopped.done.items));
+        let refused = |items: &[Item]| assemble(items, &mut [0; 64], &mut []).map_err(|stopped| (stopped.status, stopped.done.items));
         assert_eq!(refused(&items[..3]), Err((Status(sys::HQ_UNBOUND), 0)));
         assert_eq!(refused(&[load(7), Item::constant(7), Item::constant(7)]), Err((Status(sys::HQ_BOUND_TWICE), 2)));
     }
@@ -298,7 +320,7 @@ mod tests {
         for count in 0..25 {
             let mut code = [0xCC; 33];
             let items = [load(0), Item::inst(ret()), Item::constant(0), Item::bytes(&bytes[..count]).unwrap()];
-            assert_eq!(assemble(&items, &mut code).unwrap().bytes, 8 + count);
+            assert_eq!(assemble(&items, &mut code, &mut []).unwrap().bytes, 8 + count);
             assert_eq!(code[..8], [0x0F, 0x28, 0x05, 1, 0, 0, 0, 0xC3]);
             assert_eq!((&code[8..8 + count], code[8 + count]), (&bytes[..count], 0xCC));
         }
@@ -310,11 +332,11 @@ mod tests {
             let mut code = [0xCC; 66];
             let (at, one) = (8_usize.next_multiple_of(1 << power), Item::bytes(&[1]).unwrap());
             let items = [load(0), Item::inst(ret()), Item::align(power), Item::constant(0), one];
-            assert_eq!(assemble(&items, &mut code).unwrap().bytes, at + 1);
+            assert_eq!(assemble(&items, &mut code, &mut []).unwrap().bytes, at + 1);
             assert_eq!(code[..8], [0x0F, 0x28, 0x05, at as u8 - 7, 0, 0, 0, 0xC3]);
             assert!(code[8..at].iter().all(|&byte| byte == 0) && code[at..at + 2] == [1, 0xCC]);
         }
-        let stopped = assemble(&[Item::inst(ret()), Item::align(7)], &mut [0; 128]).unwrap_err();
+        let stopped = assemble(&[Item::inst(ret()), Item::align(7)], &mut [0; 128], &mut []).unwrap_err();
         assert_eq!((stopped.status, stopped.done.items), (Status(sys::HQ_BAD_ITEM), 1));
     }
 

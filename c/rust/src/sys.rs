@@ -2,7 +2,7 @@
 #![allow(non_camel_case_types)]
 
 /// The version of this interface.
-pub const HQ_VERSION: u32 = 1;
+pub const HQ_VERSION: u32 = 2;
 /// The call did what it says.
 pub const HQ_OK: i32 = 0;
 /// The integers are no instruction of the core.
@@ -874,19 +874,19 @@ const _: () = assert!(size_of::<hq_item>() == 32 && align_of::<hq_item>() == 4);
 
 #[link(name = "huqmeris", kind = "static")]
 unsafe extern "C" {
-    /// Assembles items into the front of some bytes, all of them or none: instructions, places of labels, and jumps to them; behind
+    /// Assembles items into the front of some bytes, all of them or nothing: instructions, places of labels, and jumps to them; behind
     /// them data, which instructions refer to as constants or labels. The first item that is data begins it: behind that no
     /// instruction and no jump may stand.
     ///
     /// A label's number is below that of all items. Each jump has the shortest form in which all of them reach: no choice of forms
     /// has fewer bytes. A jump to a label behind data has its long form. An instruction may refer to a label too. At `HQ_OK` `done`
-    /// has how many items and bytes there are, at `HQ_FULL` how many there would be; at another status `items` is the number of the
+    /// has how many items, bytes and traps there are, at `HQ_FULL` how many there would be; at another status `items` is the number of the
     /// item that is refused, from 0: the first that is none, or else the first that has a fault or whose label or constant can't be
-    /// bound, or else the first that refers to what has no place. What instructions tell of traps isn't told. No late offset is
-    /// known.
+    /// bound, or else the first that refers to what has no place. `uses` gets the traps of instructions,
+    /// in their order, each at the place of the instruction. No late offset is known.
     ///
     /// It asks for memory, and has given all of it back when it answers.
-    pub unsafe fn hq_assemble(items: *const hq_item, items_len: usize, code: *mut u8, code_len: usize, done: *mut hq_done) -> i32;
+    pub unsafe fn hq_assemble(items: *const hq_item, items_len: usize, code: *mut u8, code_len: usize, uses: *mut hq_use, uses_len: usize, done: *mut hq_done) -> i32;
     /// Why an instruction can't be encoded by `hq_encode`, which knows no late offsets: the first register that isn't below 16, or
     /// an index that is the stack pointer, or else a late offset. 0 where it can.
     pub unsafe fn hq_check(inst: *const hq_inst) -> i32;

@@ -10,14 +10,16 @@ use crate::progress::HqDone;
 use crate::status::{HQ_BAD_ITEM, HQ_BAD_LABEL, HQ_BOUND_TWICE, HQ_NO_NAME, HQ_UNBOUND};
 use crate::text::{hq_extension, hq_format, hq_mnemonic};
 use cax64_address::amode::Amode;
+use cax64_address::offset::AmodeOffsetPlusKnownOffset;
 use cax64_plain::status::{HQ_BAD_INST, HQ_BAD_LINE, HQ_FULL, HQ_OK};
-use cax64_plain::told::{HQ_TOLD_LABEL, HQ_TOLD_NOTHING};
+use cax64_plain::told::{HQ_TOLD_LABEL, HQ_TOLD_NOTHING, HQ_TOLD_TRAP};
 use cax64_plain::{HqInst, HqUse};
-use cax64_sink::{Constant, DeferredTarget, Label};
+use cax64_sink::{Constant, DeferredTarget, Label, TrapCode};
+use std::num::NonZeroU8;
 use x64_core::ops::arithmetic::{ADDQ_RM, SUBQ_MI_SXB};
 use x64_core::ops::bits::POPCNTQ_RM;
 use x64_core::ops::control::RETQ_ZO;
-use x64_core::ops::moves::LEAQ_RM;
+use x64_core::ops::moves::{LEAQ_RM, MOVQ_RM};
 
 /// `leaq 0(%rip), %rax` of a label.
 fn address_of(number: u32) -> HqInst {
@@ -29,6 +31,25 @@ fn address_of(number: u32) -> HqInst {
 fn address_of_constant(number: u32) -> HqInst {
     let constant = DeferredTarget::Constant(Constant(number));
     HqInst::of(&LEAQ_RM.mem(0, Amode::RipRelative { target: constant }))
+}
+
+/// `movq (%rbx), %rax`, which may raise a trap.
+fn load(code: u8) -> HqInst {
+    let place = Amode::ImmReg {
+        base: 3,
+        simm32: AmodeOffsetPlusKnownOffset::ZERO,
+        trap: NonZeroU8::new(code).map(TrapCode),
+    };
+    HqInst::of(&MOVQ_RM.mem(0, place))
+}
+
+/// A trap that is told.
+fn trap(at: u32, number: u32) -> HqUse {
+    HqUse {
+        at,
+        kind: HQ_TOLD_TRAP,
+        number,
+    }
 }
 
 fn inst(inst: HqInst) -> HqItem {
@@ -108,13 +129,13 @@ fn a_loop_is_assembled(rt: HostRuntime) {
     ];
     let (mut code, mut done) = ([0xCC; 22], HqDone::NOTHING);
     assert_eq!(rt;
-        hq_assemble(rt.alloc(), &items, &mut code[..20], &mut done),
+        hq_assemble(rt.alloc(), &items, &mut code[..20], &mut [], &mut done),
         HQ_FULL
     );
     assert_eq!(rt; done.bytes, 21);
     assert_eq!(rt; code.as_slice(), [0xCC; 22].as_slice());
     assert_eq!(rt;
-        hq_assemble(rt.alloc(), &items, &mut code, &mut done),
+        hq_assemble(rt.alloc(), &items, &mut code, &mut [], &mut done),
         HQ_OK
     );
     assert_eq!(rt; (done.items, done.bytes), (8, 21));
@@ -173,18 +194,76 @@ fn data_stands_behind_code(rt: HostRuntime) {
     ];
     let (mut code, mut done) = ([0xCC; 44], HqDone::NOTHING);
     assert_eq!(rt;
-        hq_assemble(rt.alloc(), &items, &mut code[..42], &mut done),
+        hq_assemble(rt.alloc(), &items, &mut code[..42], &mut [], &mut done),
         HQ_FULL
     );
     assert_eq!(rt; (done.items, done.bytes), (8, 43));
     assert_eq!(rt; code.as_slice(), [0xCC; 44].as_slice());
     assert_eq!(rt;
-        hq_assemble(rt.alloc(), &items, &mut code, &mut done),
+        hq_assemble(rt.alloc(), &items, &mut code, &mut [], &mut done),
         HQ_OK
     );
     assert_eq!(rt; (done.items, done.bytes), (8, 43));
     assert!(rt; code.as_slice().starts_with(wanted.as_slice()));
     assert_eq!(rt; code[43], 0xCC);
+}
+
+/// A load, a jump over a second one, `retq`, zeros up to a multiple of 4 and two bytes: the traps of both loads are told, and the
+/// place behind them stays; where there is too little room for them, or the list is refused, all places stay.
+#[test]
+fn traps_are_told(rt: HostRuntime) {
+    let ret = HqInst::of(&RETQ_ZO.bare());
+    let two = HqInst { line: 0x201, ..ret };
+    let items = [
+        inst(load(7)),
+        label(HQ_ITEM_JMP, 1),
+        inst(load(255)),
+        label(HQ_ITEM_LABEL, 1),
+        inst(ret),
+        label(HQ_ITEM_ALIGN, 2),
+        HqItem {
+            kind: HQ_ITEM_BYTES,
+            number: 2,
+            inst: two,
+        },
+    ];
+    let wanted = [
+        0x48, 0x8B, 0x03, 0xEB, 0x03, 0x48, 0x8B, 0x03, 0xC3, 0, 0, 0, 1, 2,
+    ];
+    let blank = HqUse {
+        at: 77,
+        kind: 78,
+        number: 79,
+    };
+    let (mut code, mut uses, mut done) = ([0xCC; 15], [blank; 3], HqDone::NOTHING);
+    assert_eq!(rt;
+        hq_assemble(rt.alloc(), &items, &mut code, &mut uses[..1], &mut done),
+        HQ_FULL
+    );
+    assert_eq!(rt; (done.items, done.bytes, done.uses), (7, 14, 2));
+    assert_eq!(rt;
+        hq_assemble(rt.alloc(), &items, &mut code[..13], &mut uses, &mut done),
+        HQ_FULL
+    );
+    assert_eq!(rt; (done.items, done.bytes, done.uses), (7, 14, 2));
+    let unbound = [items[0], label(HQ_ITEM_JMP, 0)];
+    assert_eq!(rt;
+        hq_assemble(rt.alloc(), &unbound, &mut code, &mut uses, &mut done),
+        HQ_UNBOUND
+    );
+    assert_eq!(rt; code.as_slice(), [0xCC; 15].as_slice());
+    assert_eq!(rt; uses.as_slice(), [blank; 3].as_slice());
+    assert_eq!(rt;
+        hq_assemble(rt.alloc(), &items, &mut code, &mut uses, &mut done),
+        HQ_OK
+    );
+    assert_eq!(rt; (done.items, done.bytes, done.uses), (7, 14, 2));
+    assert!(rt; code.as_slice().starts_with(wanted.as_slice()));
+    assert_eq!(rt; code[14], 0xCC);
+    assert_eq!(rt;
+        uses.as_slice(),
+        [trap(0, 7), trap(5, 255), blank].as_slice()
+    );
 }
 
 /// What a list is refused for by its data, and at which item.
@@ -195,19 +274,19 @@ fn data_is_refused(rt: HostRuntime) {
     let mut done = HqDone::NOTHING;
     let behind = [label(HQ_ITEM_CONSTANT, 0), label(HQ_ITEM_LABEL, 0), ret];
     assert_eq!(rt;
-        hq_assemble(rt.alloc(), &behind, &mut code, &mut done),
+        hq_assemble(rt.alloc(), &behind, &mut code, &mut [], &mut done),
         HQ_BAD_ITEM
     );
     assert_eq!(rt; done.items, 2);
     let long = [ret, label(HQ_ITEM_BYTES, 25)];
     assert_eq!(rt;
-        hq_assemble(rt.alloc(), &long, &mut code, &mut done),
+        hq_assemble(rt.alloc(), &long, &mut code, &mut [], &mut done),
         HQ_BAD_ITEM
     );
     assert_eq!(rt; done.items, 1);
     let wide = [ret, label(HQ_ITEM_ALIGN, 7)];
     assert_eq!(rt;
-        hq_assemble(rt.alloc(), &wide, &mut code, &mut done),
+        hq_assemble(rt.alloc(), &wide, &mut code, &mut [], &mut done),
         HQ_BAD_ITEM
     );
     assert_eq!(rt; done.items, 1);
@@ -218,13 +297,13 @@ fn data_is_refused(rt: HostRuntime) {
         label(HQ_ITEM_CONSTANT, 9),
     ];
     assert_eq!(rt;
-        hq_assemble(rt.alloc(), &twice, &mut code, &mut done),
+        hq_assemble(rt.alloc(), &twice, &mut code, &mut [], &mut done),
         HQ_BOUND_TWICE
     );
     assert_eq!(rt; done.items, 3);
     let large = [ret, label(HQ_ITEM_ALIGN, 0), label(HQ_ITEM_LABEL, 3)];
     assert_eq!(rt;
-        hq_assemble(rt.alloc(), &large, &mut code, &mut done),
+        hq_assemble(rt.alloc(), &large, &mut code, &mut [], &mut done),
         HQ_BAD_LABEL
     );
     assert_eq!(rt; done.items, 2);
@@ -234,7 +313,7 @@ fn data_is_refused(rt: HostRuntime) {
         label(HQ_ITEM_CONSTANT, 8),
     ];
     assert_eq!(rt;
-        hq_assemble(rt.alloc(), &unbound, &mut code, &mut done),
+        hq_assemble(rt.alloc(), &unbound, &mut code, &mut [], &mut done),
         HQ_UNBOUND
     );
     assert_eq!(rt; done.items, 1);
@@ -249,25 +328,25 @@ fn items_are_refused(rt: HostRuntime) {
     let mut done = HqDone::NOTHING;
     let unknown = [ret, label(HQ_ITEM_ALIGN + 1, 0)];
     assert_eq!(rt;
-        hq_assemble(rt.alloc(), &unknown, &mut code, &mut done),
+        hq_assemble(rt.alloc(), &unknown, &mut code, &mut [], &mut done),
         HQ_BAD_ITEM
     );
     assert_eq!(rt; done.items, 1);
     let large = [ret, label(HQ_ITEM_LABEL, 2)];
     assert_eq!(rt;
-        hq_assemble(rt.alloc(), &large, &mut code, &mut done),
+        hq_assemble(rt.alloc(), &large, &mut code, &mut [], &mut done),
         HQ_BAD_LABEL
     );
     assert_eq!(rt; done.items, 1);
     let twice = [label(HQ_ITEM_LABEL, 1), ret, label(HQ_ITEM_LABEL, 1)];
     assert_eq!(rt;
-        hq_assemble(rt.alloc(), &twice, &mut code, &mut done),
+        hq_assemble(rt.alloc(), &twice, &mut code, &mut [], &mut done),
         HQ_BOUND_TWICE
     );
     assert_eq!(rt; done.items, 2);
     let unbound = [ret, label(HQ_ITEM_JMP, 0), inst(address_of(1))];
     assert_eq!(rt;
-        hq_assemble(rt.alloc(), &unbound, &mut code, &mut done),
+        hq_assemble(rt.alloc(), &unbound, &mut code, &mut [], &mut done),
         HQ_UNBOUND
     );
     assert_eq!(rt; done.items, 1);
@@ -279,7 +358,7 @@ fn items_are_refused(rt: HostRuntime) {
         }),
     ];
     assert_eq!(rt;
-        hq_assemble(rt.alloc(), &spoiled, &mut code, &mut done),
+        hq_assemble(rt.alloc(), &spoiled, &mut code, &mut [], &mut done),
         HQ_BAD_INST
     );
     assert_eq!(rt; done.items, 1);

@@ -3,12 +3,12 @@
 ghost use Rattle.std.specs.Prelude.{◌≡◌};
 
 /// The version of this interface.
-pub const HQ_VERSION: u32 = 1;
+pub const HQ_VERSION: u32 = 2;
 
 /// The version of the header that fits this library.
 #[unsafe(no_mangle)]
 pub extern "C" fn hq_version() -> u32
-    ensures { result ≡ 1 }
+    ensures { result ≡ 2 }
 {
     HQ_VERSION
 }
