@@ -888,7 +888,7 @@ _Static_assert(offsetof(hq_reading, reserved_word) == 28, "hq_reading.reserved_w
 
 /* What is told beside the bytes of an instruction: the code of its trap, or what a relative place refers to. */
 typedef struct hq_use {
-    /* How many bytes of the instruction stand before it: before a target its four bytes follow. */
+    /* How many bytes of the instruction, or of a list's code, stand before it: before a target its four bytes follow. */
     uint32_t at;
     /* What is told: `HQ_TOLD_NOTHING` and the like. */
     uint32_t kind;
@@ -1028,6 +1028,9 @@ int32_t hq_make(uint16_t line, uint16_t reg, uint16_t vvvv, const hq_place *plac
 
 /* Puts the mnemonic of an instruction at the front of some bytes, as `hq_format` does with its text, but without memory. */
 int32_t hq_mnemonic(const hq_inst *inst, uint8_t *HQ_RESTRICT text, size_t text_len, size_t *HQ_RESTRICT len);
+
+/* The operands of an instruction, of which `hq_make` makes it again: `HQ_NO_REG` and `HQ_NO_IMM` for those that its line lacks. */
+int32_t hq_operands(const hq_inst *inst, uint16_t *HQ_RESTRICT reg, uint16_t *HQ_RESTRICT vvvv, hq_place *HQ_RESTRICT place, int64_t *HQ_RESTRICT imm);
 
 /*
  * What a relative field is to hold: what is stored in it, and the distance from the field's end to the target. `place` is the

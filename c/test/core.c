@@ -114,6 +114,12 @@ static const char *outcome(char **column)
         why = decoded(want, size, line, &inst);
     if (why)
         return why;
+    uint16_t its_reg = 77, its_vvvv = 77;
+    int64_t its_imm = 77;
+    hq_place its_place = hq_reg(77);
+    if (hq_operands(&inst, &its_reg, &its_vvvv, &its_place, &its_imm) != HQ_OK || its_reg != reg || its_vvvv != HQ_NO_REG || its_imm != imm
+        || memcmp(&its_place, &place, sizeof place))
+        return "it has other operands than it's made of";
     for (int i = 0; i < 256; i++)
         homes[i] = (uint8_t)i;
     again = inst;
@@ -121,7 +127,8 @@ static const char *outcome(char **column)
         return "each register in its own place makes another";
     again.reserved = 1;
     uint32_t len = 77;
-    if (hq_check(&again) != HQ_BAD_INST || hq_length(&again, &len) != HQ_BAD_INST || len != 77)
+    if (hq_check(&again) != HQ_BAD_INST || hq_length(&again, &len) != HQ_BAD_INST || len != 77
+        || hq_operands(&again, &its_reg, &its_vvvv, &its_place, &its_imm) != HQ_BAD_INST || its_reg != reg || its_imm != imm)
         return "what is no instruction isn't refused";
     return NULL;
 }

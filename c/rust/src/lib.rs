@@ -46,6 +46,15 @@ impl Encoded {
     }
 }
 
+/// The operands of an instruction, where they stand in its bytes.
+#[derive(Clone, Copy, Debug, PartialEq, Eq)]
+pub struct Operands {
+    pub reg: Option<u8>,
+    pub vvvv: Option<u8>,
+    pub place: Place,
+    pub imm: Option<i64>,
+}
+
 impl Inst {
     /// The instruction of a line with these operands.
     pub fn new(line: u16, reg: Option<u8>, vvvv: Option<u8>, place: Place, imm: Option<i64>) -> Result<Inst, Status> {
@@ -54,6 +63,16 @@ impl Inst {
         // SAFETY: both references are alive for the call, and `out` is ours alone.
         let status = unsafe { sys::hq_make(line, number(reg), number(vvvv), &place, imm.unwrap_or(sys::HQ_NO_IMM), &mut out) };
         Status::of(status).map(|()| out)
+    }
+
+    /// Its operands, of which `new` makes it again.
+    pub fn operands(&self) -> Result<Operands, Status> {
+        let (mut reg, mut vvvv, mut place, mut imm) = (sys::HQ_NO_REG, sys::HQ_NO_REG, Place::default(), sys::HQ_NO_IMM);
+        // SAFETY: all references are alive for the call, and those that are written are ours alone.
+        let status = unsafe { sys::hq_operands(self, &mut reg, &mut vvvv, &mut place, &mut imm) };
+        let register = |number| u8::try_from(number).ok();
+        let imm = (imm != sys::HQ_NO_IMM).then_some(imm);
+        Status::of(status).map(|()| Operands { reg: register(reg), vvvv: register(vvvv), place, imm })
     }
 
     /// Its bytes.
@@ -239,7 +258,7 @@ impl Iterator for Readings<'_> {
 
 #[cfg(test)]
 mod tests {
-    use crate::{Done, Inst, Item, Place, Readings, Status, Use, assemble, encode_all, extension, sys};
+    use crate::{Done, Inst, Item, Operands, Place, Readings, Status, Use, assemble, encode_all, extension, sys};
 
     fn ret() -> Inst {
         Inst::new(sys::HQ_LINE_RETQ_ZO, None, None, Place::default(), None).unwrap()
@@ -258,6 +277,16 @@ mod tests {
         assert_eq!((stopped.status, stopped.done.items, code[0]), (Status(sys::HQ_BAD_INST), 1, 0xC3));
         let stopped = encode_all(&[lea, lea], &mut code, &mut uses).unwrap_err();
         assert_eq!((stopped.status, stopped.done.bytes), (Status(sys::HQ_FULL), 14));
+    }
+
+    #[test]
+    fn gives_operands_back() {
+        let (reg, place) = (Some(255), Place::index(3, 1, 3, -5));
+        let load = Inst::new(sys::HQ_LINE_MOVQ_RM, reg, None, place, None).unwrap();
+        assert_eq!(load.operands(), Ok(Operands { reg, vvvv: None, place, imm: None }));
+        let add = Inst::new(sys::HQ_LINE_ADDQ_MI_SXB, None, None, Place::register(7), Some(-1)).unwrap();
+        assert_eq!(add.operands(), Ok(Operands { reg: None, vvvv: None, place: Place::register(7), imm: Some(-1) }));
+        assert_eq!(Inst { reserved: 1, ..add }.operands(), Err(Status(sys::HQ_BAD_INST)));
     }
 
     #[test]

@@ -833,7 +833,7 @@ const _: () = assert!(size_of::<hq_reading>() == 32 && align_of::<hq_reading>() 
 #[repr(C)]
 #[derive(Clone, Copy, Debug, Default, PartialEq, Eq, Hash)]
 pub struct hq_use {
-    /// How many bytes of the instruction stand before it: before a target its four bytes follow.
+    /// How many bytes of the instruction, or of a list's code, stand before it: before a target its four bytes follow.
     pub at: u32,
     /// What is told: `HQ_TOLD_NOTHING` and the like.
     pub kind: u32,
@@ -934,6 +934,8 @@ unsafe extern "C" {
     pub unsafe fn hq_make(line: u16, reg: u16, vvvv: u16, place: *const hq_place, imm: i64, out: *mut hq_inst) -> i32;
     /// Puts the mnemonic of an instruction at the front of some bytes, as `hq_format` does with its text, but without memory.
     pub unsafe fn hq_mnemonic(inst: *const hq_inst, text: *mut u8, text_len: usize, len: *mut usize) -> i32;
+    /// The operands of an instruction, of which `hq_make` makes it again: `HQ_NO_REG` and `HQ_NO_IMM` for those that its line lacks.
+    pub unsafe fn hq_operands(inst: *const hq_inst, reg: *mut u16, vvvv: *mut u16, place: *mut hq_place, imm: *mut i64) -> i32;
     /// What a relative field is to hold: what is stored in it, and the distance from the field's end to the target. `place` is the
     /// place of the field's first byte. `HQ_OUT_OF_RANGE` where that isn't of 32 bits.
     pub unsafe fn hq_patched(place: u64, target: u64, stored: i32, field: *mut i32) -> i32;
