@@ -3,7 +3,8 @@ use Rattle.std.proofs.lemmas.Bool.{eq-eqb}
 use Rattle.std.proofs.lemmas.List.{drop_at, drop_more, get_or-drop, length-drop, length-take-le, take-append-drop, take_more}
 use Rattle.std.proofs.lemmas.List.Elements.{All-cons}
 use Rattle.std.proofs.lemmas.Option.{same_Some}
-use Rattle.std.specs.Prelude.{◌==◌, if◌then◌else◌, map, option_map, slice_index, unwrap_or}
+use Rattle.std.proofs.lemmas.Bool.Decides.{nat_tests}
+use Rattle.std.specs.Prelude.{◌==◌, ◌||◌, OnOk, Result, is_err, nat_lt, if◌then◌else◌, map, option_map, slice_index, unwrap_or}
 use Rattle.cax64_address.specs.declared.amode.Amode.{Amode}
 use Rattle.cax64_address.specs.declared.amode.Amode.TheVariants.{ImmReg, ImmRegRegShift, RipRelative}
 use Rattle.cax64_encoder.specs.Notices.{trap_notice}
@@ -28,10 +29,10 @@ use Rattle.cax64_sink.specs.declared.TrapCode.{TrapCode}
 use Rattle.cax64_plain.specs.Plain.{plain}
 use Rattle.cax64_plain.specs.Told.{told}
 use Rattle.cax64_plain.specs.declared.told.HqUse.{HqUse}
-use Rattle.huqmeris_c.proofs.Made.{if_none, list_is, map_none}
+use Rattle.huqmeris_c.proofs.Made.{finished, if_none, list_is, map_none}
 use Rattle.huqmeris_c.specs.Data.{AreBound, code_of, data_from, data_of}
 use Rattle.huqmeris_c.specs.Encodes.{no_offsets}
-use Rattle.huqmeris_c.specs.Items.{Assembled, AssembledTo, ItemsAre, LeadsTo, ReadAs, jump_named, lengths, list_spans, target_in}
+use Rattle.huqmeris_c.specs.Items.{Assembled, Counted, ItemsAre, LeadsTo, ReadAs, jump_named, lengths, list_spans, target_in}
 use Rattle.huqmeris_c.specs.Each.{uses_told}
 use Rattle.huqmeris_c.specs.Putting.{Behind, HasItems, MakesEach, core_becomes, core_fault, traps_in}
 use Rattle.huqmeris_c.specs.Traps.{trap_told, traps_told}
@@ -152,7 +153,7 @@ label_of (item.Jump jump to) other = other
 label_of (item.Bind bound) other = bound
 
 -- a label that nothing before it binds has its spot there
-spot_there : (xs : List (Item Core)) (k : ℕ) (label : Label) → slice_get xs k ≡ Some (item.Bind label) → spot_of label.0 (take k xs) ≡ None → spot_of label.0 xs ≡ Some (entries (take k xs))
+pub spot_there : (xs : List (Item Core)) (k : ℕ) (label : Label) → slice_get xs k ≡ Some (item.Bind label) → spot_of label.0 (take k xs) ≡ None → spot_of label.0 xs ≡ Some (entries (take k xs))
 spot_there [] k label is none = cc
 spot_there (item.Inst core ∷ xs) zero label is none = cc
 spot_there (item.Inst core ∷ xs) (suc k) label is none = ap (option_map suc) (spot_there xs k label is (map_none suc (spot_of label.0 (take k xs)) none))
@@ -284,7 +285,7 @@ spots_next all n x xs one spots = λ k label is.
     let e : n + entries (take (suc k) (x ∷ xs)) ≡ n + 1 + entries (take k xs) = omega (arith, one k) in
     spots (suc k) label is ∙ ap (λ (m : ℕ). Some m) e
 
-items_are : (places : DeferredTarget → Option ℕ) (lens : List ℕ) (all : List (Item Core)) (n at : ℕ) (hs : List HqItem) (xs : List (Item Core)) (ps : List Piece) (us : List Use) (readings : List LineReading) → MakesEach hs xs → EachReads core_becomes lens all n xs ps → at ≡ place_in lens n → Spots all n xs → Bound places lens all → us ≡ uses_of (all_told core_becomes all at xs ps) → EachSettled places at ps us readings → ItemsAre places hs at readings
+pub items_are : (places : DeferredTarget → Option ℕ) (lens : List ℕ) (all : List (Item Core)) (n at : ℕ) (hs : List HqItem) (xs : List (Item Core)) (ps : List Piece) (us : List Use) (readings : List LineReading) → MakesEach hs xs → EachReads core_becomes lens all n xs ps → at ≡ place_in lens n → Spots all n xs → Bound places lens all → us ≡ uses_of (all_told core_becomes all at xs ps) → EachSettled places at ps us readings → ItemsAre places hs at readings
 items_are places lens all n at [] [] ps us readings makes reads here spots bound uses settled = none_are places at ps us readings reads settled
 items_are places lens all n at [] (x ∷ xs) ps us readings makes reads here spots bound uses settled = absurd makes
 items_are places lens all n at (h ∷ hs) [] ps us readings makes reads here spots bound uses settled = absurd makes
@@ -328,7 +329,7 @@ none_left [] (suc n) h = refl
 none_left (x ∷ lens) zero h = absurd (omega arith)
 none_left (x ∷ lens) (suc n) h = none_left lens n (omega arith)
 
-are_lengths : (places : DeferredTarget → Option ℕ) (lens : List ℕ) (all : List (Item Core)) (n at : ℕ) (xs : List (Item Core)) (ps : List Piece) (us : List Use) (readings : List LineReading) → length lens ≡ n + entries xs → EachReads core_becomes lens all n xs ps → EachSettled places at ps us readings → lengths readings ≡ drop n lens
+pub are_lengths : (places : DeferredTarget → Option ℕ) (lens : List ℕ) (all : List (Item Core)) (n at : ℕ) (xs : List (Item Core)) (ps : List Piece) (us : List Use) (readings : List LineReading) → length lens ≡ n + entries xs → EachReads core_becomes lens all n xs ps → EachSettled places at ps us readings → lengths readings ≡ drop n lens
 are_lengths places lens all n at [] ps us readings count reads settled =
     let none : readings ≡ [] = subst (λ (l : List Piece). EachSettled places at l us readings) reads settled in
     ap lengths none ∙ sym (none_left lens n count)
@@ -372,7 +373,7 @@ jump_traps : (o : Option ℕ) (to : Label) (at : ℕ) (p : Piece) → traps_in (
 jump_traps None to at p = no_traps (target.Label to) (piece_field at p)
 jump_traps (Some spot) to at p = refl
 
-traps_are : (places : DeferredTarget → Option ℕ) (lens : List ℕ) (all : List (Item Core)) (n at : ℕ) (xs : List (Item Core)) (ps : List Piece) (us : List Use) (readings : List LineReading) → EachReads core_becomes lens all n xs ps → EachSettled places at ps us readings → traps_in (all_told core_becomes all at xs ps) ≡ traps_told xs at readings
+pub traps_are : (places : DeferredTarget → Option ℕ) (lens : List ℕ) (all : List (Item Core)) (n at : ℕ) (xs : List (Item Core)) (ps : List Piece) (us : List Use) (readings : List LineReading) → EachReads core_becomes lens all n xs ps → EachSettled places at ps us readings → traps_in (all_told core_becomes all at xs ps) ≡ traps_told xs at readings
 traps_are places lens all n at [] ps us readings reads settled = refl
 traps_are places lens all n at (item.Bind label ∷ xs) ps us readings reads settled = traps_are places lens all n at xs ps us readings reads settled
 traps_are places lens all n at (item.Inst core ∷ xs) [] us readings reads settled = absurd reads
@@ -423,13 +424,13 @@ outside_above high i ((at, target.Constant c) ∷ us) h k = let e : at + 4 ≤ h
 outside_above high i ((at, target.None) ∷ us) h k = outside_above high i us h k.1
 
 -- what is behind all fields is outside of them
-all_outside : (ps : List Piece) (n i : ℕ) (s : State) (places : DeferredTarget → Option ℕ) → Laid ps n s places → n ≤ i → All (IsOutside i) (links (uses_of s.notices))
+pub all_outside : (ps : List Piece) (n i : ℕ) (s : State) (places : DeferredTarget → Option ℕ) → Laid ps n s places → n ≤ i → All (IsOutside i) (links (uses_of s.notices))
 all_outside ps n i s places h behind =
     let size : length (take n s.bytes) ≡ n = length-take-le n s.bytes h.within in
     let below : Below (0 + length (take n s.bytes)) (piece_fields 0 ps) = fields_below 0 ps (take n s.bytes) h.reads h.opened in
     outside_above (0 + length (take n s.bytes)) i (uses_of s.notices) (omega (arith, size, behind)) (subst (λ (l : List ℕ). Below (0 + length (take n s.bytes)) l) (sym h.told) below)
 
-rest_stays : (n : ℕ) (old new : List ℕ) → length new ≡ length old → ((i : ℕ) → n ≤ i → get_or new i 0 ≡ get_or old i 0) → drop n new ≡ drop n old
+pub rest_stays : (n : ℕ) (old new : List ℕ) → length new ≡ length old → ((i : ℕ) → n ≤ i → get_or new i 0 ≡ get_or old i 0) → drop n new ≡ drop n old
 rest_stays n old new size same =
     let a : length (drop n new) ≡ length new - n = length-drop n new in
     let b : length (drop n old) ≡ length old - n = length-drop n old in
@@ -470,20 +471,33 @@ all_assembled given items s places new h out size others =
       least = subst (λ (l : List ℕ). IsLeast (list_spans xs) l) (sym long) front.put.least;
     }
 
-pub all_put : (given : ℕ) (items : List HqItem) (code : List ℕ) (uses heard : List HqUse) (done : HqDone) (s : State) (places : DeferredTarget → Option ℕ) (bytes : List ℕ) → (h : Behind given (code_of items) (data_of items) s places) → LaidOut h.items.put.more (length h.before.bytes) s places bytes → length bytes ≡ length s.bytes → ((i : ℕ) → All (IsOutside i) (links (uses_of s.notices)) → get_or bytes i 0 ≡ get_or s.bytes i 0) → heard ≡ traps_in s.notices → done.items ≡ length items → done.bytes ≡ length bytes → done.uses ≡ length heard → AssembledTo items code (bytes ++ drop (length bytes) code) uses (heard ++ drop (length heard) uses) done
-all_put given items code uses heard done s places bytes h out size others traps number len count =
+abbrev all_counted : (given : ℕ) (items : List HqItem) (heard : List HqUse) (done : HqDone) (s : State) (places : DeferredTarget → Option ℕ) (bytes : List ℕ) → (h : Behind given (code_of items) (data_of items) s places) → LaidOut h.items.put.more (length h.before.bytes) s places bytes → length bytes ≡ length s.bytes → ((i : ℕ) → All (IsOutside i) (links (uses_of s.notices)) → get_or bytes i 0 ≡ get_or s.bytes i 0) → heard ≡ traps_in s.notices → done.items ≡ length items → done.bytes ≡ length bytes → done.uses ≡ length heard → Counted items done
+all_counted given items heard done s places bytes h out size others traps number len count =
     let front : HasItems given (code_of items) h.before h.old = h.items in
     let xs : List (Item Core) = front.list in
     let start : length front.before.bytes ≡ 0 = ap (λ (l : List ℕ). length l) front.bytes in
     let notices : s.notices ≡ all_told core_becomes xs 0 xs front.put.more = h.notices ∙ front.put.told ∙ ap (λ (l : List Notice). l ++ all_told core_becomes xs (length front.before.bytes) xs front.put.more) front.notices ∙ ap (λ (n : ℕ). all_told core_becomes xs n xs front.put.more) start in
     record {
       added = bytes;
-      front = ap (λ (n : ℕ). bytes ++ drop n code) (sym len);
-      len = len;
-      number = number;
       assembled = all_assembled given items s places bytes h out size others;
       traps = heard;
       are = traps ∙ ap traps_in notices ∙ traps_are places front.put.lens xs 0 0 xs front.put.more (uses_of s.notices) out.now front.put.reads out.settled;
-      told = ap (λ (n : ℕ). heard ++ drop n uses) (sym count);
+      number = number;
+      len = len;
       count = count;
     }
+
+abbrev pub finished_counted : {T E : Type 0} (r : Result T E) (given : ℕ) (items : List HqItem) (heard : List HqUse) (done : HqDone) (s : State) (places : DeferredTarget → Option ℕ) (new bytes : List ℕ) → is_err r ≡ false → Behind given (code_of items) (data_of items) s places → ((pieces : List Piece) (n : ℕ) → Laid pieces n s places → OnOk r (LaidOut pieces n s places new)) → length new ≡ length s.bytes → ((i : ℕ) → All (IsOutside i) (links (uses_of s.notices)) → OnOk r (get_or new i 0 ≡ get_or s.bytes i 0)) → bytes ≡ new → heard ≡ traps_in s.notices → done.items ≡ length items → done.bytes ≡ length bytes → done.uses ≡ length heard → Counted items done
+finished_counted r given items heard done s places new bytes well h laid size others same traps number len count =
+    all_counted given items heard done s places bytes h
+    (subst (λ (l : List ℕ). LaidOut h.items.put.more (length h.before.bytes) s places l) (sym same) (finished r well (laid h.items.put.more (length h.before.bytes) h.laid)))
+    (ap (λ (l : List ℕ). length l) same ∙ size)
+    (λ i outside. ap (λ (l : List ℕ). get_or l i 0) same ∙ finished r well (others i outside))
+    traps number len count
+
+pub either_full : (a b c d : ℕ) → (nat_lt a b || nat_lt c d) ≡ true → (a < b) ⊎ (c < d)
+either_full a b c d h = by_first (nat_lt a b) refl h
+  where
+    by_first : (t : Bool) → nat_lt a b ≡ t → (t || nat_lt c d) ≡ true → (a < b) ⊎ (c < d)
+    by_first true e k = inl (grind (arith, nat_tests, e))
+    by_first false e k = inr (grind (arith, nat_tests, k))

@@ -224,26 +224,30 @@ pub record UnboundAt (items : List HqItem) (number : ℕ) : Type 0 where
   pub unbound : IsPlaceless items goes_to
   pub first : (k : ℕ) (earlier : HqItem) (other : DeferredTarget) → k < number → slice_get items k ≡ Some earlier → RefersTo earlier other → IsPlaceless items other → ⊥
 
--- nothing was put: the items can't be listed; or what one refers to has no place, or is too far; or there is too little room,
--- and it's told how many bytes and traps there are
+-- It's told how many items, bytes and traps all of them have.
+pub record Counted (items : List HqItem) (done : HqDone) : Type 0 where
+  pub added : List ℕ
+  pub assembled : Assembled items added
+  pub traps : List HqUse
+  pub are : traps ≡ traps_told assembled.list 0 assembled.readings
+  pub number : done.items ≡ length items
+  pub len : done.bytes ≡ length added
+  pub count : done.uses ≡ length traps
+
+-- nothing was put: the items can't be listed; or what one refers to has no place, or is too far; or there is too little room
+-- for what all of them have, which is told
 abbrev pub NotAssembled : List HqItem → ℕ → ℕ → HqDone → ℤ → Type 0
 NotAssembled items room places done status =
     Unlisted items done.items status
     ⊎ (((status ≡ pos 15) × UnboundAt items done.items)
     ⊎ ((status ≡ pos 9)
-    ⊎ ((status ≡ pos 6) × ((room < done.bytes) ⊎ (places < done.uses)))))
+    ⊎ ((status ≡ pos 6) × Counted items done × ((room < done.bytes) ⊎ (places < done.uses)))))
 
 -- The bytes of all items stand at the front, as many as told, and so do the traps of the code; behind them all is as before.
 pub record AssembledTo (items : List HqItem) (code code' : List ℕ) (uses uses' : List HqUse) (done : HqDone) : Type 0 where
-  pub added : List ℕ
-  pub front : code' ≡ added ++ drop done.bytes code
-  pub len : done.bytes ≡ length added
-  pub number : done.items ≡ length items
-  pub assembled : Assembled items added
-  pub traps : List HqUse
-  pub are : traps ≡ traps_told assembled.list 0 assembled.readings
-  pub told : uses' ≡ traps ++ drop done.uses uses
-  pub count : done.uses ≡ length traps
+  pub counted : Counted items done
+  pub front : code' ≡ counted.added ++ drop done.bytes code
+  pub told : uses' ≡ counted.traps ++ drop done.uses uses
 
 abbrev pub AssembledAs : List HqItem → List ℕ → List ℕ → List HqUse → List HqUse → HqDone → ℤ → Type 0
 AssembledAs items code code' uses uses' done status =

@@ -1,10 +1,9 @@
 use Rattle.std.proofs.Common.{◌≡◌, ◌∙◌, ℕ, ℤ, inl, inr, refl, sym, ap, subst, rules, Option, List, All, ◌++◌, drop, get_or, length, FitsSigned, w32}
 use Rattle.std.proofs.lemmas.Int.{to_z-of_z}
 use Rattle.cax64_sink.specs.declared.DeferredTarget.{DeferredTarget}
-use Rattle.huqmeris_c.proofs.Made.{finished}
 use Rattle.huqmeris_c.proofs.Opened.{unbound_at}
-use Rattle.huqmeris_c.proofs.Settled.{all_put}
-use Rattle.huqmeris_c.specs.Items.{AssembledTo, Unlisted}
+use Rattle.huqmeris_c.proofs.Settled.{either_full, finished_counted}
+use Rattle.huqmeris_c.specs.Items.{AssembledTo, Counted, Unlisted}
 use Rattle.huqmeris_c.proofs.Splits.{joined}
 use Rattle.huqmeris_c.specs.Data.{code_of, data_of}
 use Rattle.huqmeris_c.specs.Putting.{Behind, HasPlaces, OpenAt, traps_in}
@@ -29,20 +28,23 @@ returns-then-is_err c =
     let are : HasPlaces (places_of c.put_items.new.buffer) c.args.items.now = subst (λ (l : List HqItem). HasPlaces (places_of c.put_items.new.buffer) l) (joined c.args.items.now) c.in_default.ensures.put.are in
     inr (refl, refl, inr (inl (refl, unbound_at c.args.items.now (places_of c.put_items.new.buffer) c.in-Some.number are found)))
 
+pub returns-then-code-bytes : goal.returns-then-code-bytes
+returns-then-code-bytes c =
+    let bytes : List ℕ = c.bytes-bytes.result.now in
+    let heard : List HqUse = c.as_slice-told.result.now in
+    let done : HqDone = record { items = length c.args.items.now; bytes = length bytes; uses = length heard } in
+    let counted : Counted c.args.items.now done = finished_counted c.finish_in_place.result (length c.args.items.now) c.args.items.now heard done (buffer_state c.put_items.new.buffer) (places_of c.put_items.new.buffer) (buffer_state c.finish_in_place.new.self).bytes bytes (sym c.is_err.ensures.value ∙ c.if-is_err.false) c.in_default.ensures.put c.finish_in_place.ensures.laid c.finish_in_place.ensures.length c.finish_in_place.ensures.others c.bytes-bytes.ensures (c.as_slice-told.ensures.value ∙ c.in_default-list_traps.ensures.listed ∙ ap traps_in c.notices.ensures) refl refl refl in
+    inr (refl, refl, inr (inr (inr (refl, counted, either_full (length c.args.code.now) (length bytes) (length c.args.uses.now) (length heard) c.if-code-bytes.true))))
+
 pub returns : goal.returns
 returns c =
     let bytes : List ℕ = c.bytes-bytes.result.now in
     let heard : List HqUse = c.as_slice-told.result.now in
     let done : HqDone = record { items = length c.args.items.now; bytes = length bytes; uses = length heard } in
-    let s : State = buffer_state c.put_items.new.buffer in
-    let places : DeferredTarget → Option ℕ = places_of c.put_items.new.buffer in
-    let h : Behind (length c.args.items.now) (code_of c.args.items.now) (data_of c.args.items.now) s places = c.in_default.ensures.put in
-    let well = sym c.is_err.ensures.value ∙ c.if-is_err.false in
-    let laid = c.finish_in_place.ensures.laid h.items.put.more (length h.before.bytes) h.laid in
-    let out : LaidOut h.items.put.more (length h.before.bytes) s places (buffer_state c.finish_in_place.new.self).bytes = finished c.finish_in_place.result well laid in
-    let here : LaidOut h.items.put.more (length h.before.bytes) s places bytes = subst (λ (l : List ℕ). LaidOut h.items.put.more (length h.before.bytes) s places l) (sym c.bytes-bytes.ensures) out in
-    let size : length bytes ≡ length s.bytes = ap (λ (l : List ℕ). length l) c.bytes-bytes.ensures ∙ c.finish_in_place.ensures.length in
-    let others : (i : ℕ) → All (IsOutside i) (links (uses_of s.notices)) → get_or bytes i 0 ≡ get_or s.bytes i 0 = λ i outside. ap (λ (l : List ℕ). get_or l i 0) c.bytes-bytes.ensures ∙ finished c.finish_in_place.result well (c.finish_in_place.ensures.others i outside) in
-    let put : AssembledTo c.args.items.now c.args.code.now (bytes ++ drop (length bytes) c.args.code.now) c.args.uses.now (heard ++ drop (length heard) c.args.uses.now) done = all_put (length c.args.items.now) c.args.items.now c.args.code.now c.args.uses.now heard done s places bytes h here size others (c.as_slice-told.ensures.value ∙ c.in_default-list_traps.ensures.listed ∙ ap traps_in c.notices.ensures) refl refl refl in
+    let put : AssembledTo c.args.items.now c.args.code.now (bytes ++ drop (length bytes) c.args.code.now) c.args.uses.now (heard ++ drop (length heard) c.args.uses.now) done = record {
+      counted = finished_counted c.finish_in_place.result (length c.args.items.now) c.args.items.now heard done (buffer_state c.put_items.new.buffer) (places_of c.put_items.new.buffer) (buffer_state c.finish_in_place.new.self).bytes bytes (sym c.is_err.ensures.value ∙ c.if-is_err.false) c.in_default.ensures.put c.finish_in_place.ensures.laid c.finish_in_place.ensures.length c.finish_in_place.ensures.others c.bytes-bytes.ensures (c.as_slice-told.ensures.value ∙ c.in_default-list_traps.ensures.listed ∙ ap traps_in c.notices.ensures) refl refl refl;
+      front = refl;
+      told = refl;
+    } in
     let codes = subst (λ (l : List ℕ). AssembledTo c.args.items.now c.args.code.now (l ++ drop (length bytes) c.args.code.now) c.args.uses.now (heard ++ drop (length heard) c.args.uses.now) done) (sym c.copy_from_slice.ensures.after) put in
     inl (refl, subst (λ (l : List HqUse). AssembledTo c.args.items.now c.args.code.now (c.copy_from_slice.new.self ++ drop (length bytes) c.args.code.now) c.args.uses.now (l ++ drop (length heard) c.args.uses.now) done) (sym c.copy_from_slice-2.ensures.after) codes)
