@@ -874,16 +874,17 @@ const _: () = assert!(size_of::<hq_item>() == 32 && align_of::<hq_item>() == 4);
 
 #[link(name = "huqmeris", kind = "static")]
 unsafe extern "C" {
-    /// Assembles items into the front of some bytes, all of them or nothing: instructions, places of labels, and jumps to them; behind
-    /// them data, which instructions refer to as constants or labels. The first item that is data begins it: behind that no
+    /// Assembles items into the front of some bytes, all of them or nothing: instructions, places of labels, and jumps to them;
+    /// behind them data, which instructions refer to as constants or labels. The first item that is data begins it: behind that no
     /// instruction and no jump may stand.
     ///
     /// A label's number is below that of all items. Each jump has the shortest form in which all of them reach: no choice of forms
-    /// has fewer bytes. A jump to a label behind data has its long form. An instruction may refer to a label too. At `HQ_OK` `done`
-    /// has how many items, bytes and traps there are, at `HQ_FULL` how many there would be; at another status `items` is the number of the
-    /// item that is refused, from 0: the first that is none, or else the first that has a fault or whose label or constant can't be
-    /// bound, or else the first that refers to what has no place. `uses` gets the traps of instructions,
-    /// in their order, each at the place of the instruction. No late offset is known.
+    /// has fewer bytes. A jump to a label behind data has its long form. An instruction may refer to a label too. `uses` gets the
+    /// traps of the instructions, in their order, each at the place of its instruction. No late offset is known.
+    ///
+    /// At `HQ_OK` `done` has how many items, bytes and traps there are, at `HQ_FULL` how many there would be. At another status
+    /// `items` is the number of the item that is refused, from 0: the first that is none, or else the first that has a fault or whose
+    /// label or constant can't be bound, or else the first that refers to what has no place.
     ///
     /// It asks for memory, and has given all of it back when it answers.
     pub unsafe fn hq_assemble(items: *const hq_item, items_len: usize, code: *mut u8, code_len: usize, uses: *mut hq_use, uses_len: usize, done: *mut hq_done) -> i32;
