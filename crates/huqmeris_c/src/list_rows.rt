@@ -236,16 +236,19 @@ fn traps_are_told(rt: HostRuntime) {
         number: 79,
     };
     let (mut code, mut uses, mut done) = ([0xCC; 15], [blank; 3], HqDone::NOTHING);
+    let (mut short, mut few) = ([0xCC; 13], [blank; 1]);
     assert_eq!(rt;
-        hq_assemble(rt.alloc(), &items, &mut code, &mut uses[..1], &mut done),
+        hq_assemble(rt.alloc(), &items, &mut code, &mut few, &mut done),
         HQ_FULL
     );
     assert_eq!(rt; (done.items, done.bytes, done.uses), (7, 14, 2));
     assert_eq!(rt;
-        hq_assemble(rt.alloc(), &items, &mut code[..13], &mut uses, &mut done),
+        hq_assemble(rt.alloc(), &items, &mut short, &mut uses, &mut done),
         HQ_FULL
     );
     assert_eq!(rt; (done.items, done.bytes, done.uses), (7, 14, 2));
+    assert_eq!(rt; short.as_slice(), [0xCC; 13].as_slice());
+    assert_eq!(rt; few.as_slice(), [blank; 1].as_slice());
     let unbound = [items[0], label(HQ_ITEM_JMP, 0)];
     assert_eq!(rt;
         hq_assemble(rt.alloc(), &unbound, &mut code, &mut uses, &mut done),
