@@ -1,4 +1,4 @@
-use Rattle.std.proofs.Common.{◌≡◌, ℕ, ◌+◌, ◌≤◌, Bool, true, false, refl, ap, ◌∙◌, Option, Some, None, List, [], ◌∷◌, ◌++◌, length, length-append, append_assoc, arith}
+use Rattle.std.proofs.Common.{◌≡◌, ℕ, ◌≤◌, Bool, true, false, refl, ap, ◌∙◌, Option, Some, None, List, [], ◌∷◌, ◌++◌, length, length-append, append_assoc, arith}
 use Rattle.std.specs.Prelude.{option_map, if◌then◌else◌}
 use Rattle.std.proofs.lemmas.Bool.Decides.{nat_tests}
 use Rattle.cax64_address.specs.Emitted as address
@@ -47,7 +47,11 @@ code_is own trap prefix opcode tail front target long word imm w e f = rw (w, e,
 pub encodes_same : {M : Type 0} (parts : Parts) (memory : Option (Amode M)) (a b : List Action) → a ≡ b → EncodesParts parts memory b → EncodesParts parts memory a
 encodes_same parts memory a b e h = rw e h
 
-opcode_few : (opcode : Opcode) → length (opcode_bytes opcode) ≤ 2
+pub byte_few : (byte : Option ℕ) → length (byte_of byte) ≤ 1
+byte_few None = omega arith
+byte_few (Some byte) = omega arith
+
+pub opcode_few : (opcode : Opcode) → length (opcode_bytes opcode) ≤ 2
 opcode_few opcode = rw (opcode_length opcode) (by_escape opcode.escape)
   where
     by_escape : (escape : Bool) → (if escape then 2 else 1) ≤ 2
@@ -55,14 +59,16 @@ opcode_few opcode = rw (opcode_length opcode) (by_escape opcode.escape)
     by_escape false = omega arith
 
 -- They are few, by what is tested of a line, whatever the opcode is.
-pub front_few : (line : Line) (prefix written : List ℕ) (opcode : Opcode) → is_line line ≡ true → length prefix ≤ prefix_size line.prefix → written ≡ opcode_bytes opcode → length prefix + length written ≤ 5
-front_few line prefix written opcode h size is =
+pub head_few : (line : Line) (prefix head : List ℕ) (opcode : Opcode) → is_line line ≡ true → length prefix ≤ prefix_size line.prefix → head ≡ prefix ++ opcode_bytes opcode → length head ≤ 5
+head_few line prefix head opcode h size is =
     let facts = line_facts line h in
     let most : prefix_size line.prefix ≤ 3 = grind (arith, nat_tests, facts.front) in
-    rw is (omega (arith, size, most, opcode_few opcode))
+    rw (is, length-append prefix (opcode_bytes opcode)) (omega (arith, size, most, opcode_few opcode))
 
-pub opcode_some : (written : List ℕ) (opcode : Opcode) → written ≡ opcode_bytes opcode → 1 ≤ length written
-opcode_some written opcode is = rw (is, opcode_length opcode) (by_escape opcode.escape)
+pub head_some : (prefix head : List ℕ) (opcode : Opcode) → head ≡ prefix ++ opcode_bytes opcode → 1 ≤ length head
+head_some prefix head opcode is =
+    let some : 1 ≤ length (opcode_bytes opcode) = rw (opcode_length opcode) (by_escape opcode.escape) in
+    rw (is, length-append prefix (opcode_bytes opcode)) (omega (arith, some))
   where
     by_escape : (escape : Bool) → 1 ≤ (if escape then 2 else 1)
     by_escape true = omega arith

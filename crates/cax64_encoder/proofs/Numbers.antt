@@ -162,6 +162,14 @@ module _ (numbers : NumberedPlace) (e : IsNumbered numbers) (stands : numbers.st
         by_index false e h = rw (no_index numbers e) refl
         by_index true e h = rw (index_other numbers h) refl
 
+    -- it has an index where the number of one isn't 4
+    pub index_marked : numbers.has_index ≡ not (numbers.index == 4)
+    index_marked = by_index numbers.has_index refl (rw address_named at e) (rw address_named at h)
+      where
+        by_index : (i : Bool) → numbers.has_index ≡ i → numbers ≡ numbered_place plain (flags_named true None false i numbers) → place_is_real plain.settled plain.enc (flags_named true None false i numbers) ≡ true → numbers.has_index ≡ not (numbers.index == 4)
+        by_index false is e h = rw (is, no_index numbers e) refl
+        by_index true is e h = rw (is, index_other numbers h) refl
+
     -- what is put for the tail of its base is its tail
     pub address_tail : (reg : ℕ) (acts : List Action) → TailOf (numbers.index / 8) (numbers.base / 8) 1 (reg % 8) (Mem (Some numbers.base) (index_named numbers.index numbers.scale) disp) (λ at. []) acts → TailPartOf plain.enc disp at_end reg (place_named numbers) acts
     address_tail reg acts tail = rw address_named (by_index numbers.has_index (rw address_named at e) (rw address_named at h))

@@ -250,7 +250,7 @@ vex_is line pp map l h = vex_by_prefix line.prefix line.opcode line.tail pp map 
 itself : (a : ℕ) → (a == a) ≡ true
 itself a = grind (arith, nat_tests)
 
-vex_length : (vex : VexPrefix) → length (vex_bytes vex) ≤ 3
+pub vex_length : (vex : VexPrefix) → length (vex_bytes vex) ≤ 3
 vex_length (TwoByte last) = omega arith
 vex_length (ThreeByte second last) = omega arith
 

@@ -1,17 +1,14 @@
 use Rattle.std.proofs.Common.{◌≡◌, ℕ, ◌+◌, ◌*◌, ◌/◌, ◌%◌, ◌<◌, ◌≤◌, ℤ, true, false, arith, refl, ◌∙◌, ap, List, [], ◌∷◌, Some, None, length}
-use Rattle.cax64_machine_code.specs.Len.{tail_len}
+use Rattle.cax64_machine_code.specs.Len.{least_tail, tail_len}
 use Rattle.cax64_machine_code.specs.Tail.{read_tail}
 use Rattle.cax64_machine_code.specs.declared.reading.Place.{Place}
 use Rattle.cax64_machine_code.specs.declared.reading.Place.TheVariants.{Reg, Mem}
 use Rattle.cax64_machine_code.specs.declared.reading.RegView.TheVariants.{Low}
 use Rattle.cax64_machine_code.proofs.Tails.{register_back}
-use Rattle.cax64_sink.specs.Call.{put}
+use Rattle.cax64_sink.specs.Call.{Action, put}
 use Rattle.cax64_sink.specs.Run.{all_bytes}
 use Rattle.cax64_address.specs.Emitted.{TailOf}
-use Rattle.cax64_address.specs.Length.{least_tail_under}
-use Rattle.cax64_address.specs.Memory.{index_named, memory_actions}
-use Rattle.cax64_address.specs.declared.memory.MemoryTail.{MemoryTail}
-use Rattle.cax64_address.proofs.TailLengths.{without_factor}
+use Rattle.cax64_address.specs.Memory.{index_named}
 use Rattle.cax64_encoder.specs.Encodes.{TailPartOf}
 use Rattle.cax64_encoder.specs.Numbered.{IsNumbered, plain, place_named, place_is_real}
 use Rattle.cax64_encoder.specs.Place.{place_read}
@@ -47,11 +44,11 @@ module _ (numbers : NumberedPlace) (e : IsNumbered numbers) (stands : numbers.st
   register_place_tail disp at_end reg modrm byte = rw (register_named numbers e stands absent r) (register_tail reg numbers.base modrm byte)
 
 -- The tail of a base.
-module _ (numbers : NumberedPlace) (e : IsNumbered numbers) (h : place_is_real numbers ≡ true) (stands : numbers.stands ≡ true) (absent : numbers.relative ≡ None) (r : numbers.is_register ≡ false) (tail : MemoryTail) where
-  pub memory_place_tail : (disp : ℤ) (at_end reg : ℕ) → TailOf (numbers.index / 8) (numbers.base / 8) 1 (reg % 8) (Mem (Some numbers.base) (index_named numbers.index numbers.scale) disp) (λ at. []) (memory_actions tail) → TailPartOf plain.enc disp at_end reg (place_named numbers) (memory_actions tail)
-  memory_place_tail disp at_end reg t = address_tail numbers e stands absent h r disp at_end reg (memory_actions tail) t
+module _ (numbers : NumberedPlace) (e : IsNumbered numbers) (h : place_is_real numbers ≡ true) (stands : numbers.stands ≡ true) (absent : numbers.relative ≡ None) (r : numbers.is_register ≡ false) (acts : List Action) where
+  pub base_place_tail : (disp : ℤ) (at_end reg : ℕ) → TailOf (numbers.index / 8) (numbers.base / 8) 1 (reg % 8) (Mem (Some numbers.base) (index_named numbers.index numbers.scale) disp) (λ at. []) acts → TailPartOf plain.enc disp at_end reg (place_named numbers) acts
+  base_place_tail disp at_end reg t = address_tail numbers e stands absent h r disp at_end reg acts t
 
-  pub memory_place_length : (disp : ℤ) (at_end : ℕ) → length (all_bytes (memory_actions tail)) ≡ least_tail_under 1 (Mem (Some numbers.base) (index_named numbers.index numbers.scale) disp) → length (all_bytes (memory_actions tail)) ≡ tail_len (place_read plain.enc disp at_end (place_named numbers))
-  memory_place_length disp at_end count =
+  pub base_place_length : (disp : ℤ) (at_end : ℕ) → length (all_bytes acts) ≡ least_tail (Mem (Some numbers.base) (index_named numbers.index numbers.scale) disp) → length (all_bytes acts) ≡ tail_len (place_read plain.enc disp at_end (place_named numbers))
+  base_place_length disp at_end count =
       let place : Place = Mem (Some numbers.base) (index_named numbers.index numbers.scale) disp in
-      rw (address_read numbers e stands absent h r disp at_end) (count ∙ without_factor None place refl)
+      rw (address_read numbers e stands absent h r disp at_end) count

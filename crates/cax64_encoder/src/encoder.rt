@@ -3,7 +3,6 @@
 ghost use Rattle.std.specs.Prelude.{◌≡◌, ◌∷◌, [], ◌==◌, ◌<◌, ◌≤◌, ◌/◌, ◌&&◌, ◌||◌, ◌↔◌, nat_le, IsTrue, IsSome, IsOk, IfErr, true, Option, OnOk, OnErr, option_map, length};
 ghost use Rattle.std.specs.Int.{from_bool};
 ghost use Rattle.cax64_address.specs.Emitted as address;
-ghost use Rattle.cax64_address.specs.Memory.{memory_actions};
 ghost use Rattle.cax64_encoder.specs.Code.{IsCode, tail_actions, code_actions};
 ghost use Rattle.cax64_encoder.specs.Encodes.{TailPartOf, EncodesParts, EncodesAs, form_parts};
 ghost use Rattle.cax64_encoder.specs.AddsLine.{AddsLine, LeavesLine};
@@ -13,7 +12,8 @@ ghost use Rattle.cax64_table.specs.Entry.{has_tail};
 ghost use Rattle.cax64_encoder.specs.Meant.{meant_of};
 ghost use Rattle.cax64_encoder.specs.Numbered.{HasImmWord, IsNumbered, plain, place_named, form_named, place_is_real, form_is_real};
 ghost use Rattle.cax64_encoder.specs.Place.{memory_in, place_read};
-ghost use Rattle.cax64_encoder.specs.Prefix.{register_number, PrefixFor};
+ghost use Rattle.cax64_encoder.specs.Head.{IsHead};
+ghost use Rattle.cax64_encoder.specs.Prefix.{register_number};
 ghost use Rattle.cax64_encoder.specs.Real.{is_absent_or_real};
 ghost use Rattle.cax64_encoder.specs.Task.{Asked, Kept};
 ghost use Rattle.cax64_encoder.specs.declared.number.Number.TheVariants.{Settled};
@@ -35,8 +35,8 @@ use crate::front;
 use crate::nop::nop_code;
 use crate::numbered::{NumberedForm, NumberedPlace};
 use crate::short::Short;
+use crate::tails::base_part;
 use cax64_address::disp::encode_modrm;
-use cax64_address::memory::{MemoryTail, memory_tail};
 use cax64_address::tail::{TailCode, relative_tail};
 use cax64_machine_code::row::Row;
 use cax64_operand::RegisterFamily;
@@ -69,20 +69,21 @@ fn register_number(register: Option<u8>) -> u8
     register.unwrap_or(0)
 }
 
-/// What stands before the opcode of a line, with this register in reg, 0 where a digit or nothing stands there.
+/// What stands before the tail of a line, with this register in reg, 0 where a digit or nothing stands there.
 #[inline(always)]
-fn prefix_of(entry: Entry, reg: u8, vvvv: Option<u8>, place: &NumberedPlace) -> Short
+fn head(entry: Entry, reg: u8, vvvv: Option<u8>, place: &NumberedPlace) -> Short
     requires reg { reg < 16 }
     requires vvvv { IsTrue (is_absent_or_real (option_map Settled vvvv)) }
     requires numbered { IsNumbered place.now }
     requires place { IsTrue (place_is_real place.now) }
     requires vvvv_fits { IsTrue (vvvv_fits (entry_line entry).prefix (option_map Settled vvvv)) }
     requires bare { IsTrue (has_tail (entry_line entry).tail || (is_no_place (place_named place.now) && (reg == 0))) }
-    ensures { PrefixFor plain.enc (entry_line entry) reg (option_map Settled vvvv) (place_named place.now) result }
+    ensures { IsHead (entry_line entry) reg (option_map Settled vvvv) (place_named place.now) result }
 {
     let w = entry.w();
+    let opcode = front::opcode(entry);
     if entry.is_vex() {
-        return front::vex(VexPrefix::three_op(
+        let prefix = VexPrefix::three_op(
             reg,
             register_number(vvvv),
             (Some(place.base), Some(place.index)),
@@ -90,10 +91,11 @@ fn prefix_of(entry: Entry, reg: u8, vvvv: Option<u8>, place: &NumberedPlace) -> 
             entry.pp(),
             entry.map(),
             w,
-        ));
+        );
+        return front::vex(prefix).append(opcode);
     }
     let rex = rex_of(w, entry.uses_8bit(), reg, place);
-    front::legacy(entry).append(Short::optional(rex.byte()))
+    front::legacy(entry).append(opcode.behind(rex.byte()))
 }
 
 /// A tail relative to the end as a few bytes and what follows them.
@@ -108,21 +110,6 @@ fn relative_part(code: TailCode) -> TailPart
             .append(Short::optional(code.byte)),
         target: code.target,
         long: code.long,
-    }
-}
-
-/// A tail of a base as a few bytes and what follows them.
-#[inline(always)]
-fn memory_part(tail: MemoryTail) -> TailPart
-    ensures actions { tail_actions result ≡ memory_actions tail }
-    ensures few { length result.front ≤ 3 }
-{
-    TailPart {
-        front: Short::one(tail.modrm)
-            .append(Short::when(tail.has_sib, tail.sib))
-            .append(Short::when(tail.has_byte, tail.byte)),
-        target: None,
-        long: tail.long,
     }
 }
 
@@ -165,7 +152,14 @@ fn tail_part(reg: u8, place: &NumberedPlace, displacement: i32, bytes_at_end: u8
     if place.is_register {
         return register_part(encode_modrm(3, reg, place.base % 8));
     }
-    memory_part(memory_tail(reg, place.base, place.index, place.scale, displacement))
+    base_part(
+        reg,
+        place.base,
+        place.has_index,
+        place.index,
+        place.scale,
+        displacement,
+    )
 }
 
 /// The code of the instruction of a line with these operands, whose memory operand has this displacement.
@@ -184,10 +178,10 @@ pub fn code_of_entry(entry: Entry, form: &NumberedForm, displacement: i32) -> Co
     let reg = register + entry.digit();
     let imm_len = entry.imm_len();
     let tail = tail_part(reg, &form.place, displacement, imm_len);
-    let prefix = prefix_of(entry, register, form.vvvv, &form.place);
+    let head = head(entry, register, form.vvvv, &form.place);
     Code {
         trap: form.place.trap,
-        front: prefix.append(front::opcode(entry)).append(tail.front),
+        front: head.append(tail.front),
         target: tail.target,
         long: tail.long,
         imm: form.imm,

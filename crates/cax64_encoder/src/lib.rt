@@ -21,6 +21,7 @@ pub mod numbered;
 pub mod role;
 pub mod room;
 pub mod short;
+pub mod tails;
 mod task;
 mod tested;
 pub mod worked;

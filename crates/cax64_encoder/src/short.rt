@@ -93,6 +93,21 @@ impl Short {
         }
     }
 
+    /// The same behind a byte, if there is one. Nothing is tested.
+    #[inline(always)]
+    pub(crate) fn behind(self, byte: Option<u8>) -> Short
+        requires room { length self < 8 }
+        ensures bytes { result ≡ byte_of byte ++ self }
+        ensures length { length result ≡ length (byte_of byte) + length self }
+    {
+        let stands = byte.is_some();
+        let further = u64::from(byte.unwrap_or(0)) + 256 * self.word;
+        Short {
+            word: if stands { further } else { self.word },
+            len: self.len + u8::from(stands),
+        }
+    }
+
     /// How many bytes these are.
     #[inline(always)]
     pub(crate) fn len(&self) -> u8

@@ -18,7 +18,7 @@ use Rattle.cax64_encoder.specs.declared.role.PlaceOperand.{PlaceOperand}
 use Rattle.cax64_encoder.proofs.Lines.{line_facts, w_fits, w_zero}
 use Rattle.cax64_encoder.proofs.Numbers.{numbers_are, numbers_below}
 use Rattle.cax64_encoder.proofs.PrefixParts.{LegacyIs, legacy_is, legacy_for}
-use Rattle.cax64_inst_data.specs.Code.{IsHead}
+use Rattle.cax64_encoder.specs.Head.{IsHead}
 use Rattle.cax64_inst_data.specs.Form.{operand_by, place_operand}
 use Rattle.cax64_inst_data.specs.Head.{bit_at, head_of, rex_for, rex_when}
 use Rattle.cax64_inst_data.specs.Placed.{placed, placed_by}

@@ -1,27 +1,11 @@
 use Rattle.std.proofs.Common.{◌≡◌, ℕ, zero, suc, slice_index_or, ◌+◌, ◌*◌, ◌<◌, refl, ◌∙◌, ap, arith, []}
+use Rattle.cax64_encoder.proofs.TailTable.{by_eight, by_three}
 use Rattle.cax64_inst_data.specs.Tail.{kind_number, tail_entry}
 use Rattle.cax64_inst_data.specs.declared.place.PlaceKind.{PlaceKind}
 use Rattle.cax64_inst_data.specs.declared.place.PlaceKind.TheVariants.{Absent, Register, Base, BaseAndIndex, Label, Constant, NoTarget}
 use Rattle.cax64_inst_data.specs.declared.tails.TheConstants.{TAILS}
 
 -- The table of tails has what is said of each kind of place: it is computed for each entry.
-
-by_three : (P : ℕ → Type 0) → P 0 → P 1 → P 2 → (n : ℕ) → n < 3 → P n
-by_three P a b c zero l = a
-by_three P a b c (suc zero) l = b
-by_three P a b c (suc (suc zero)) l = c
-by_three P a b c (suc (suc (suc n))) l = absurd (omega (arith, l))
-
-pub by_eight : (P : ℕ → Type 0) → P 0 → P 1 → P 2 → P 3 → P 4 → P 5 → P 6 → P 7 → (n : ℕ) → n < 8 → P n
-by_eight P a b c d e f g h zero l = a
-by_eight P a b c d e f g h (suc zero) l = b
-by_eight P a b c d e f g h (suc (suc zero)) l = c
-by_eight P a b c d e f g h (suc (suc (suc zero))) l = d
-by_eight P a b c d e f g h (suc (suc (suc (suc zero)))) l = e
-by_eight P a b c d e f g h (suc (suc (suc (suc (suc zero))))) l = f
-by_eight P a b c d e f g h (suc (suc (suc (suc (suc (suc zero)))))) l = g
-by_eight P a b c d e f g h (suc (suc (suc (suc (suc (suc (suc zero))))))) l = h
-by_eight P a b c d e f g h (suc (suc (suc (suc (suc (suc (suc (suc n)))))))) l = absurd (omega (arith, l))
 
 abbrev pub EntryIs : PlaceKind → ℕ → ℕ → Type 0
 EntryIs kind class low = slice_index_or TAILS (kind_number kind * 32 + class * 8 + low) [] ≡ tail_entry kind class low

@@ -16,12 +16,6 @@ use Rattle.cax64_inst_data.specs.declared.place.DataPlace.{DataPlace}
 
 -- What the code of data is made of.
 
--- a prefix that a row's operands go with, and the opcode
-pub record IsHead (line : Line) (reg : ℕ) (vvvv : Option Number) (operand : PlaceOperand ℕ) (bytes : List ℕ) : Type 0 where
-  pub pre : List ℕ
-  pub is : bytes ≡ pre ++ opcode_bytes line.opcode
-  pub prefix : PrefixFor plain.enc line reg vvvv operand pre
-
 -- the register in vvvv, where the row has one
 abbrev pub vvvv_in : Row → ℕ → Option Number
 vvvv_in row vvvv = option_map Settled (when (has_vvvv (line_of row).prefix) vvvv)

@@ -1,7 +1,7 @@
 use Rattle.std.specs.Prelude.{ℕ, ◌+◌, ◌*◌, ◌%◌, ◌^◌, ◌==◌, nat_le, nat_lt, not, Bool, true, if◌then◌else◌, Option, Some, None, List, [], ◌∷◌, ◌++◌, pos, ◌-ℤ◌}
 use Rattle.std.specs.Int.{from_bool, cast_unsigned, w32}
 use Rattle.cax64_address.specs.Memory.{option_when}
-use Rattle.cax64_encoder.specs.ByteWhen.{byte_of}
+use Rattle.cax64_encoder.specs.Tails.{mode_of, memory_front}
 use Rattle.cax64_inst_data.specs.declared.place.PlaceKind.{PlaceKind}
 use Rattle.cax64_inst_data.specs.declared.place.PlaceKind.TheVariants.{Absent, Register, Base, BaseAndIndex, Label, Constant, NoTarget}
 
@@ -15,17 +15,6 @@ kind_number BaseAndIndex = 3
 kind_number Label = 4
 kind_number Constant = 5
 kind_number NoTarget = 6
-
--- by whether it is 0, and whether a byte holds it
-abbrev pub class_with : Bool → Bool → ℕ
-class_with zero small = from_bool (not zero) + from_bool (not small)
-
-abbrev pub class_of : ℕ → ℕ
-class_of word = class_with (word == 0) (nat_lt ((word + 128) % 4294967296) 256)
-
--- The field mod: beside low bits 5 a byte stands for 0 too.
-abbrev pub mode_of : ℕ → ℕ → ℕ
-mode_of class low = if class == 0 then from_bool (low == 5) else class
 
 -- by whether a SIB byte stands, the field mod, and the field rm
 abbrev pub memory_entry : Bool → ℕ → ℕ → List ℕ
@@ -43,9 +32,6 @@ tail_entry BaseAndIndex class low = memory_entry true (mode_of class low) 4
 tail_entry Label class low = relative_entry
 tail_entry Constant class low = relative_entry
 tail_entry NoTarget class low = relative_entry
-
-abbrev pub memory_front : Bool → ℕ → ℕ → ℕ → ℕ → ℕ → List ℕ
-memory_front has_sib mode rm reg sib byte = (((mode * 64 + reg * 8 + rm) ∷ []) ++ byte_of (option_when has_sib sib)) ++ byte_of (option_when (mode == 1) byte)
 
 -- ModR/M, SIB and a displacement of one byte
 abbrev pub front_of : PlaceKind → ℕ → ℕ → ℕ → ℕ → ℕ → List ℕ

@@ -12,7 +12,8 @@ ghost use Rattle.cax64_machine_code.specs.Rows.{line_of};
 ghost use Rattle.cax64_prefix.specs.Vex.{vex_bytes};
 ghost use Rattle.cax64_sink.specs.Run.{all_bytes};
 ghost use Rattle.cax64_table.specs.Numbers.{has_register, has_vvvv, is_vex};
-ghost use Rattle.cax64_inst_data.specs.Code.{IsHead, placed_form, vvvv_in};
+ghost use Rattle.cax64_encoder.specs.Head.{IsHead};
+ghost use Rattle.cax64_inst_data.specs.Code.{placed_form, vvvv_in};
 ghost use Rattle.cax64_inst_data.specs.Placed.{placed};
 
 use crate::heads::legacy_head;

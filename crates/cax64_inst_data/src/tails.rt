@@ -5,7 +5,8 @@ ghost use Rattle.cax64_encoder.specs.Code.{tail_actions};
 ghost use Rattle.cax64_inst_data.specs.Fits.{is_present};
 ghost use Rattle.cax64_inst_data.specs.Form.{place_operand};
 ghost use Rattle.cax64_inst_data.specs.Placed.{has_index, is_relative};
-ghost use Rattle.cax64_inst_data.specs.Tail.{class_of, front_of, kind_number, long_of, special_of, tail_entry};
+ghost use Rattle.cax64_encoder.specs.Tails.{class_of};
+ghost use Rattle.cax64_inst_data.specs.Tail.{front_of, kind_number, long_of, special_of, tail_entry};
 ghost use Rattle.cax64_inst_data.specs.TailPart.{IsTailPart};
 
 use crate::place::{DataPlace, PlaceKind};

@@ -14,12 +14,6 @@ use Rattle.cax64_place.specs.declared.place.DataPlace.{DataPlace}
 
 -- What the code of a line with a place is made of.
 
--- a prefix that a line's operands go with, and the opcode
-pub record IsHead (line : Line) (reg : ℕ) (vvvv : Option Number) (operand : PlaceOperand ℕ) (bytes : List ℕ) : Type 0 where
-  pub pre : List ℕ
-  pub is : bytes ≡ pre ++ opcode_bytes line.opcode
-  pub prefix : PrefixFor plain.enc line reg vvvv operand pre
-
 -- the register in vvvv, where the line has one
 abbrev pub vvvv_in : Line → ℕ → Option Number
 vvvv_in line vvvv = option_map Settled (when (has_vvvv line.prefix) vvvv)

@@ -4,7 +4,8 @@ ghost use Rattle.std.specs.Prelude.{◌≡◌, ◌≢◌, ◌<◌, ◌≤◌, fa
 ghost use Rattle.cax64_encoder.specs.Code.{tail_actions};
 ghost use Rattle.cax64_place.specs.Kind.{has_index, is_present, is_relative};
 ghost use Rattle.cax64_place.specs.Operand.{place_operand};
-ghost use Rattle.cax64_place.specs.Tail.{class_of, front_of, kind_number, long_of, tail_entry};
+ghost use Rattle.cax64_encoder.specs.Tails.{class_of};
+ghost use Rattle.cax64_place.specs.Tail.{front_of, kind_number, long_of, tail_entry};
 ghost use Rattle.cax64_place.specs.TailPart.{IsTailPart};
 
 use crate::place::{DataPlace, PlaceKind};

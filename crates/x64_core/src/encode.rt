@@ -80,7 +80,9 @@ impl Core {
         if self.is_encodable(sink) {
             return None;
         }
-        self.found_fault(sink)
+        // What is found is of a copy, so that the instruction itself needn't stand in memory.
+        let copy = *self;
+        copy.found_fault(sink)
     }
 
     /// The code of an instruction that can be encoded for this sink.
