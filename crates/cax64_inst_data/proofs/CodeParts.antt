@@ -95,6 +95,3 @@ pub low_reg : (operand : PlaceOperand ℕ) (v : ℤ) (at_end reg : ℕ) (acts : 
 low_reg place.TheVariants.NoPlace v at_end reg acts h = h
 low_reg (place.TheVariants.Register n) v at_end reg acts h = let e : reg % 8 % 8 ≡ reg % 8 = omega arith in rw e at h
 low_reg (place.TheVariants.Memory amode) v at_end reg acts h = let e : reg % 8 % 8 ≡ reg % 8 = omega arith in rw e at h
-
-pub head_length : (a b all : List ℕ) → all ≡ a ++ b → length all ≡ length a + length b
-head_length a b all e = ap (λ (l : List ℕ). length l) e ∙ length-append a b

@@ -28,7 +28,7 @@ use Rattle.cax64_inst_data.specs.declared.place.PlaceKind.{PlaceKind}
 use Rattle.cax64_inst_data.specs.declared.place.PlaceKind.TheVariants.{Absent, Register, Base, BaseAndIndex, Label, Constant, NoTarget}
 use Rattle.cax64_inst_data.proofs.Placed as place
 use Rattle.cax64_inst_data.proofs.HeadTable.{by_sixteen}
-use Rattle.cax64_inst_data.proofs.TailTable.{by_eight}
+use Rattle.cax64_encoder.proofs.TailTable.{by_eight}
 
 -- The head that is looked up is one for a row's operands.
 

@@ -30,7 +30,7 @@ use Rattle.cax64_place.specs.declared.place.PlaceKind.TheVariants.{Absent, Regis
 use Rattle.cax64_place.proofs.Placed as place
 use Rattle.cax64_place.proofs.Cases.{by_sixteen}
 use Rattle.cax64_place.proofs.Heads.{held_head}
-use Rattle.cax64_place.proofs.TailTable.{by_eight}
+use Rattle.cax64_encoder.proofs.TailTable.{by_eight}
 
 -- The head that is looked up is one for a line's operands.
 

@@ -1,5 +1,5 @@
 use Rattle.std.proofs.Common.{◌≡◌, ℕ, zero, suc, ◌%◌, ◌^◌, ◌<◌, ◌≤◌, sym, arith, Bool, true, false, List}
-use Rattle.std.specs.Prelude.{◌&&◌, ◌||◌, nat_eq, nat_le, nat_lt}
+use Rattle.std.specs.Prelude.{◌||◌, nat_eq, nat_le, nat_lt}
 use Rattle.std.specs.Cmp.Lexicographic.{pointwise, same_text}
 use Rattle.std.proofs.lemmas.Bool.{and_parts}
 use Rattle.std.proofs.lemmas.Bool.Decides.{nat_tests}
@@ -7,7 +7,7 @@ use Rattle.cax64_machine_code.specs.declared.line.Line.{Line}
 use Rattle.cax64_table.specs.Numbers.{is_vex}
 use Rattle.cax64_place.specs.Head.{head_of}
 use Rattle.cax64_place.specs.Heads.{all_high, are_heads, entry_in, head_bits, held_bytes, held_word, holds_head}
-use Rattle.cax64_place.proofs.TailTable.{by_eight}
+use Rattle.cax64_encoder.proofs.TailTable.{by_eight}
 
 -- The four numbers of a line hold its heads.
 

@@ -1,12 +1,8 @@
-use Rattle.std.specs.Prelude.{◌≡◌, ℕ, Option, option_map, List, ◌++◌}
-use Rattle.cax64_machine_code.specs.Line.{opcode_bytes}
+use Rattle.std.specs.Prelude.{ℕ, Option, option_map}
 use Rattle.cax64_machine_code.specs.declared.line.Line.{Line}
-use Rattle.cax64_encoder.specs.Numbered.{plain}
-use Rattle.cax64_encoder.specs.Prefix.{PrefixFor}
 use Rattle.cax64_encoder.specs.declared.number.Number.{Number}
 use Rattle.cax64_encoder.specs.declared.number.Number.TheVariants.{Settled}
 use Rattle.cax64_encoder.specs.declared.numbered.NumberedForm.{NumberedForm}
-use Rattle.cax64_encoder.specs.declared.role.PlaceOperand.{PlaceOperand}
 use Rattle.cax64_table.specs.Numbers.{has_register, has_vvvv}
 use Rattle.cax64_place.specs.Operand.{placed}
 use Rattle.cax64_place.specs.When.{when}

@@ -21,7 +21,7 @@ use Rattle.cax64_encoder.specs.Numbered.{plain, form_named}
 use Rattle.cax64_encoder.specs.Place.{place_read}
 use Rattle.cax64_encoder.specs.Prefix.{reg_number, register_number, PrefixFor}
 use Rattle.cax64_encoder.specs.Real.{trap_in}
-use Rattle.cax64_encoder.proofs.Fronts.{code_is, encodes_same, front_few, opcode_some}
+use Rattle.cax64_encoder.proofs.Fronts.{code_is, encodes_same, head_few, head_some}
 use Rattle.cax64_encoder.proofs.Lengths.{line_is, len_alike}
 use Rattle.cax64_encoder.proofs.Numbers.{numbers_are, numbers_below, imm_put, imm_fit}
 use Rattle.cax64_table.proofs.EntryFacts.{row_imm_len, row_is_line}
@@ -68,16 +68,14 @@ head-requires-clause-bare c =
 pub append-requires-clause-few : goal.append-requires-clause-few
 append-requires-clause-few c =
     let line = line_of c.args.row in
-    let few = front_few line c.head.ensures.pre (opcode_bytes line.opcode) line.opcode (row_is_line c.args.row) c.head.ensures.prefix.size refl in
-    let count = head_length c.head.ensures.pre (opcode_bytes line.opcode) c.head.result c.head.ensures.is in
-    omega (arith, few, count)
+    let few = head_few line c.head.ensures.pre c.head.result line.opcode (row_is_line c.args.row) c.head.ensures.prefix.size c.head.ensures.is in
+    omega (arith, few)
 
 pub append-requires-clause-room : goal.append-requires-clause-room
 append-requires-clause-room c =
     let line = line_of c.args.row in
-    let few = front_few line c.head.ensures.pre (opcode_bytes line.opcode) line.opcode (row_is_line c.args.row) c.head.ensures.prefix.size refl in
-    let count = head_length c.head.ensures.pre (opcode_bytes line.opcode) c.head.result c.head.ensures.is in
-    omega (arith, few, count, c.tail_part-tail.ensures.few)
+    let few = head_few line c.head.ensures.pre c.head.result line.opcode (row_is_line c.args.row) c.head.ensures.prefix.size c.head.ensures.is in
+    omega (arith, few, c.tail_part-tail.ensures.few)
 
 pub returns-clause-encodes : goal.returns-clause-encodes
 returns-clause-encodes c =
@@ -113,9 +111,8 @@ returns-clause-length c =
 pub returns-clause-is : goal.returns-clause-is
 returns-clause-is c =
     let line = line_of c.args.row in
-    let some = opcode_some (opcode_bytes line.opcode) line.opcode refl in
-    let count = head_length c.head.ensures.pre (opcode_bytes line.opcode) c.head.result c.head.ensures.is in
+    let some = head_some c.head.ensures.pre c.head.result line.opcode c.head.ensures.is in
     record {
-      front = omega (arith, some, count, c.append.ensures.length);
+      front = omega (arith, some, c.append.ensures.length);
       imm_len = rw c.imm_len-imm_len.ensures (row_imm_len _);
     }

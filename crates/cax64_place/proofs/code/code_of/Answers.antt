@@ -1,4 +1,4 @@
-use Rattle.std.proofs.Common.{◌≡◌, ℕ, ◌+◌, ◌∙◌, ap, refl, length, w32, arith, List}
+use Rattle.std.proofs.Common.{◌≡◌, ℕ, ◌+◌, ◌∙◌, ap, length, w32, arith, List}
 use Rattle.std.proofs.lemmas.Bool.{and_parts}
 use Rattle.std.proofs.lemmas.Int.{to_z-of_z}
 use Rattle.cax64_address.specs.Emitted.{target_actions}
@@ -20,14 +20,14 @@ use Rattle.cax64_encoder.specs.Numbered.{plain, form_named}
 use Rattle.cax64_encoder.specs.Place.{place_read}
 use Rattle.cax64_encoder.specs.Prefix.{reg_number, register_number, PrefixFor}
 use Rattle.cax64_encoder.specs.Real.{trap_in}
-use Rattle.cax64_encoder.proofs.Fronts.{code_is, front_few, opcode_some}
+use Rattle.cax64_encoder.proofs.Fronts.{code_is, head_few, head_some}
 use Rattle.cax64_encoder.proofs.Lengths.{line_is}
 use Rattle.cax64_encoder.proofs.Numbers.{numbers_are, numbers_below, imm_put, imm_fit}
 use Rattle.cax64_table.proofs.EntryFacts.{entry_imm_len, entry_is_line}
 use Rattle.cax64_encoder.proofs.Whole.{bare_is, vvvv_fit, digit_or_register, imm_sized_as, encodes, line_same}
 use Rattle.cax64_place.specs.Code.{placed_form}
 use Rattle.cax64_place.specs.Operand.{placed}
-use Rattle.cax64_place.proofs.CodeParts.{head_length, number_when, real_when, real_parts, index_not_four, bare_reg, low_reg}
+use Rattle.cax64_place.proofs.CodeParts.{number_when, real_when, real_parts, index_not_four, bare_reg, low_reg}
 use Rattle.cax64_place.proofs.HeadParts.{is_numbered, named_is}
 use Rattle.cax64_place.proofs.code.code_of.Goals as goal
 
@@ -67,16 +67,14 @@ head-requires-clause-bare c =
 pub append-requires-clause-few : goal.append-requires-clause-few
 append-requires-clause-few c =
     let line = entry_line c.args.entry in
-    let few = front_few line c.head.ensures.pre (opcode_bytes line.opcode) line.opcode (entry_is_line c.args.entry) c.head.ensures.prefix.size refl in
-    let count = head_length c.head.ensures.pre (opcode_bytes line.opcode) c.head.result c.head.ensures.is in
-    omega (arith, few, count)
+    let few = head_few line c.head.ensures.pre c.head.result line.opcode (entry_is_line c.args.entry) c.head.ensures.prefix.size c.head.ensures.is in
+    omega (arith, few)
 
 pub append-requires-clause-room : goal.append-requires-clause-room
 append-requires-clause-room c =
     let line = entry_line c.args.entry in
-    let few = front_few line c.head.ensures.pre (opcode_bytes line.opcode) line.opcode (entry_is_line c.args.entry) c.head.ensures.prefix.size refl in
-    let count = head_length c.head.ensures.pre (opcode_bytes line.opcode) c.head.result c.head.ensures.is in
-    omega (arith, few, count, c.tail_part-tail.ensures.few)
+    let few = head_few line c.head.ensures.pre c.head.result line.opcode (entry_is_line c.args.entry) c.head.ensures.prefix.size c.head.ensures.is in
+    omega (arith, few, c.tail_part-tail.ensures.few)
 
 pub returns-clause-encodes : goal.returns-clause-encodes
 returns-clause-encodes c =
@@ -112,9 +110,8 @@ returns-clause-length c =
 pub returns-clause-is : goal.returns-clause-is
 returns-clause-is c =
     let line = entry_line c.args.entry in
-    let some = opcode_some (opcode_bytes line.opcode) line.opcode refl in
-    let count = head_length c.head.ensures.pre (opcode_bytes line.opcode) c.head.result c.head.ensures.is in
+    let some = head_some c.head.ensures.pre c.head.result line.opcode c.head.ensures.is in
     record {
-      front = omega (arith, some, count, c.append.ensures.length);
+      front = omega (arith, some, c.append.ensures.length);
       imm_len = rw c.imm_len-imm_len.ensures (entry_imm_len c.args.entry);
     }
