@@ -1,4 +1,4 @@
-use Rattle.std.proofs.Common.{◌≡◌, ℕ, zero, suc, slice_index_or, ◌+◌, ◌*◌, ◌<◌, refl, ◌∙◌, ap, arith, []}
+use Rattle.std.proofs.Common.{◌≡◌, ℕ, slice_index_or, ◌+◌, ◌*◌, ◌<◌, refl, ◌∙◌, ap, arith, []}
 use Rattle.cax64_encoder.proofs.TailTable.{by_eight, by_three}
 use Rattle.cax64_inst_data.specs.Tail.{kind_number, tail_entry}
 use Rattle.cax64_inst_data.specs.declared.place.PlaceKind.{PlaceKind}

@@ -1,29 +1,17 @@
-use Rattle.std.proofs.Common.{◌≡◌, ◌≢◌, ℕ, ◌+◌, ◌*◌, ◌/◌, ◌%◌, ◌^◌, ◌<◌, ◌≤◌, refl, ◌∙◌, sym, arith, Bool, true, false, List, [], ◌∷◌, ◌++◌, ℤ, pos, Some, length, Option}
-use Rattle.std.specs.Prelude as std
-use Rattle.std.specs.Prelude.{◌==◌, ◌&&◌, ◌||◌, not, nat_lt, if◌then◌else◌, ◌-ℤ◌}
-use Rattle.std.specs.Int.{from_bool, cast_unsigned, w32, to_le_bytes}
+use Rattle.std.proofs.Common.{◌≡◌, ◌≢◌, ℕ, ◌+◌, ◌*◌, ◌%◌, ◌<◌, refl, arith, Bool, true, false, List, [], ◌∷◌, ◌++◌, ℤ, pos, Option}
+use Rattle.std.specs.Prelude.{◌==◌, if◌then◌else◌, ◌-ℤ◌}
+use Rattle.std.specs.Int.{cast_unsigned, w32, to_le_bytes}
 use Rattle.std.specs.Int.RustNames.{FitsSigned}
 use Rattle.std.proofs.lemmas.Bool.Decides.{nat_tests}
-use Rattle.cax64_machine_code.specs.Fields.{IsBytes}
-use Rattle.cax64_machine_code.specs.declared.reading.Place.TheVariants.{Mem, Rip}
-use Rattle.cax64_machine_code.specs.Len.{least_tail}
-use Rattle.cax64_encoder.specs.ByteWhen.{byte_of}
-use Rattle.cax64_sink.specs.Call.{Action, put, target}
+use Rattle.cax64_machine_code.specs.declared.reading.Place.TheVariants.{Rip}
+use Rattle.cax64_sink.specs.Call.{put, target}
 use Rattle.cax64_sink.specs.Rest.{long_actions}
-use Rattle.cax64_sink.specs.Run.{all_bytes}
-use Rattle.cax64_address.specs.Emitted.{TailOf, byte_actions}
-use Rattle.cax64_address.specs.Memory.{option_when}
-use Rattle.cax64_address.specs.declared.tail.TailCode.{TailCode}
-use Rattle.cax64_address.proofs.MemoryTails.{Displaced, short, long, tailed}
-use Rattle.cax64_encoder.proofs.Fronts.{tail_puts}
-use Rattle.cax64_machine_code.specs.declared.reading.Place.{Place}
+use Rattle.cax64_address.specs.Emitted.{TailOf}
 use Rattle.cax64_address.specs.Address.{scale_number}
 use Rattle.cax64_address.specs.Emitted.{target_actions}
-use Rattle.cax64_address.specs.Emitted as address
 use Rattle.cax64_address.proofs.Emits.{emits_relative}
 use Rattle.cax64_address.proofs.TailBytes.{relative_bytes}
-use Rattle.cax64_address.proofs.TailLengths.{alone_length}
-use Rattle.cax64_encoder.proofs.Bytes.{no_bytes, more_bytes, one_byte}
+use Rattle.cax64_encoder.proofs.Bytes.{no_bytes, one_byte}
 use Rattle.cax64_encoder.specs.Tails.{class_of}
 use Rattle.cax64_encoder.proofs.LookedUp.{done}
 use Rattle.cax64_encoder.proofs.TailParts.{register_tail}

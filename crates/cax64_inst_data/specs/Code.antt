@@ -1,14 +1,9 @@
-use Rattle.std.specs.Prelude.{◌≡◌, ℕ, Option, option_map, List, ◌++◌}
-use Rattle.cax64_machine_code.specs.Line.{opcode_bytes}
+use Rattle.std.specs.Prelude.{ℕ, Option, option_map}
 use Rattle.cax64_machine_code.specs.Rows.{line_of}
-use Rattle.cax64_machine_code.specs.declared.line.Line.{Line}
 use Rattle.cax64_machine_code.specs.declared.row.Row.{Row}
-use Rattle.cax64_encoder.specs.Numbered.{plain}
-use Rattle.cax64_encoder.specs.Prefix.{PrefixFor}
 use Rattle.cax64_encoder.specs.declared.number.Number.{Number}
 use Rattle.cax64_encoder.specs.declared.number.Number.TheVariants.{Settled}
 use Rattle.cax64_encoder.specs.declared.numbered.NumberedForm.{NumberedForm}
-use Rattle.cax64_encoder.specs.declared.role.PlaceOperand.{PlaceOperand}
 use Rattle.cax64_table.specs.Numbers.{has_register, has_vvvv}
 use Rattle.cax64_inst_data.specs.Placed.{placed}
 use Rattle.cax64_inst_data.specs.When.{when}

@@ -1,4 +1,4 @@
-use Rattle.std.specs.Prelude.{ℕ, ◌+◌, ◌*◌, ◌%◌, ◌^◌, ◌==◌, nat_le, nat_lt, not, Bool, true, if◌then◌else◌, Option, Some, None, List, [], ◌∷◌, ◌++◌, pos, ◌-ℤ◌}
+use Rattle.std.specs.Prelude.{ℕ, ◌+◌, ◌*◌, ◌%◌, ◌^◌, ◌==◌, nat_le, Bool, true, Option, Some, None, List, [], ◌∷◌, pos, ◌-ℤ◌}
 use Rattle.std.specs.Int.{from_bool, cast_unsigned, w32}
 use Rattle.cax64_address.specs.Memory.{option_when}
 use Rattle.cax64_encoder.specs.Tails.{mode_of, memory_front}

@@ -28,7 +28,7 @@ use Rattle.cax64_table.proofs.EntryFacts.{row_imm_len, row_is_line}
 use Rattle.cax64_encoder.proofs.Whole.{bare_is, vvvv_fit, digit_or_register, imm_sized_as, encodes, row_encodes}
 use Rattle.cax64_inst_data.specs.Code.{placed_form}
 use Rattle.cax64_inst_data.specs.Placed.{placed}
-use Rattle.cax64_inst_data.proofs.CodeParts.{head_length, number_when, real_when, real_parts, index_not_four, bare_reg, low_reg}
+use Rattle.cax64_inst_data.proofs.CodeParts.{number_when, real_when, real_parts, index_not_four, bare_reg, low_reg}
 use Rattle.cax64_inst_data.proofs.HeadParts.{is_numbered, named_is}
 use Rattle.cax64_inst_data.proofs.code.code_of.Goals as goal
 
