@@ -1,4 +1,4 @@
-use Rattle.std.proofs.Common.{◌≡◌, ◌∙◌, ◌+◌, ◌<◌, ◌≤◌, ◌⊎◌, inl, inr, ℕ, suc, ℤ, pos, refl, sym, ap, subst, arith, Bool, true, false, Option, Some, None, List, [], ◌∷◌, ◌++◌, get_or, length, take, slice_get, append-nil, append_assoc, length-append}
+use Rattle.std.proofs.Common.{◌≡◌, ◌∙◌, ◌+◌, ◌<◌, ◌≤◌, ◌⊎◌, inl, inr, ℕ, ℤ, pos, refl, sym, ap, subst, arith, Bool, true, false, Option, Some, None, List, [], ◌∷◌, ◌++◌, get_or, length, take, slice_get, append-nil, append_assoc, length-append}
 use Rattle.std.proofs.lemmas.Bool.{cases_lt, eq-eqb, eqb-true}
 use Rattle.std.proofs.lemmas.List.{take-replicate, take_more}
 use Rattle.std.specs.Prelude.{◌==◌, ◌^◌, OnOk, Result, if◌then◌else◌, replicate}
@@ -97,63 +97,60 @@ number_of (target.Label label) = label.0
 number_of (target.Constant constant) = constant.0
 number_of target.None = 0
 
-label_more : (given at : ℕ) (xs : List HqItem) (x : HqItem) (old new : DeferredTarget → Option ℕ) → x.kind ≡ 1 → AddsBinding (target.Label (record { 0 = x.number })) at old new → HasPlaces old xs → HasPlaces new (xs ++ x ∷ [])
-label_more given at xs x old new kind adds h = record {
-  labels = λ n binds none. labels n none (binds_either 1 n xs x binds);
-  only_labels = λ n place some. only n place some (same_or n x.number);
-  constants = λ n binds none. constants n none (binds_either 20 n xs x binds);
-  only_constants = λ n place some. binds_before 20 n xs x (h.only_constants n place (sym (adds.others (target.Constant (record { 0 = n })) (λ e. cc)) ∙ some));
-}
-  where
-    labels : (n : ℕ) → new (target.Label (record { 0 = n })) ≡ None → Binds 1 n xs ⊎ ((x.kind ≡ 1) × (x.number ≡ n)) → ⊥
-    labels n none (inl b) = h.labels n b (other_none (target.Label (record { 0 = x.number })) at old new adds (target.Label (record { 0 = n })) none)
-    labels n none (inr b) = no_place new (target.Label (record { 0 = x.number })) at adds.bound (ap (λ (m : ℕ). new (target.Label (record { 0 = m }))) b.1 ∙ none)
+abbrev label_of : ℕ → DeferredTarget
+label_of n = target.Label (record { 0 = n })
 
-    only : (n place : ℕ) → new (target.Label (record { 0 = n })) ≡ Some place → (n ≡ x.number) ⊎ (n ≡ x.number → ⊥) → Binds 1 n (xs ++ x ∷ [])
-    only n place some (inl e) = binds_last 1 n xs x kind (sym e)
-    only n place some (inr d) = binds_before 1 n xs x (h.only_labels n place (sym (adds.others (target.Label (record { 0 = n })) (λ e. d (ap number_of e))) ∙ some))
+abbrev constant_of : ℕ → DeferredTarget
+constant_of n = target.Constant (record { 0 = n })
 
-    constants : (n : ℕ) → new (target.Constant (record { 0 = n })) ≡ None → Binds 20 n xs ⊎ ((x.kind ≡ 20) × (x.number ≡ n)) → ⊥
-    constants n none (inl b) = h.constants n b (other_none (target.Label (record { 0 = x.number })) at old new adds (target.Constant (record { 0 = n })) none)
-    constants n none (inr b) = kinds x.kind 1 20 kind b.0 (λ z. omega (arith, z))
+-- the targets of one sort, which items of one kind bind, have a place where such an item is their place
+record Sort (kind : ℕ) (of : ℕ → DeferredTarget) (places : DeferredTarget → Option ℕ) (items : List HqItem) : Type 0 where
+  pub has : (n : ℕ) → Binds kind n items → places (of n) ≡ None → ⊥
+  pub only : (n place : ℕ) → places (of n) ≡ Some place → Binds kind n items
 
-constant_more : (at : ℕ) (xs : List HqItem) (x : HqItem) (old new : DeferredTarget → Option ℕ) → x.kind ≡ 20 → AddsBinding (target.Constant (record { 0 = x.number })) at old new → HasPlaces old xs → HasPlaces new (xs ++ x ∷ [])
-constant_more at xs x old new kind adds h = record {
-  labels = λ n binds none. labels n none (binds_either 1 n xs x binds);
-  only_labels = λ n place some. binds_before 1 n xs x (h.only_labels n place (sym (adds.others (target.Label (record { 0 = n })) (λ e. cc)) ∙ some));
-  constants = λ n binds none. constants n none (binds_either 20 n xs x binds);
-  only_constants = λ n place some. only n place some (same_or n x.number);
-}
-  where
-    labels : (n : ℕ) → new (target.Label (record { 0 = n })) ≡ None → Binds 1 n xs ⊎ ((x.kind ≡ 1) × (x.number ≡ n)) → ⊥
-    labels n none (inl b) = h.labels n b (other_none (target.Constant (record { 0 = x.number })) at old new adds (target.Label (record { 0 = n })) none)
-    labels n none (inr b) = kinds x.kind 1 20 b.0 kind (λ z. omega (arith, z))
+both_sorts : (places : DeferredTarget → Option ℕ) (items : List HqItem) → Sort 1 label_of places items → Sort 20 constant_of places items → HasPlaces places items
+both_sorts places items l c = record { labels = l.has; only_labels = l.only; constants = c.has; only_constants = c.only }
 
-    constants : (n : ℕ) → new (target.Constant (record { 0 = n })) ≡ None → Binds 20 n xs ⊎ ((x.kind ≡ 20) × (x.number ≡ n)) → ⊥
-    constants n none (inl b) = h.constants n b (other_none (target.Constant (record { 0 = x.number })) at old new adds (target.Constant (record { 0 = n })) none)
-    constants n none (inr b) = no_place new (target.Constant (record { 0 = x.number })) at adds.bound (ap (λ (m : ℕ). new (target.Constant (record { 0 = m }))) b.1 ∙ none)
+module _ (kind : ℕ) (of : ℕ → DeferredTarget) (xs : List HqItem) (x : HqItem) (old new : DeferredTarget → Option ℕ) (h : Sort kind of old xs) where
+  -- one more item that is the place of none of them
+  other_more : (x.kind ≡ kind → ⊥) → ((n : ℕ) → new (of n) ≡ old (of n)) → Sort kind of new (xs ++ x ∷ [])
+  other_more d same = record {
+    has = λ n binds none. has n none (binds_either kind n xs x binds);
+    only = λ n place some. binds_before kind n xs x (h.only n place (sym (same n) ∙ some));
+  }
+    where
+      has : (n : ℕ) → new (of n) ≡ None → Binds kind n xs ⊎ ((x.kind ≡ kind) × (x.number ≡ n)) → ⊥
+      has n none (inl b) = h.has n b (sym (same n) ∙ none)
+      has n none (inr b) = d b.0
 
-    only : (n place : ℕ) → new (target.Constant (record { 0 = n })) ≡ Some place → (n ≡ x.number) ⊎ (n ≡ x.number → ⊥) → Binds 20 n (xs ++ x ∷ [])
-    only n place some (inl e) = binds_last 20 n xs x kind (sym e)
-    only n place some (inr d) = binds_before 20 n xs x (h.only_constants n place (sym (adds.others (target.Constant (record { 0 = n })) (λ e. d (ap number_of e))) ∙ some))
+  -- one more that is the place of one
+  own_more : (at : ℕ) → ((n m : ℕ) → of n ≡ of m → n ≡ m) → x.kind ≡ kind → AddsBinding (of x.number) at old new → Sort kind of new (xs ++ x ∷ [])
+  own_more at apart is adds = record {
+    has = λ n binds none. has n none (binds_either kind n xs x binds);
+    only = λ n place some. only n place some (same_or n x.number);
+  }
+    where
+      has : (n : ℕ) → new (of n) ≡ None → Binds kind n xs ⊎ ((x.kind ≡ kind) × (x.number ≡ n)) → ⊥
+      has n none (inl b) = h.has n b (other_none (of x.number) at old new adds (of n) none)
+      has n none (inr b) = no_place new (of x.number) at adds.bound (ap (λ (m : ℕ). new (of m)) b.1 ∙ none)
+
+      only : (n place : ℕ) → new (of n) ≡ Some place → (n ≡ x.number) ⊎ (n ≡ x.number → ⊥) → Binds kind n (xs ++ x ∷ [])
+      only n place some (inl e) = binds_last kind n xs x is (sym e)
+      only n place some (inr d) = binds_before kind n xs x (h.only n place (sym (adds.others (of n) (λ e. d (apart n x.number e))) ∙ some))
 
 places_more : (given at : ℕ) (xs : List HqItem) (x : HqItem) (old new : DeferredTarget → Option ℕ) → BindsAt given at x old new → HasPlaces old xs → HasPlaces new (xs ++ x ∷ [])
-places_more given at xs x old new (inl b) h = label_more given at xs x old new b.0 b.2 h
-places_more given at xs x old new (inr (inl b)) h = constant_more at xs x old new b.0 b.1 h
-places_more given at xs x old new (inr (inr b)) h = record {
-  labels = λ n binds none. labels n none (binds_either 1 n xs x binds);
-  only_labels = λ n place some. binds_before 1 n xs x (h.only_labels n place (sym (b.2 (target.Label (record { 0 = n }))) ∙ some));
-  constants = λ n binds none. constants n none (binds_either 20 n xs x binds);
-  only_constants = λ n place some. binds_before 20 n xs x (h.only_constants n place (sym (b.2 (target.Constant (record { 0 = n }))) ∙ some));
-}
+places_more given at xs x old new binds h = by_kind binds
   where
-    labels : (n : ℕ) → new (target.Label (record { 0 = n })) ≡ None → Binds 1 n xs ⊎ ((x.kind ≡ 1) × (x.number ≡ n)) → ⊥
-    labels n none (inl c) = h.labels n c (sym (b.2 (target.Label (record { 0 = n }))) ∙ none)
-    labels n none (inr c) = b.0 c.0
+    labels : Sort 1 label_of old xs
+    labels = record { has = h.labels; only = h.only_labels }
 
-    constants : (n : ℕ) → new (target.Constant (record { 0 = n })) ≡ None → Binds 20 n xs ⊎ ((x.kind ≡ 20) × (x.number ≡ n)) → ⊥
-    constants n none (inl c) = h.constants n c (sym (b.2 (target.Constant (record { 0 = n }))) ∙ none)
-    constants n none (inr c) = b.1 c.0
+    constants : Sort 20 constant_of old xs
+    constants = record { has = h.constants; only = h.only_constants }
+
+    by_kind : BindsAt given at x old new → HasPlaces new (xs ++ x ∷ [])
+    by_kind (inl b) = both_sorts new (xs ++ x ∷ []) (own_more 1 label_of xs x old new labels at (λ n m e. ap number_of e) b.0 b.2) (other_more 20 constant_of xs x old new constants (λ k. kinds x.kind 1 20 b.0 k (λ z. omega (arith, z))) (λ n. b.2.others (constant_of n) (λ e. cc)))
+    by_kind (inr (inl b)) = both_sorts new (xs ++ x ∷ []) (other_more 1 label_of xs x old new labels (λ k. kinds x.kind 1 20 k b.0 (λ z. omega (arith, z))) (λ n. b.1.others (label_of n) (λ e. cc))) (own_more 20 constant_of xs x old new constants at (λ n m e. ap number_of e) b.0 b.1)
+    by_kind (inr (inr b)) = both_sorts new (xs ++ x ∷ []) (other_more 1 label_of xs x old new labels b.0 (λ n. b.2 (label_of n))) (other_more 20 constant_of xs x old new constants b.1 (λ n. b.2 (constant_of n)))
 
 -- What items of data hold, and where they are.
 

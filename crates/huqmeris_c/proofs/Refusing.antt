@@ -3,8 +3,8 @@ use Rattle.std.proofs.lemmas.Bool.{cases_lt, eq-eqb, eqb-true}
 use Rattle.std.proofs.lemmas.Option.{same_Some, slice_get-get_or}
 use Rattle.std.specs.Prelude.{◌==◌, ◌||◌}
 use Rattle.huqmeris_c.proofs.Made.{MadeOf, jump_not, made_of, no_code_made}
-use Rattle.huqmeris_c.proofs.Splits.{Starts, data_before, get_within, high_get, high_take, joined, low_get, low_take, no_data, none_at, none_taken, starts}
-use Rattle.huqmeris_c.specs.Data.{code_of, data_of, is_data}
+use Rattle.huqmeris_c.proofs.Splits.{Starts, data_before, get_within, high_get, high_take, low_get, low_take, none_at, none_taken}
+use Rattle.huqmeris_c.specs.Data.{is_data}
 use Rattle.huqmeris_c.specs.Items.{AreItems, CantBePut, FirstRefused, IsCode, NoItem, has_data, jump_named}
 use Rattle.huqmeris_c.specs.Putting.{AreData, BadDatum, FirstBehind, IsDatum, MakesEach, NoCode}
 use Rattle.huqmeris_c.specs.declared.item.HqItem.{HqItem}

@@ -1,4 +1,4 @@
-use Rattle.std.proofs.Common.{◌≡◌, ◌∙◌, ◌+◌, ◌-◌, ◌<◌, ◌≤◌, ◌⊎◌, inl, inr, ℕ, zero, suc, refl, sym, ap, subst, arith, Bool, true, false, Option, Some, List, [], ◌∷◌, ◌++◌, drop, get_or, length, take, slice_get}
+use Rattle.std.proofs.Common.{◌≡◌, ◌∙◌, ◌+◌, ◌-◌, ◌<◌, ◌≤◌, ℕ, zero, suc, refl, sym, ap, subst, arith, Bool, true, false, Option, Some, List, [], ◌∷◌, ◌++◌, drop, get_or, length, take, slice_get}
 use Rattle.std.proofs.lemmas.List.{length-drop, take_all, take_more}
 use Rattle.std.proofs.lemmas.Option.{slice_get-get_or}
 use Rattle.std.specs.Prelude.{◌||◌, IfSome, if◌then◌else◌}

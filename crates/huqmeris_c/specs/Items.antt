@@ -1,4 +1,4 @@
-use Rattle.std.specs.Prelude.{◌≡◌, ◌==◌, ◌||◌, ◌≤◌, ◌<◌, ◌+◌, ◌-◌, ◌++◌, ◌⊎◌, Bool, true, false, ℕ, ℤ, pos, ◌-ℤ◌, nat_lt, if◌then◌else◌, Option, Some, None, List, [], ◌∷◌, drop, take, length, slice_get}
+use Rattle.std.specs.Prelude.{◌≡◌, ◌||◌, ◌≤◌, ◌<◌, ◌+◌, ◌-◌, ◌++◌, ◌⊎◌, Bool, true, false, ℕ, ℤ, pos, ◌-ℤ◌, nat_lt, if◌then◌else◌, Option, Some, None, List, [], ◌∷◌, drop, take, length, slice_get}
 use Rattle.cax64_address.specs.declared.amode.Amode.{Amode}
 use Rattle.cax64_address.specs.declared.amode.Amode.TheVariants.{ImmReg, ImmRegRegShift, RipRelative}
 use Rattle.cax64_encoder.specs.Place.{memory_in}
