@@ -14,18 +14,20 @@ use Rattle.cax64_operand.specs.declared.operand.Operands.{Operands}
 use Rattle.cax64_operand.specs.declared.operand.Operands.TheVariants as operands
 use Rattle.cax64_sink.specs.Sink.{State}
 use Rattle.cax64_sink.specs.declared.SinkError.{SinkError}
-use Rattle.cax64_encoder.specs.Checked.{amode_met, checked_roles}
+use Rattle.cax64_encoder.specs.Checked.{amode_met, checked_roles, with_checked}
 use Rattle.cax64_encoder.specs.Content.{content_of}
 use Rattle.cax64_encoder.specs.Fault.{all_met, fault_of_meant, first_fault, is_encodable, late_offset_fits}
-use Rattle.cax64_encoder.specs.Marked.{form_met, marked_amode, marked_index, marked_place, marked_value, others_met, reg_met}
+use Rattle.cax64_encoder.specs.Marked.{marked_amode, marked_index, marked_place, marked_value}
 use Rattle.cax64_encoder.specs.Meant.{meant_of, place_in}
 use Rattle.cax64_encoder.specs.Number.{is_index_number, is_number, is_real_number, number_value}
-use Rattle.cax64_encoder.specs.Numbered.{numbered_amode, numbered_place}
+use Rattle.cax64_encoder.specs.Numbered as numbered
+use Rattle.cax64_encoder.specs.Numbered.{numbered_amode}
 use Rattle.cax64_encoder.specs.Place.{memory_in}
 use Rattle.cax64_encoder.specs.Role.{number, roles_of}
 use Rattle.cax64_encoder.specs.Task.{Answered, Asked, Kept}
-use Rattle.cax64_encoder.specs.Tested.{can_be_put, none_tested, nop_tested, tested_roles, with_tested}
+use Rattle.cax64_encoder.specs.Tested.{can_be_put, none_tested, nop_tested, tested_roles, with_role, with_tested}
 use Rattle.cax64_encoder.specs.Visits.{visits_of}
+use Rattle.cax64_encoder.specs.declared.checked.Checked.{Checked}
 use Rattle.cax64_encoder.specs.declared.fault.Fault.{Fault}
 use Rattle.cax64_encoder.specs.declared.number.Number.{Number}
 use Rattle.cax64_encoder.specs.declared.number.Number.TheVariants.{Settled, Unsettled}
@@ -76,43 +78,9 @@ index_is (Settled number) h = by_test (number == 4) h
     by_test false h = refl
 index_is Unsettled h = cc
 
--- Numbers that were tested are tested once more with each operand, which tells nothing new.
-
-kept : {M : Type 0} (n : Numbering M) (roles : List (Role M)) → (tested_roles n roles).met ≡ true → form_met (tested_roles n roles).content.form ≡ true
-kept n [] h = refl
-kept n (r ∷ later) h = (and_parts (form_met (tested_roles n (r ∷ later)).content.form) (others_met r && (tested_roles n later).met) h).0
-
 and_true : (b : Bool) → (b && true) ≡ b
 and_true true = refl
 and_true false = refl
-
-and_false : (b : Bool) → (b && false) ≡ false
-and_false true = refl
-and_false false = refl
-
-and_both : (a b c : Bool) → (a && (b && c)) ≡ ((a && b) && c)
-and_both true b c = refl
-and_both false b c = refl
-
--- a register beside a place that was tested
-beside : (a r base index b m : Bool) → (m ≡ true → ((r && base) && index) ≡ true) → (((a && base) && index) && (b && m)) ≡ (a && (b && m))
-beside a r base index b true h =
-    let p = and_parts (r && base) index (h refl) in
-    let q = and_parts r base p.0 in
-    rw (q.1, p.1) (ap (λ (x : Bool). x && (b && true)) (and_true (a && true) ∙ and_true a))
-beside a r base index b false h = rw (and_false b) (and_false ((a && base) && index) ∙ sym (and_false a))
-
--- a place beside a register that was tested
-placed : (r base index base_was index_was m : Bool) → (m ≡ true → ((r && base_was) && index_was) ≡ true) → (((r && base) && index) && m) ≡ ((base && index) && m)
-placed r base index base_was index_was true h =
-    let p = and_parts (r && base_was) index_was (h refl) in
-    rw ((and_parts r base_was p.0).0) refl
-placed r base index base_was index_was false h = and_false ((r && base) && index) ∙ sym (and_false (base && index))
-
--- what was tested, and nothing beside
-again : (f b m : Bool) → (m ≡ true → f ≡ true) → (f && (b && m)) ≡ (b && m)
-again f b true h = rw (h refl) refl
-again f b false h = rw (and_false b) (and_false f)
 
 amode_same : {M : Type 0} (n : Numbering M) (amode : Amode M) → (nat_lt (marked_amode n amode).base 16 && nat_lt (marked_amode n amode).index 16) ≡ amode_met n amode
 amode_same n (ImmReg base simm32 trap) = and_true (nat_lt (marked_value (number n base)) 16) ∙ marked_real (number n base)
@@ -120,39 +88,18 @@ amode_same n (ImmRegRegShift base index scale simm32 trap) = rw (marked_real (nu
 amode_same n (RipRelative target) = refl
 
 -- one more operand before others that are tested as they are by themselves
-met_with : {M : Type 0} (n : Numbering M) (later : List (Role M)) (r : Role M) → (tested_roles n later).met ≡ (checked_roles n later).met → (tested_roles n (r ∷ later)).met ≡ (checked_roles n (r ∷ later)).met
-met_with {M = M} n later r before = by_role r
-  where
-    form : NumberedForm
-    form = (tested_roles n later).content.form
-
-    met : Bool
-    met = (tested_roles n later).met
-
-    own : (base index : Bool) → (((reg_met form.reg && base) && index) && met) ≡ ((base && index) && met)
-    own base index = placed (reg_met form.reg) base index (nat_lt form.place.base 16) (nat_lt form.place.index 16) met (kept n later)
-
-    by_role : (r : Role M) → (tested_roles n (r ∷ later)).met ≡ (checked_roles n (r ∷ later)).met
-    by_role (role.Register number) =
-        beside (nat_lt (marked_value number) 16) (reg_met form.reg) (nat_lt form.place.base 16) (nat_lt form.place.index 16) true met (kept n later)
-        ∙ rw (marked_real number, before) refl
-    by_role (role.TwoRegisters first second same) =
-        beside (nat_lt (marked_value first) 16) (reg_met form.reg) (nat_lt form.place.base 16) (nat_lt form.place.index 16) (same || is_real_number second) met (kept n later)
-        ∙ and_both (nat_lt (marked_value first) 16) (same || is_real_number second) met
-        ∙ rw (marked_real first, before) refl
-    by_role (role.FixedRegister fixed) = again (form_met form) (is_number fixed.held fixed.expected) met (kept n later) ∙ rw before refl
-    by_role (role.Place place.TheVariants.NoPlace) = own true true ∙ before
-    by_role (role.Place (place.TheVariants.Register number)) =
-        own (nat_lt (marked_value number) 16) true
-        ∙ rw (and_true (nat_lt (marked_value number) 16), marked_real number, before) refl
-    by_role (role.Place (place.TheVariants.Memory amode)) =
-        own (nat_lt (marked_amode n amode).base 16) (nat_lt (marked_amode n amode).index 16)
-        ∙ rw (amode_same n amode, before) refl
-    by_role (role.Immediate imm) = again (form_met form) true met (kept n later) ∙ before
+met_with : {M : Type 0} (n : Numbering M) (r : Role M) (tested : Tested) (later : Checked) → tested.met ≡ later.met → (with_role n r tested).met ≡ (with_checked n r later).met
+met_with n (role.Register number) tested later same = rw (marked_real number, same) refl
+met_with n (role.TwoRegisters first second equal) tested later same = rw (marked_real first, marked_real second, same) refl
+met_with n (role.FixedRegister fixed) tested later same = rw same refl
+met_with n (role.Place place.TheVariants.NoPlace) tested later same = same
+met_with n (role.Place (place.TheVariants.Register number)) tested later same = rw (marked_real number, same) refl
+met_with n (role.Place (place.TheVariants.Memory amode)) tested later same = rw (amode_same n amode, same) refl
+met_with n (role.Immediate imm) tested later same = same
 
 met_same : {M : Type 0} (n : Numbering M) (roles : List (Role M)) → (tested_roles n roles).met ≡ (checked_roles n roles).met
 met_same n [] = refl
-met_same n (r ∷ later) = met_with n later r (met_same n later)
+met_same n (r ∷ later) = met_with n r (tested_roles n later) (checked_roles n later) (met_same n later)
 
 -- the place is that of the first operand that is one
 place_is : {M : Type 0} (n : Numbering M) (roles : List (Role M)) → (tested_roles n roles).content.form.place ≡ marked_place n (place_in roles)
@@ -160,7 +107,9 @@ place_is n [] = refl
 place_is n (role.Register number ∷ later) = place_is n later
 place_is n (role.TwoRegisters first second same ∷ later) = place_is n later
 place_is n (role.FixedRegister fixed ∷ later) = place_is n later
-place_is n (role.Place operand ∷ later) = refl
+place_is n (role.Place place.TheVariants.NoPlace ∷ later) = refl
+place_is n (role.Place (place.TheVariants.Register number) ∷ later) = refl
+place_is n (role.Place (place.TheVariants.Memory amode) ∷ later) = refl
 place_is n (role.Immediate imm ∷ later) = place_is n later
 
 late_same : {M : Type 0} (n : Numbering M) (offsets : ℕ → Option ℤ) (p : PlaceOperand M) → sum_fits offsets (marked_place n p).displacement.offset (marked_place n p).displacement.simm32 ≡ late_offset_fits offsets (memory_in p)
@@ -177,46 +126,30 @@ amode_is n (ImmReg base simm32 trap) h k = rw (marked_is (number n base) h) refl
 amode_is n (ImmRegRegShift base index scale simm32 trap) h k = rw (marked_is (number n base) h, index_is (number n index) k) refl
 amode_is n (RipRelative target) h k = refl
 
-place_same : {M : Type 0} (n : Numbering M) (operand : PlaceOperand M) → nat_lt (marked_place n operand).base 16 ≡ true → nat_lt (marked_place n operand).index 16 ≡ true → marked_place n operand ≡ numbered_place n operand
-place_same n place.TheVariants.NoPlace h k = refl
-place_same n (place.TheVariants.Register number) h k = rw (marked_is number h) refl
-place_same n (place.TheVariants.Memory amode) h k = amode_is n amode h k
-
-form_with : {M : Type 0} (n : Numbering M) (later : List (Role M)) (r : Role M) → ((tested_roles n later).met ≡ true → (tested_roles n later).content.form ≡ with_numbers n later) → (tested_roles n (r ∷ later)).met ≡ true → (tested_roles n (r ∷ later)).content.form ≡ with_numbers n (r ∷ later)
-form_with {M = M} n later r before h = by_role r h
-  where
-    form : NumberedForm
-    form = (tested_roles n later).content.form
-
-    met : Bool
-    met = (tested_roles n later).met
-
-    by_role : (r : Role M) → (tested_roles n (r ∷ later)).met ≡ true → (tested_roles n (r ∷ later)).content.form ≡ with_numbers n (r ∷ later)
-    by_role (role.Register number) h =
-        let p = and_parts ((nat_lt (marked_value number) 16 && nat_lt form.place.base 16) && nat_lt form.place.index 16) met h in
-        let q = and_parts (nat_lt (marked_value number) 16 && nat_lt form.place.base 16) (nat_lt form.place.index 16) p.0 in
-        let t = and_parts (nat_lt (marked_value number) 16) (nat_lt form.place.base 16) q.0 in
-        rw (marked_is number t.0, before p.1) refl
-    by_role (role.TwoRegisters first second same) h =
-        let p = and_parts ((nat_lt (marked_value first) 16 && nat_lt form.place.base 16) && nat_lt form.place.index 16) ((same || is_real_number second) && met) h in
-        let q = and_parts (nat_lt (marked_value first) 16 && nat_lt form.place.base 16) (nat_lt form.place.index 16) p.0 in
-        let t = and_parts (nat_lt (marked_value first) 16) (nat_lt form.place.base 16) q.0 in
-        let l = and_parts (same || is_real_number second) met p.1 in
-        rw (marked_is first t.0, before l.1) refl
-    by_role (role.FixedRegister fixed) h =
-        let p = and_parts (form_met form) (is_number fixed.held fixed.expected && met) h in
-        before (and_parts (is_number fixed.held fixed.expected) met p.1).1
-    by_role (role.Place operand) h =
-        let marked = marked_place n operand in
-        let p = and_parts ((reg_met form.reg && nat_lt marked.base 16) && nat_lt marked.index 16) met h in
-        let q = and_parts (reg_met form.reg && nat_lt marked.base 16) (nat_lt marked.index 16) p.0 in
-        let t = and_parts (reg_met form.reg) (nat_lt marked.base 16) q.0 in
-        rw (place_same n operand t.1 q.1, before p.1) refl
-    by_role (role.Immediate imm) h = rw (before (and_parts (form_met form) met h).1) refl
+form_same : {M : Type 0} (n : Numbering M) (r : Role M) (tested : Tested) (form : NumberedForm) → (tested.met ≡ true → tested.content.form ≡ form) → (with_role n r tested).met ≡ true → (with_role n r tested).content.form ≡ numbered.with_role n r form
+form_same n (role.Register number) tested form same h =
+    let p = and_parts (nat_lt (marked_value number) 16) tested.met h in
+    rw (marked_is number p.0, same p.1) refl
+form_same n (role.TwoRegisters first second equal) tested form same h =
+    let other = equal || nat_lt (marked_value second) 16 in
+    let p = and_parts (nat_lt (marked_value first) 16 && other) tested.met h in
+    let q = and_parts (nat_lt (marked_value first) 16) other p.0 in
+    rw (marked_is first q.0, same p.1) refl
+form_same n (role.FixedRegister fixed) tested form same h = same (and_parts (is_number fixed.held fixed.expected) tested.met h).1
+form_same n (role.Place place.TheVariants.NoPlace) tested form same h = rw (same h) refl
+form_same n (role.Place (place.TheVariants.Register number)) tested form same h =
+    let p = and_parts (nat_lt (marked_value number) 16) tested.met h in
+    rw (marked_is number p.0, same p.1) refl
+form_same n (role.Place (place.TheVariants.Memory amode)) tested form same h =
+    let marked = marked_amode n amode in
+    let p = and_parts (nat_lt marked.base 16 && nat_lt marked.index 16) tested.met h in
+    let q = and_parts (nat_lt marked.base 16) (nat_lt marked.index 16) p.0 in
+    rw (amode_is n amode q.0 q.1, same p.1) refl
+form_same n (role.Immediate imm) tested form same h = rw (same h) refl
 
 form_is : {M : Type 0} (n : Numbering M) (roles : List (Role M)) → (tested_roles n roles).met ≡ true → (tested_roles n roles).content.form ≡ with_numbers n roles
 form_is n [] h = refl
-form_is n (r ∷ later) h = form_with n later r (form_is n later) h
+form_is n (r ∷ later) h = form_same n r (tested_roles n later) (with_numbers n later) (form_is n later) h
 
 no_nop : {M : Type 0} (n : Numbering M) (roles : List (Role M)) → (tested_roles n roles).content.nop ≡ None
 no_nop n [] = refl

@@ -5,8 +5,9 @@ use Rattle.cax64_operand.specs.declared.operand.Operand.{Operand}
 use Rattle.cax64_operand.specs.declared.nop.Nop.{Nop}
 use Rattle.cax64_sink.specs.declared.SinkError.{SinkError}
 use Rattle.cax64_encoder.specs.Content.{no_content, nop_content}
-use Rattle.cax64_encoder.specs.Marked.{form_met, others_met, with_marked}
+use Rattle.cax64_encoder.specs.Part.{form_with, part_met, part_of}
 use Rattle.cax64_encoder.specs.Role.{role_of}
+use Rattle.cax64_encoder.specs.declared.part.Part.{Part}
 use Rattle.cax64_encoder.specs.declared.role.Role.{Role}
 use Rattle.cax64_encoder.specs.declared.tested.Outcome.{Outcome}
 use Rattle.cax64_encoder.specs.declared.tested.Outcome.TheVariants.{Put, Refused, NotEncodable}
@@ -20,19 +21,12 @@ none_tested = record { met = true; content = no_content }
 abbrev pub nop_tested : Nop → Tested
 nop_tested nop = record { met = true; content = nop_content nop }
 
--- the same with one more operand before the others, of which those registers are tested whose numbers don't tell
-abbrev pub with_part : {M : Type 0} → Numbering M → Role M → Tested → Tested
-with_part n role later = record { met = others_met role && later.met; content = record { nop = later.content.nop; form = with_marked n role later.content.form } }
-
-abbrev pub with_operand : {R A B C D E F : Type 0} → Family A B C D E F → Operand R A B C D E F → Tested → Tested
-with_operand f operand later = with_part f.read_gpr (role_of f operand) later
-
--- the same with the numbers tested
-abbrev pub with_numbers_tested : Tested → Tested
-with_numbers_tested tested = record { met = form_met tested.content.form && tested.met; content = tested.content }
+-- the same with one more operand before the others
+abbrev pub with_part : Part → Tested → Tested
+with_part part later = record { met = part_met part && later.met; content = record { nop = later.content.nop; form = form_with part later.content.form } }
 
 abbrev pub with_role : {M : Type 0} → Numbering M → Role M → Tested → Tested
-with_role n role later = with_numbers_tested (with_part n role later)
+with_role n role later = with_part (part_of n role) later
 
 abbrev pub with_tested : {R A B C D E F : Type 0} → Family A B C D E F → Operand R A B C D E F → Tested → Tested
 with_tested f operand later = with_role f.read_gpr (role_of f operand) later

@@ -18,6 +18,7 @@ pub mod message;
 pub mod nop;
 pub mod number;
 pub mod numbered;
+mod part;
 pub mod role;
 pub mod room;
 pub mod short;

@@ -43,6 +43,14 @@ impl Number {
         if reg.settled() { reg.enc() } else { 255 }
     }
 
+    /// Whether a register is settled with this number.
+    #[inline(always)]
+    pub(crate) fn is_held<R: AsReg>(reg: R, expected: u8) -> bool
+        ensures { result ≡ is_number (number_of R.settled R.enc reg) expected }
+    {
+        if reg.settled() { reg.enc() == expected } else { false }
+    }
+
     /// The number of an index, or 255 of a register that can't be one.
     #[inline(always)]
     pub(crate) fn marked_index_of<R: AsReg>(reg: R) -> u8

@@ -2,7 +2,7 @@
 
 ghost use Rattle.std.specs.Prelude.{◌≡◌};
 ghost use Rattle.cax64_encoder.specs.Numbered.{no_place, register_place, numbered_amode, no_form, with_register, with_role, notice_count};
-ghost use Rattle.cax64_encoder.specs.Marked.{form_met, marked_amode};
+ghost use Rattle.cax64_encoder.specs.Marked.{marked_amode};
 ghost use Rattle.cax64_encoder.specs.Role.{role_of};
 ghost use Rattle.cax64_operand.specs.Family.{numbering};
 
@@ -179,18 +179,6 @@ impl NumberedForm {
     {
         self.vvvv = self.reg;
         self.reg = Some(number);
-    }
-
-    /// Whether the marked numbers of the register in reg and of the place are of real registers.
-    #[inline(always)]
-    pub(crate) fn is_marked_real(&self) -> bool
-        ensures { result ≡ form_met self.now }
-    {
-        let is_reg_real = match self.reg {
-            Some(number) => number < 16,
-            None => true,
-        };
-        is_reg_real & (self.place.base < 16) & (self.place.index < 16)
     }
 
     /// Puts one more operand before the others.

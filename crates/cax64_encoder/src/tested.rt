@@ -1,16 +1,13 @@
 //! Test and encoding as one task, which is handed an instruction once.
 
 ghost use Rattle.std.specs.Prelude.{◌≡◌, false, IsTrue};
-ghost use Rattle.cax64_encoder.specs.Numbered.{with_register};
 ghost use Rattle.cax64_encoder.specs.Task.{Answered, Asked};
-ghost use Rattle.cax64_encoder.specs.Tested.{ByOutcome, can_be_put, none_tested, nop_tested, with_numbers_tested, with_operand, with_tested};
+ghost use Rattle.cax64_encoder.specs.Tested.{ByOutcome, can_be_put, none_tested, nop_tested, with_part, with_tested};
 ghost use Rattle.cax64_encoder.specs.declared.tested.Outcome.TheVariants.{NotEncodable};
 
 use crate::content::Content;
-use crate::imm::word_of;
-use crate::number::Number;
 use crate::numbered::NumberedPlace;
-use cax64_address::operand::{GprMem, XmmMem};
+use crate::part::Part;
 use cax64_machine_code::row::Row;
 use cax64_operand::{FromOperands, Nop, Operand, RegisterFamily, Task};
 use cax64_register::Registers;
@@ -56,8 +53,7 @@ impl<R: Registers> FromOperands<R> for Tested {
     fn with(mut self, operand: Operand<R>) -> Tested
         ensures { result ≡ with_tested ⟦<R as RegisterFamily>⟧.family operand self }
     {
-        self.add(&operand);
-        self.test();
+        self.add(Part::of(&operand));
         self
     }
 
@@ -73,63 +69,38 @@ impl<R: Registers> FromOperands<R> for Tested {
 }
 
 impl Tested {
-    /// Puts a register before the others.
+    /// Puts one more operand before the others, and tests it.
     #[inline(always)]
-    fn add_register(&mut self, number: u8)
-        ensures { self.new ≡ record { met = self.old.met; content = record { nop = self.old.content.nop; form = with_register number self.old.content.form } } }
+    fn add(&mut self, part: Part)
+        ensures { self.new ≡ with_part part self.old }
     {
-        self.content.form.add_register(number);
-    }
-
-    /// Puts one more operand before the others. Of its registers only those are tested whose number isn't kept, or isn't
-    /// marked. No test is a branch: that would cost more.
-    #[inline(always)]
-    fn add<R: Registers>(&mut self, operand: &Operand<R>)
-        ensures { self.new ≡ with_operand ⟦<R as RegisterFamily>⟧.family operand.now self.old }
-    {
-        match operand {
-            Operand::ReadGpr(reg, _) => self.add_register(Number::marked_value_of(*reg)),
-            Operand::ReadWriteGpr(reg, _) => self.add_register(Number::marked_value_of(*reg)),
-            Operand::WriteGpr(reg, _) => self.add_register(Number::marked_value_of(*reg)),
-            Operand::WriteTwoGprs(first, second, _) => {
-                self.content.form.reg = Some(Number::marked_value_of(*first));
-                self.content.form.vvvv = Some(Number::value_of(*second));
-                let is_second_real = (*first == *second) | Number::of(*second).is_real();
-                self.met = is_second_real & self.met;
+        let is_met = match part {
+            Part::Register(number) => {
+                self.content.form.add_register(number);
+                number < 16
             }
-            Operand::FixedReadGpr(reg, expected, _) => {
-                self.met = Number::of(*reg).is(*expected) & self.met;
+            Part::TwoRegisters(first, second, is_second_met) => {
+                self.content.form.reg = Some(first);
+                self.content.form.vvvv = Some(second);
+                (first < 16) & is_second_met
             }
-            Operand::FixedReadWriteGpr(reg, expected, _) => {
-                self.met = Number::of(*reg).is(*expected) & self.met;
+            Part::Fixed(is_met) => is_met,
+            Part::PlaceRegister(number) => {
+                self.content.form.place = NumberedPlace::of_register(number);
+                number < 16
             }
-            Operand::ReadXmm(reg) => self.add_register(Number::marked_value_of(*reg)),
-            Operand::ReadWriteXmm(reg) => self.add_register(Number::marked_value_of(*reg)),
-            Operand::WriteXmm(reg) => self.add_register(Number::marked_value_of(*reg)),
-            Operand::ReadGprMem(GprMem::Gpr(reg), _) => {
-                self.content.form.place = NumberedPlace::of_register(Number::marked_value_of(*reg));
+            Part::Address(place) => {
+                let base = place.base;
+                let index = place.index;
+                self.content.form.place = place;
+                (base < 16) & (index < 16)
             }
-            Operand::ReadWriteGprMem(GprMem::Gpr(reg), _) => {
-                self.content.form.place = NumberedPlace::of_register(Number::marked_value_of(*reg));
+            Part::Imm(word) => {
+                self.content.form.imm = word;
+                true
             }
-            Operand::ReadXmmMem(XmmMem::Xmm(reg)) => {
-                self.content.form.place = NumberedPlace::of_register(Number::marked_value_of(*reg));
-            }
-            Operand::ReadAmode(amode)
-            | Operand::ReadGprMem(GprMem::Mem(amode), _)
-            | Operand::ReadWriteGprMem(GprMem::Mem(amode), _)
-            | Operand::ReadXmmMem(XmmMem::Mem(amode)) => self.content.form.place =
-                NumberedPlace::marked(amode),
-            Operand::Imm(imm) => self.content.form.imm = word_of(imm.bytes()),
-        }
-    }
-
-    /// Tests the numbers of the operand that was put last, and those that are still there once more.
-    #[inline(always)]
-    fn test(&mut self)
-        ensures { self.new ≡ with_numbers_tested self.old }
-    {
-        self.met = self.content.form.is_marked_real() & self.met;
+        };
+        self.met = is_met & self.met;
     }
 
     /// Whether the operands can be encoded for this sink.
