@@ -48,7 +48,11 @@ impl Number {
     pub(crate) fn is_held<R: AsReg>(reg: R, expected: u8) -> bool
         ensures { result ≡ is_number (number_of R.settled R.enc reg) expected }
     {
-        if reg.settled() { reg.enc() == expected } else { false }
+        if reg.settled() {
+            reg.enc() == expected
+        } else {
+            false
+        }
     }
 
     /// The number of an index, or 255 of a register that can't be one.

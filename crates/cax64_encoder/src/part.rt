@@ -43,7 +43,9 @@ impl Part {
                 Number::value_of(*second),
                 (*first == *second) | (Number::marked_value_of(*second) < 16),
             ),
-            Operand::FixedReadGpr(reg, expected, _) => Part::Fixed(Number::is_held(*reg, *expected)),
+            Operand::FixedReadGpr(reg, expected, _) => Part::Fixed(Number::is_held(
+                *reg, *expected,
+            )),
             Operand::FixedReadWriteGpr(reg, expected, _) => {
                 Part::Fixed(Number::is_held(*reg, *expected))
             }
