@@ -1,7 +1,9 @@
 //! The code of an instruction: the sink calls that write it, as a value.
 
-ghost use Rattle.std.specs.Prelude.{◌≡◌, ◌≤◌, length};
+ghost use Rattle.std.specs.Int.{to_le_bytes, w64};
+ghost use Rattle.std.specs.Prelude.{◌≡◌, ◌≤◌, length, take};
 ghost use Rattle.cax64_encoder.specs.Code.{IsCode, code_actions, trap_actions};
+ghost use Rattle.cax64_sink.specs.Rest.{rest_actions};
 ghost use Rattle.cax64_sink.specs.Run.{Ran, all_bytes};
 
 use crate::short::Short;
@@ -59,6 +61,20 @@ impl Code {
         self.front.put(sink)?;
         use_optional(sink, self.target)?;
         sink.put_rest(self.long, self.imm, self.imm_len)
+    }
+
+    /// The bytes behind those in front as the lowest of a word, and how many they are: a displacement of four bytes, and the
+    /// immediate. Nothing is tested: a branch would cost more.
+    #[inline(always)]
+    pub fn rest(&self) -> (u64, u8)
+        requires { IsCode self.now }
+        ensures bytes { take result.1 (to_le_bytes w64 result.0) ≡ all_bytes (rest_actions self.now.long self.now.imm_len self.now.imm) }
+        ensures few { result.1 ≤ 8 }
+    {
+        let long_len = 4 * u8::from(self.long.is_some());
+        let word = u64::from(self.long.unwrap_or(0))
+            + (u64::from(self.imm) << (8 * u32::from(long_len)));
+        (word, long_len + self.imm_len)
     }
 
     /// The number of bytes. None of them is put.

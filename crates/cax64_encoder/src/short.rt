@@ -108,9 +108,18 @@ impl Short {
         }
     }
 
+    /// The bytes as a word, which has no others.
+    #[inline(always)]
+    pub fn word(&self) -> u64
+        ensures bytes { take (length self.now) (to_le_bytes w64 result) ≡ self.now }
+        ensures below { result < 256 ^ length self.now }
+    {
+        self.word
+    }
+
     /// How many bytes these are.
     #[inline(always)]
-    pub(crate) fn len(&self) -> u8
+    pub fn len(&self) -> u8
         ensures is { result ≡ length self.now }
         ensures few { result ≤ 8 }
     {
