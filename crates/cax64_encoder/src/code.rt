@@ -71,7 +71,8 @@ impl Code {
         ensures bytes { take result.1 (to_le_bytes w64 result.0) ≡ all_bytes (rest_actions self.now.long self.now.imm_len self.now.imm) }
         ensures few { result.1 ≤ 8 }
     {
-        let long_len = 4 * u8::from(self.long.is_some());
+        let has_long = self.long.is_some();
+        let long_len = 4 * u8::from(has_long);
         let word = u64::from(self.long.unwrap_or(0))
             + (u64::from(self.imm) << (8 * u32::from(long_len)));
         (word, long_len + self.imm_len)

@@ -280,9 +280,10 @@ fn class_of(word: u32) -> u8
     u8::from(word != 0) + u8::from(word.wrapping_add(128) >= 256)
 }
 
-/// ModR/M, SIB and a displacement of one byte.
+/// ModR/M, SIB and a displacement of one byte, by what the table has.
 #[inline(always)]
-fn front(kind: PlaceKind, class: u8, low: u8, reg: u8, sib: u8, byte: u8) -> Short
+fn front(entry: [u32; 5], kind: PlaceKind, class: u8, low: u8, reg: u8, sib: u8, byte: u8) -> Short
+    requires entry { entry ≡ tail_entry kind class low }
     requires class { class < 3 }
     requires low { low < 8 }
     requires reg { reg < 8 }
@@ -290,7 +291,7 @@ fn front(kind: PlaceKind, class: u8, low: u8, reg: u8, sib: u8, byte: u8) -> Sho
     ensures bytes { result ≡ front_of kind class low reg sib byte }
     ensures few { length result ≤ 3 }
 {
-    let [byte_unit, sib_unit, modrm, len, _] = entry(kind, class, low);
+    let [byte_unit, sib_unit, modrm, len, _] = entry;
     let word = modrm + u32::from(reg) * 8 + u32::from(sib) * sib_unit + u32::from(byte) * byte_unit;
     Short::of_word(u64::from(word), len as u8)
 }
@@ -298,12 +299,20 @@ fn front(kind: PlaceKind, class: u8, low: u8, reg: u8, sib: u8, byte: u8) -> Sho
 /// A displacement of four bytes, if there is one: this word, or in a place relative to the end minus the number of bytes of
 /// immediate behind it.
 #[inline(always)]
-fn long(kind: PlaceKind, class: u8, low: u8, word: u32, bytes_at_end: u8) -> Option<u32>
+fn long(
+    entry: [u32; 5],
+    kind: PlaceKind,
+    class: u8,
+    low: u8,
+    word: u32,
+    bytes_at_end: u8,
+) -> Option<u32>
+    requires entry { entry ≡ tail_entry kind class low }
     requires class { class < 3 }
     requires low { low < 8 }
     ensures { result ≡ long_of kind class word bytes_at_end }
 {
-    let [_, _, _, _, stands] = entry(kind, class, low);
+    let [_, _, _, _, stands] = entry;
     let back = (-i32::from(bytes_at_end)).cast_unsigned();
     let word = if kind.is_relative() { back } else { word };
     if stands != 0 { Some(word) } else { None }
@@ -325,9 +334,10 @@ pub(crate) fn tail_part(place: &DataPlace, reg: u8, displacement: i32, bytes_at_
     let class = class_of(word);
     let low = place.base % 8;
     let sib = encode_modrm(place.scale.enc(), place.index % 8, low);
+    let entry = entry(place.kind, class, low);
     TailPart {
-        front: front(place.kind, class, low, reg, sib, (word % 256) as u8),
+        front: front(entry, place.kind, class, low, reg, sib, (word % 256) as u8),
         target: place.relative(),
-        long: long(place.kind, class, low, word, bytes_at_end),
+        long: long(entry, place.kind, class, low, word, bytes_at_end),
     }
 }
