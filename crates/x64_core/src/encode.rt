@@ -85,9 +85,12 @@ impl Core {
         copy.found_fault(sink)
     }
 
-    /// The code of an instruction that can be encoded for this sink.
+    /// The machine code, as a value: what [`encode`](Self::encode) puts.
+    ///
+    /// The instruction has to be encodable for the sink, as [`is_encodable`](Self::is_encodable) tells. Where it isn't,
+    /// a build that wasn't proved may make a wrong instruction, or abort.
     #[inline(always)]
-    fn code<S: CodeSink>(&self, sink: &S) -> Code
+    pub fn code<S: CodeSink>(&self, sink: &S) -> Code
         requires { IsTrue (is_encodable (S.state sink.now).offsets (core_view self.now)) }
         ensures encodes { EncodesLine (core_meant (core_view self.now) (S.state sink.now).offsets).parts (core_meant (core_view self.now) (S.state sink.now).offsets).memory (code_actions result) }
         ensures length { length (all_bytes (code_actions result)) ≡ core_len (S.state sink.now).offsets (core_view self.now) }

@@ -36,6 +36,27 @@ fn limit(kind: OpImm) -> u64
 }
 
 impl Core {
+    /// The instruction of a line with these numbers where they stand in the bytes, which have to be those that the line takes: 0
+    /// where nothing stands; of an immediate its bytes as one word, the first one the lowest. Registers may be any.
+    ///
+    /// Nothing is tested. Where the line doesn't take them, a build that wasn't proved may make an instruction that is encoded
+    /// wrongly. [`of_numbers`](Self::of_numbers) tests them.
+    #[inline(always)]
+    pub fn of_fitting(op: Op, reg: u8, vvvv: u8, place: DataPlace, word: u32) -> Core
+        requires { core_fits (shape_of op.number) reg vvvv (viewed place) word ≡ true }
+        ensures op { result.op ≡ op }
+        ensures numbers { (result.reg ≡ reg) × (result.vvvv ≡ vvvv) × (result.imm ≡ word) }
+        ensures place { result.place ≡ place }
+    {
+        Core {
+            place,
+            imm: word,
+            op,
+            reg,
+            vvvv,
+        }
+    }
+
     /// The instruction of a line with these numbers where they stand in the bytes, 0 where nothing stands; of an immediate its
     /// bytes as one word, the first one the lowest. `None` where they aren't those that the line takes. Registers aren't tested.
     #[inline(always)]
