@@ -3,3 +3,4 @@ pub mod Places
 pub mod Flat
 pub mod Views
 pub mod Readings
+pub mod Ready

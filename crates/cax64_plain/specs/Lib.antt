@@ -6,3 +6,4 @@ pub mod Told
 -- Steps of the proofs.
 pub mod Named
 pub mod NamedReading
+pub mod Encodable

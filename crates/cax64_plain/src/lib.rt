@@ -3,6 +3,7 @@
 //! A struct of these has no padding, and any bytes may stand in it: each call tests what it's handed.
 #![tactic(auto)]
 
+mod encodable;
 pub mod immediate;
 pub mod inst;
 pub mod laws;

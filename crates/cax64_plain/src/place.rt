@@ -1,6 +1,6 @@
 //! The place of an instruction in integers.
 
-ghost use Rattle.std.specs.Prelude.{◌≡◌, ◌≢◌, ◌≤◌, IfNone, IfSome};
+ghost use Rattle.std.specs.Prelude.{◌≡◌, ◌≢◌, ◌≤◌, IfNone, IfSome, true};
 ghost use Rattle.cax64_place.specs.Tail.{kind_number};
 ghost use Rattle.cax64_plain.specs.Named.{index_beside, is_whole, is_within, offset_named};
 ghost use Rattle.cax64_plain.specs.Plain.{plain_place, target_place, trap_number};
@@ -147,7 +147,7 @@ fn offset_of(has_offset: u8, offset: u8) -> Option<KnownOffset>
 
 /// The kind of a place by its number.
 #[inline(always)]
-fn kind_of(place: u8) -> Option<PlaceKind>
+pub(crate) fn kind_of(place: u8) -> Option<PlaceKind>
     ensures some { IfSome result (λ kind. kind_number kind ≡ place) }
     ensures none { IfNone result (7 ≤ place) }
 {
@@ -277,6 +277,29 @@ impl HqPlace {
         self.is_within(&MOST[usize::from(self.place)])
     }
 
+    /// The numbers of the place that these integers are, which is of this kind.
+    #[inline(always)]
+    pub(crate) fn whole_numbers(&self, kind: PlaceKind) -> DataPlace
+        requires own { kind_number kind ≡ self.now.place }
+        requires whole { is_whole kind self.now ≡ true }
+        ensures is { plain_place (place_operand (viewed result)) ≡ self.now }
+        ensures kind { result.kind ≡ kind }
+        ensures base { result.base ≡ self.now.base }
+        ensures index { result.index ≡ index_beside kind self.now.index }
+        ensures offset { result.offset ≡ offset_named self.now.has_offset self.now.offset }
+    {
+        DataPlace {
+            kind,
+            base: self.base,
+            index: index_beside(kind, self.index),
+            scale: Scale::new(self.scale),
+            trap: trap_of(self.trap),
+            offset: offset_of(self.has_offset, self.offset),
+            displacement: AmodeOffset::new(self.disp),
+            target: self.target,
+        }
+    }
+
     /// The numbers of the place that these integers are. `None` where they are those of none: where `place` is above 6, the scale
     /// above 3, or something that the place lacks isn't 0.
     #[inline(always)]
@@ -288,16 +311,7 @@ impl HqPlace {
         if !self.is_whole(kind) {
             return None;
         }
-        Some(DataPlace {
-            kind,
-            base: self.base,
-            index: index_beside(kind, self.index),
-            scale: Scale::new(self.scale),
-            trap: trap_of(self.trap),
-            offset: offset_of(self.has_offset, self.offset),
-            displacement: AmodeOffset::new(self.disp),
-            target: self.target,
-        })
+        Some(self.whole_numbers(kind))
     }
 
     /// The place that these integers are. `None` where they are those of none: where `place` is above 6, the scale above 3, or

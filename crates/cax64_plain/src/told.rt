@@ -1,8 +1,11 @@
 //! What an instruction tells beside its bytes, in integers.
 
-ghost use Rattle.std.specs.Prelude.{◌≡◌, ◌<◌, ◌^◌, IfSome};
-ghost use Rattle.cax64_plain.specs.Told.{place_told, told};
+ghost use Rattle.std.specs.Prelude.{◌≡◌, ◌≤◌, ◌<◌, ◌^◌, IfSome};
+ghost use Rattle.cax64_plain.specs.Plain.{place_of};
+ghost use Rattle.cax64_plain.specs.Told.{place_told, told, told_at};
 
+use crate::inst::HqInst;
+use crate::place::HQ_PLACE_LABEL;
 use cax64_sink::{DeferredTarget, Notice};
 
 /// What is told: nothing.
@@ -67,6 +70,27 @@ impl HqUse {
                 kind: HQ_TOLD_PLACE,
                 number: 0,
             },
+        }
+    }
+
+    /// What an instruction tells where a displacement of four bytes stands behind so many: its trap, or what its place refers to.
+    #[inline(always)]
+    pub fn of_inst(inst: &HqInst, behind: u8) -> HqUse
+        ensures is { result ≡ told_at (place_of inst.now) behind }
+        ensures near { result.at ≤ 255 }
+    {
+        if inst.place >= HQ_PLACE_LABEL {
+            HqUse {
+                at: u32::from(behind),
+                kind: u32::from(inst.place) - 2,
+                number: inst.target,
+            }
+        } else {
+            HqUse {
+                at: 0,
+                kind: u32::from(inst.trap != 0),
+                number: u32::from(inst.trap),
+            }
         }
     }
 }

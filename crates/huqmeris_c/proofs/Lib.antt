@@ -1,4 +1,7 @@
 pub mod Done
+pub mod Blends
+pub mod Places
+pub mod Coded
 pub mod Turns
 pub mod Plainly
 pub mod Listing

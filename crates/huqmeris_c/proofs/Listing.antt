@@ -1,5 +1,5 @@
 use Rattle.std.proofs.Common.{◌≡◌, ◌∙◌, ◌+◌, ◌-◌, ◌*◌, ◌<◌, ◌≤◌, ◌^◌, ℕ, refl, sym, ap, subst, arith, Option, Some, None, List, [], ◌∷◌, ◌++◌, ℤ, Result, Ok, Err, drop, get_or, take, length, append-nil, append_assoc, length-append}
-use Rattle.std.proofs.lemmas.List.{take_at, drop_at, drop-drop, drop_all, drop_more, length-take-le, take-append-drop, take_all, take_more}
+use Rattle.std.proofs.lemmas.List.{length-drop, take_at, drop_at, drop-drop, drop_all, drop_more, length-take-le, take-append-drop, take_all, take_more}
 use Rattle.std.proofs.lemmas.Option.{slice_get-get_or}
 use Rattle.std.specs.Prelude.{OnOk, slice_get, unwrap_or}
 use Rattle.cax64_address.specs.declared.amode.Amode.{Amode}
@@ -25,7 +25,8 @@ use Rattle.cax64_sink.specs.declared.fixed_sink.FixedSink.{FixedSink}
 use Rattle.huqmeris_c.specs.Each.{AreSound, EachSound, EncodesEach, IsRefused, PutEach, StoppedAt, list_len, list_uses, plains, uses_told}
 use Rattle.huqmeris_c.specs.Encodes.{no_offsets, written}
 use Rattle.huqmeris_c.specs.declared.progress.HqDone.{HqDone}
-use Rattle.huqmeris_c.specs.Listed.{CanPut, HasRoomFor, HasSize, PutBehind, PutNext, moved}
+use Rattle.huqmeris_c.specs.Listed.{AreSized, CanPut, HasRoomFor, HasSize, IsSized, PutBehind, PutNext, moved}
+use Rattle.huqmeris_c.specs.PutCode.{PutCode}
 use Rattle.x64_core.specs.Adds.{AddsCore}
 use Rattle.x64_core.specs.Core.{core_len, core_notices, fault_of}
 use Rattle.x64_core.specs.Line.{core_line}
@@ -356,3 +357,42 @@ at_end insts first code before uses at count i h end =
 pub given_ok : {E P : Type 0} (r : Result (Unit {0}) E) (v : Unit {0}) → r ≡ Ok v → OnOk r P → P
 given_ok (Ok tt) v is h = h
 given_ok (Err e) v is h = cc
+
+-- One that is put as whole words, and what it tells.
+pub ready_put : (v : CoreView) (at : ℕ) (code part part' : List ℕ) (behind len len' : ℕ) (heard : List HqUse) → at + 16 ≤ length code → part ≡ take (length code - at) (drop at code) → len' ≡ len → (put : PutCode v part part' behind len) → heard ≡ uses_told (line_notices_of (memory_in v.place) at put.adds.line.reads.reading) → PutBehind v at code (take at code ++ (part' ++ drop (length code - at) (drop at code))) len' heard
+ready_put v at code part part' behind len len' heard room is same put tells =
+    let left : length (drop at code) ≤ length code - at = let k = length-drop at code in omega (arith, k) in
+    let whole : part ≡ drop at code = is ∙ take_all (length code - at) (drop at code) left in
+    let nothing : drop (length code - at) (drop at code) ≡ [] = drop_all (length code - at) (drop at code) left in
+    let behind : drop len part ≡ drop (at + len') code = ap (λ (l : List ℕ). drop len l) whole ∙ drop-drop len at code ∙ ap (λ (n : ℕ). drop (at + n) code) (sym same) in
+    record {
+      added = put.added;
+      is = ap (λ (l : List ℕ). take at code ++ (part' ++ l)) nothing ∙ ap (λ (l : List ℕ). take at code ++ l) (append-nil part' ∙ put.front ∙ ap (λ (l : List ℕ). put.added ++ l) behind);
+      count = same ∙ put.count;
+      most = subst (λ (n : ℕ). n ≤ 13) (sym same) put.most;
+      size = same ∙ put.size;
+      adds = put.adds;
+      tells = tells;
+      number = ap (λ (l : List HqUse). length l) tells ∙ number_told (memory_in v.place) at put.adds.line.reads.reading;
+    }
+
+-- One more that can be encoded.
+pub sized_more : (insts : List HqInst) (d : HqInst) (i : ℕ) → AreSized (take i insts) i → i < length insts → IsSized (get_or insts i d) → AreSized (take (i + 1) insts) (i + 1)
+sized_more insts d i h within size =
+    let more = measured_more insts d h.bytes h.uses i size.bytes size.uses size.bytes size.uses (record { sound = h.sound; most = h.most; few = h.few }) within size.size refl refl in
+    record { bytes = h.bytes + size.bytes; uses = h.uses + size.uses; sound = more.sound; most = more.most; few = more.few }
+
+pub none_sized : AreSized [] 0
+none_sized = record { bytes = 0; uses = 0; sound = none_sound; most = omega arith; few = omega arith }
+
+pub all_sized : (insts : List HqInst) (i : ℕ) → AreSized (take i insts) i → length insts ≤ i → i ≤ length insts → AreSized insts (length insts)
+all_sized insts i h end within =
+    let there : i ≡ length insts = omega (arith, end, within) in
+    subst (λ (n : ℕ). AreSized insts n) there (subst (λ (l : List HqInst). AreSized l i) (take_all i insts end) h)
+
+-- There is room for the most that they may have.
+pub sized_fits : (insts : List HqInst) (room places : ℕ) → AreSized insts (length insts) → length insts * 13 ≤ room → length insts ≤ places → HasRoomFor insts room places
+sized_fits insts room places h r p =
+    let most = h.most in
+    let few = h.few in
+    record { bytes = h.bytes; uses = h.uses; sound = h.sound; fits = omega (arith, most, r); few = omega (arith, few, p) }

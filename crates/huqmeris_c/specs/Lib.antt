@@ -10,5 +10,6 @@ pub mod Traps
 pub mod Items
 pub mod Text
 -- Steps of the proofs.
+pub mod PutCode
 pub mod Listed
 pub mod Putting

@@ -1,7 +1,9 @@
-use Rattle.std.specs.Prelude.{◌≡◌, ◌≤◌, ◌+◌, ◌++◌, ℕ, Option, Some, None, List, [], ◌∷◌, drop, take, length}
+use Rattle.std.specs.Prelude.{◌≡◌, ◌≤◌, ◌+◌, ◌*◌, ◌++◌, ℕ, Option, Some, None, List, [], ◌∷◌, drop, slice_get, take, length}
 use Rattle.cax64_encoder.specs.EncodesLine.{line_notices_of}
 use Rattle.cax64_encoder.specs.Place.{memory_in}
+use Rattle.cax64_machine_code.specs.ReadLine.{LineReading}
 use Rattle.cax64_plain.specs.Plain.{plain}
+use Rattle.cax64_plain.specs.Told.{told}
 use Rattle.cax64_plain.specs.declared.inst.HqInst.{HqInst}
 use Rattle.cax64_plain.specs.declared.told.HqUse.{HqUse}
 use Rattle.huqmeris_c.specs.Each.{AreSound, uses_told}
@@ -30,6 +32,24 @@ pub record HasSize (inst : HqInst) (bytes uses : ℕ) : Type 0 where
   pub len : bytes ≡ core_len no_offsets (core_view core)
   pub count : uses ≡ core_notices (core_view core)
   pub most : bytes ≤ 13
+
+-- it has some size
+pub record IsSized (inst : HqInst) : Type 0 where
+  pub bytes : ℕ
+  pub uses : ℕ
+  pub size : HasSize inst bytes uses
+
+-- so many instructions that can be encoded, which have 13 bytes at most each, and one notice
+pub record AreSized (insts : List HqInst) (n : ℕ) : Type 0 where
+  pub bytes : ℕ
+  pub uses : ℕ
+  pub sound : AreSound insts bytes uses
+  pub most : bytes ≤ 13 * n
+  pub few : uses ≤ n
+
+-- the first thing that is told of an instruction with nothing before it
+abbrev pub told_first : CoreView → LineReading → HqUse
+told_first v reading = told (slice_get (line_notices_of (memory_in v.place) 0 reading) 0)
 
 -- there is room for all that is left
 pub record HasRoomFor (insts : List HqInst) (room places : ℕ) : Type 0 where

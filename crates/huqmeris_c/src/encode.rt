@@ -1,6 +1,6 @@
 //! Encoding.
 
-ghost use Rattle.std.specs.Prelude.{◌≡◌, ◌≢◌, ◌≤◌, [], IfSome, MatchOption, Some, pos, slice_get};
+ghost use Rattle.std.specs.Prelude.{◌≡◌, ◌≢◌, ◌≤◌, [], IfSome, IsTrue, MatchOption, Some, length, pos, slice_get};
 ghost use Rattle.cax64_encoder.specs.EncodesLine.{line_notices_of};
 ghost use Rattle.cax64_encoder.specs.Place.{memory_in};
 ghost use Rattle.cax64_machine_code.specs.Line.{imm_bytes};
@@ -11,13 +11,15 @@ ghost use Rattle.cax64_sink.specs.FixedSink.{fixed_sink_state};
 ghost use Rattle.cax64_plain.specs.Told.{place_told};
 ghost use Rattle.huqmeris_c.specs.Encodes.{Encodes, no_offsets};
 ghost use Rattle.huqmeris_c.specs.Outcome.{PutAs, Unchanged};
-ghost use Rattle.x64_core.specs.Core.{core_len, fault_of};
+ghost use Rattle.huqmeris_c.specs.PutCode.{PutCode};
+ghost use Rattle.x64_core.specs.Core.{core_len, fault_of, is_encodable};
 ghost use Rattle.x64_core.specs.Line.{core_line};
 ghost use Rattle.x64_core.specs.Lines.{core_lines};
 ghost use Rattle.x64_core.specs.Shape.{imm_field};
 ghost use Rattle.x64_core.specs.View.{core_view};
 ghost use Rattle.x64_core.specs.declared.instruction.Core.{Core};
 
+use crate::words::put_words;
 use cax64_encoder::EncodeError;
 use cax64_plain::status::{HQ_BAD_INST, HQ_FULL, HQ_OK, fault_status};
 use cax64_plain::{HqInst, HqUse};
@@ -130,10 +132,32 @@ fn put(core: &Core, code: &mut [u8], len: &mut u32, told: &mut HqUse) -> i32
     HQ_OK
 }
 
-/// Encodes an instruction into the front of some bytes, and says how many it has, 1 to 13, and what it tells beside them.
-/// `HQ_FULL` where they are too few. No late offset is known.
-#[unsafe(no_mangle)]
-pub extern "C" fn hq_encode(inst: &HqInst, code: &mut [u8], len: &mut u32, told: &mut HqUse) -> i32
+/// Puts an instruction that can be encoded at the front of some bytes, and says how many stand before its displacement of four
+/// bytes, if it has one, and how many it has.
+#[inline(always)]
+pub(crate) fn put_encodable(core: &Core, code: &mut [u8]) -> (u8, u8)
+    requires encodable { IsTrue (is_encodable no_offsets (core_view core.now)) }
+    requires room { 16 ≤ length code.old }
+    ensures { PutCode (core_view core.now) code.old code.new result.0 result.1 }
+{
+    let sink = FixedSink::<0>::new();
+    let made = core.code(&sink);
+    let behind = made.front.len();
+    let (rest, more) = made.rest();
+    put_words(
+        code,
+        made.front.word(),
+        usize::from(behind),
+        rest,
+        usize::from(more),
+    );
+    (behind, behind + more)
+}
+
+/// Encodes what may be an instruction, whatever else it is.
+#[cold]
+#[inline(never)]
+fn encode_any(inst: &HqInst, code: &mut [u8], len: &mut u32, told: &mut HqUse) -> i32
     ensures bad { ((c : Core) → plain (core_view c) ≢ inst.now) → (result ≡ pos 1) × Unchanged code.old code.new len.old len.new told.old told.new }
     ensures puts { (c : Core) → plain (core_view c) ≡ inst.now → PutAs (core_view c) code.old code.new len.old len.new told.old told.new result }
 {
@@ -141,4 +165,22 @@ pub extern "C" fn hq_encode(inst: &HqInst, code: &mut [u8], len: &mut u32, told:
         return HQ_BAD_INST;
     };
     put(&core, code, len, told)
+}
+
+/// Encodes an instruction into the front of some bytes, and says how many it has, 1 to 13, and what it tells beside them.
+/// `HQ_FULL` where they are too few. No late offset is known.
+#[unsafe(no_mangle)]
+pub extern "C" fn hq_encode(inst: &HqInst, code: &mut [u8], len: &mut u32, told: &mut HqUse) -> i32
+    ensures bad { ((c : Core) → plain (core_view c) ≢ inst.now) → (result ≡ pos 1) × Unchanged code.old code.new len.old len.new told.old told.new }
+    ensures puts { (c : Core) → plain (core_view c) ≡ inst.now → PutAs (core_view c) code.old code.new len.old len.new told.old told.new result }
+{
+    if code.len() >= 16 {
+        if let Some(core) = inst.encodable() {
+            let (behind, count) = put_encodable(&core, code);
+            *len = u32::from(count);
+            *told = HqUse::of_inst(inst, behind);
+            return HQ_OK;
+        }
+    }
+    encode_any(inst, code, len, told)
 }

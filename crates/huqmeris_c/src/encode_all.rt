@@ -1,20 +1,21 @@
 //! Encoding of many instructions.
 
-ghost use Rattle.std.specs.Prelude.{◌≡◌, ◌≤◌, ◌<◌, ◌+◌, ◌++◌, ◌^◌, ℕ, [], IfErr, IfOk, None, Some, drop, length, take};
+ghost use Rattle.std.specs.Prelude.{◌≡◌, ◌≤◌, ◌<◌, ◌+◌, ◌++◌, ◌^◌, ℕ, [], IfErr, IfOk, IsTrue, None, Some, drop, length, take, true};
 ghost use Rattle.cax64_encoder.specs.EncodesLine.{line_notices_of};
 ghost use Rattle.cax64_encoder.specs.Place.{memory_in};
 ghost use Rattle.cax64_machine_code.specs.ReadLine.{LineReading, read_of};
+ghost use Rattle.cax64_plain.specs.Plain.{plain};
 ghost use Rattle.cax64_sink.specs.FixedSink.{fixed_sink_state};
 ghost use Rattle.huqmeris_c.specs.Each.{AreSound, EachPutAs, IsRefused, PutEach, StoppedAt, uses_told};
 ghost use Rattle.huqmeris_c.specs.Encodes.{no_offsets, written};
-ghost use Rattle.huqmeris_c.specs.Listed.{CanPut, HasRoomFor, HasSize, PutBehind, PutNext, moved, use_list};
+ghost use Rattle.huqmeris_c.specs.Listed.{AreSized, CanPut, HasRoomFor, HasSize, IsSized, PutBehind, PutNext, moved, told_first, use_list};
 ghost use Rattle.x64_core.specs.Adds.{AddsCore};
-ghost use Rattle.x64_core.specs.Core.{core_len, fault_of};
+ghost use Rattle.x64_core.specs.Core.{core_len, fault_of, is_encodable};
 ghost use Rattle.x64_core.specs.Line.{core_line};
 ghost use Rattle.x64_core.specs.Lines.{core_lines};
 ghost use Rattle.x64_core.specs.View.{core_view};
 
-use crate::encode::{notice_of, sink};
+use crate::encode::{notice_of, put_encodable, sink};
 use crate::progress::HqDone;
 use crate::status::HQ_TOO_MANY;
 use cax64_encoder::RoomNeeded;
@@ -46,6 +47,33 @@ fn size_of(inst: &HqInst) -> Result<RoomNeeded, i32>
         Some(fault) => Err(fault_status(fault)),
         None => Ok(core.room_needed(&sink)),
     }
+}
+
+/// Whether an instruction can be encoded where no late offset is known. False says nothing.
+#[inline(always)]
+fn is_ready(inst: &HqInst) -> bool
+    ensures { result ≡ true → IsSized inst.now }
+{
+    match inst.encodable() {
+        None => false,
+        Some(core) => {
+            // That it has 13 bytes at most is asked for the proof's sake alone, and the compiler leaves it out.
+            let _ = core.room_needed(&FixedSink::<0>::new());
+            true
+        }
+    }
+}
+
+/// Whether each instruction can be encoded where no late offset is known. False says nothing.
+fn are_ready(insts: &[HqInst]) -> bool
+    ensures { result ≡ true → AreSized insts.now (length insts.now) }
+{
+    for i in 0..insts.len() {
+        if !is_ready(&insts[i]) {
+            return false;
+        }
+    }
+    true
 }
 
 /// Finds how many bytes instructions have, and how many traps and targets they tell, or the first that can't be encoded.
@@ -130,6 +158,33 @@ fn put_behind(core: &Core, code: &mut [u8], at: usize) -> (usize, Option<HqUse>)
     (bytes.len(), use_of(core, bytes, at))
 }
 
+/// What an instruction tells behind so many bytes that tells this alone.
+#[inline(always)]
+fn use_behind(core: &Core, told: HqUse, at: usize) -> Option<HqUse>
+    requires { at + told.at < 2 ^ 32 }
+    ensures { (reading : LineReading) → told ≡ told_first (core_view core.now) reading → use_list result ≡ uses_told (line_notices_of (memory_in (core_view core.now).place) at reading) }
+{
+    if core.notice_count() == 0 {
+        None
+    } else {
+        Some(moved(told, at))
+    }
+}
+
+/// Puts an instruction of these integers that can be encoded behind so many bytes, and says how many it has, and what it tells.
+#[inline(always)]
+fn put_ready(inst: &HqInst, core: &Core, code: &mut [u8], at: usize) -> (usize, Option<HqUse>)
+    requires is { plain (core_view core.now) ≡ inst.now }
+    requires encodable { IsTrue (is_encodable no_offsets (core_view core.now)) }
+    requires room { at + 16 ≤ length code.old }
+    requires near { at < 2 ^ 31 }
+    ensures { PutBehind (core_view core.now) at code.old code.new result.0 (use_list result.1) }
+{
+    let (behind, len) = put_encodable(core, &mut code[at..]);
+    let told = HqUse::of_inst(inst, behind);
+    (usize::from(len), use_behind(core, told, at))
+}
+
 /// Notes what may be told behind so many others, and says how many these are then.
 fn note(uses: &mut [HqUse], count: usize, heard: Option<HqUse>) -> usize
     requires { count + length (use_list heard) ≤ length uses.old }
@@ -147,8 +202,10 @@ fn note(uses: &mut [HqUse], count: usize, heard: Option<HqUse>) -> usize
     }
 }
 
-/// Puts the next instruction, and says how many bytes there are then, and how many uses.
-fn put_next(
+/// Puts the next instruction, whatever it is, and says how many bytes there are then, and how many uses.
+#[cold]
+#[inline(never)]
+fn put_any(
     inst: &HqInst,
     code: &mut [u8],
     uses: &mut [HqUse],
@@ -167,6 +224,29 @@ fn put_next(
             (at + put.0, noted)
         }
     }
+}
+
+/// Puts the next instruction, and says how many bytes there are then, and how many uses.
+#[inline(always)]
+fn put_next(
+    inst: &HqInst,
+    code: &mut [u8],
+    uses: &mut [HqUse],
+    at: usize,
+    count: usize,
+) -> (usize, usize)
+    requires ready { CanPut inst.now (length code.old) (length uses.old) at count }
+    requires near { at < 2 ^ 31 }
+    ensures { PutNext inst.now code.old code.new uses.old uses.new at count result.0 result.1 }
+{
+    if at + 16 <= code.len() {
+        if let Some(core) = inst.encodable() {
+            let put = put_ready(inst, &core, code, at);
+            let noted = note(uses, count, put.1);
+            return (at + put.0, noted);
+        }
+    }
+    put_any(inst, code, uses, at, count)
 }
 
 /// Puts instructions one behind the other, and says how many bytes they have, and how many traps and targets they tell.
@@ -202,6 +282,16 @@ pub extern "C" fn hq_encode_all(
 {
     if insts.len() > MOST {
         return HQ_TOO_MANY;
+    }
+    // Where there is room for the most that they may have, it isn't counted what they have before they are put.
+    if insts.len() * 13 <= code.len() && insts.len() <= uses.len() && are_ready(insts) {
+        let (bytes, count) = put_each(insts, code, uses);
+        *done = HqDone {
+            items: insts.len(),
+            bytes,
+            uses: count,
+        };
+        return HQ_OK;
     }
     match measure(insts) {
         Err(stop) => {

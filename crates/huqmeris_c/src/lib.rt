@@ -28,3 +28,4 @@ mod text;
 mod traps;
 mod unbound;
 mod version;
+mod words;

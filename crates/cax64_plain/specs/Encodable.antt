@@ -1,0 +1,76 @@
+use Rattle.std.specs.Prelude.{ℕ, ◌==◌, ◌&&◌, ◌^◌, ◌-◌, not, nat_le, nat_lt, Bool, true, false, if◌then◌else◌}
+use Rattle.std.specs.Int.{cast_unsigned, from_bool, w32}
+use Rattle.cax64_place.specs.Kind.{has_base, has_index}
+use Rattle.cax64_place.specs.declared.place.PlaceKind.{PlaceKind}
+use Rattle.cax64_place.specs.declared.place.PlaceKind.TheVariants.{Absent, Register, Base, BaseAndIndex, Label, Constant, NoTarget}
+use Rattle.cax64_plain.specs.Named.{has_displacement, has_target}
+use Rattle.cax64_plain.specs.declared.encodable.Limits.{Limits}
+use Rattle.cax64_plain.specs.declared.inst.HqInst.{HqInst}
+use Rattle.cax64_plain.specs.declared.place.HqPlace.{HqPlace}
+use Rattle.x64_core.specs.Shape.{has_mem, has_reg, has_rm, has_vvvv}
+use Rattle.x64_core.specs.declared.shapes.OpFields.{OpFields}
+use Rattle.x64_core.specs.declared.shapes.OpFields.TheVariants.{Bare, Rm, Mem, RegRm, RegMem, RegVvvvRm}
+use Rattle.x64_core.specs.declared.shapes.OpImm.{OpImm}
+use Rattle.x64_core.specs.declared.shapes.OpImm.TheVariants as imm
+
+-- Integers of an instruction that can be encoded.
+
+abbrev pub fields_number : OpFields → ℕ
+fields_number Bare = 0
+fields_number Rm = 1
+fields_number Mem = 2
+fields_number RegRm = 3
+fields_number RegMem = 4
+fields_number RegVvvvRm = 5
+
+abbrev pub imm_number : OpImm → ℕ
+imm_number imm.None = 0
+imm_number imm.U8 = 1
+imm_number imm.U16 = 2
+imm_number imm.U32 = 3
+imm_number imm.I8 = 4
+imm_number imm.I32 = 5
+
+-- a line of these fields takes a place of this kind
+abbrev pub takes : OpFields → PlaceKind → Bool
+takes fields Absent = not (has_mem fields)
+takes fields Register = has_rm fields
+takes fields Base = has_mem fields
+takes fields BaseAndIndex = has_mem fields
+takes fields Label = has_mem fields
+takes fields Constant = has_mem fields
+takes fields NoTarget = has_mem fields
+
+-- the largest number of what is there, 0 of what isn't
+abbrev pub most : Bool → ℕ → ℕ
+most present largest = if present then largest else 0
+
+abbrev pub limits_where : Bool → OpFields → PlaceKind → Limits
+limits_where taken fields kind = record {
+  reg = most (taken && has_reg fields) 15;
+  vvvv = most (taken && has_vvvv fields) 15;
+  base = most (taken && has_base kind) 15;
+  index = most (taken && has_index kind) 15;
+  scale = most (taken && has_index kind) 3;
+  trap = most (taken && has_displacement kind) 255;
+  has_offset = 0;
+  offset = 0;
+  disp = most (taken && has_displacement kind) (2 ^ 32 - 1);
+  target = most (taken && has_target kind) (2 ^ 32 - 1);
+  reserved = from_bool taken;
+}
+
+-- what the table has
+abbrev pub limits_of : OpFields → PlaceKind → Limits
+limits_of fields kind = limits_where (takes fields kind) fields kind
+
+-- each number is at most the one of these, and the index isn't the stack pointer
+abbrev pub is_within : Limits → HqInst → Bool
+is_within l i = (((((((((((nat_le i.reg l.reg && nat_le i.vvvv l.vvvv) && nat_le i.base l.base) && nat_le i.index l.index) && nat_le i.scale l.scale) && nat_le i.trap l.trap) && nat_le i.has_offset l.has_offset) && nat_le i.offset l.offset) && nat_lt i.reserved l.reserved) && not (i.index == 4)) && nat_le (cast_unsigned w32 i.disp) l.disp) && nat_le i.target l.target)
+
+abbrev pub is_ready : OpFields → PlaceKind → HqInst → Bool
+is_ready fields kind i = is_within (limits_of fields kind) i
+
+-- a place without a late offset
+abbrev pub settled_place : HqInst → HqPlace
+settled_place i = record { place = i.place; base = i.base; index = i.index; scale = i.scale; trap = i.trap; has_offset = 0; offset = 0; reserved = 0; disp = i.disp; target = i.target }

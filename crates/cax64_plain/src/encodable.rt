@@ -1,0 +1,269 @@
+//! An instruction in integers that can be encoded, tested by one look at the largest numbers of its line and its place.
+
+ghost use Rattle.std.specs.Prelude.{◌≡◌, ◌<◌, ◌^◌, IfSome, IsTrue, None, nat_lt, option_map, true};
+ghost use Rattle.cax64_encoder.specs.ImmActions.{imm_named};
+ghost use Rattle.cax64_machine_code.specs.Line.{imm_bytes};
+ghost use Rattle.cax64_operand.specs.Immediate.{imm_value};
+ghost use Rattle.cax64_place.specs.Tail.{kind_number};
+ghost use Rattle.cax64_plain.specs.Encodable.{fields_number, imm_number, is_ready, is_within, settled_place};
+ghost use Rattle.cax64_plain.specs.Plain.{imm_word, plain};
+ghost use Rattle.x64_core.specs.Core.{is_encodable};
+ghost use Rattle.x64_core.specs.Shape.{imm_field};
+ghost use Rattle.x64_core.specs.View.{core_view};
+
+use crate::inst::HqInst;
+use crate::place::{HqPlace, kind_of};
+use cax64_place::PlaceKind;
+use cax64_register::gpr;
+use x64_core::shapes::{OpFields, OpImm};
+use x64_core::{Core, Op};
+
+/// The largest numbers of an instruction that can be encoded, by the operands of its line and the kind of its place: 0 of what
+/// it lacks. The first eight stand in the order of `HqInst`, so that they are compared at once.
+struct Limits {
+    reg: u8,
+    vvvv: u8,
+    base: u8,
+    index: u8,
+    scale: u8,
+    trap: u8,
+    has_offset: u8,
+    offset: u8,
+    /// Of the displacement's bytes as a word.
+    disp: u32,
+    target: u32,
+    /// What `reserved` is below: 0 where the line doesn't take such a place.
+    reserved: u8,
+}
+
+/// Nothing.
+const NOTHING: Limits = Limits {
+    reg: 0,
+    vvvv: 0,
+    base: 0,
+    index: 0,
+    scale: 0,
+    trap: 0,
+    has_offset: 0,
+    offset: 0,
+    disp: 0,
+    target: 0,
+    reserved: 1,
+};
+
+/// A place that the line doesn't take.
+const NONE: Limits = Limits {
+    reserved: 0,
+    ..NOTHING
+};
+
+const REGISTER: Limits = Limits {
+    base: 15,
+    ..NOTHING
+};
+
+const BASE: Limits = Limits {
+    base: 15,
+    trap: 255,
+    disp: 4_294_967_295,
+    ..NOTHING
+};
+
+const INDEX: Limits = Limits {
+    base: 15,
+    index: 15,
+    scale: 3,
+    trap: 255,
+    disp: 4_294_967_295,
+    ..NOTHING
+};
+
+const TARGET: Limits = Limits {
+    target: 4_294_967_295,
+    ..NOTHING
+};
+
+/// For the fields of each line the seven kinds of place, by their numbers.
+#[rattlefmt::skip]
+static LIMITS: [Limits; 42] = [
+    // Bare
+    NOTHING,
+    NONE,
+    NONE,
+    NONE,
+    NONE,
+    NONE,
+    NONE,
+    // Rm
+    NONE,
+    REGISTER,
+    BASE,
+    INDEX,
+    TARGET,
+    TARGET,
+    NOTHING,
+    // Mem
+    NONE,
+    NONE,
+    BASE,
+    INDEX,
+    TARGET,
+    TARGET,
+    NOTHING,
+    // RegRm
+    NONE,
+    Limits { reg: 15, ..REGISTER },
+    Limits { reg: 15, ..BASE },
+    Limits { reg: 15, ..INDEX },
+    Limits { reg: 15, ..TARGET },
+    Limits { reg: 15, ..TARGET },
+    Limits { reg: 15, ..NOTHING },
+    // RegMem
+    NONE,
+    NONE,
+    Limits { reg: 15, ..BASE },
+    Limits { reg: 15, ..INDEX },
+    Limits { reg: 15, ..TARGET },
+    Limits { reg: 15, ..TARGET },
+    Limits { reg: 15, ..NOTHING },
+    // RegVvvvRm
+    NONE,
+    Limits { reg: 15, vvvv: 15, ..REGISTER },
+    Limits { reg: 15, vvvv: 15, ..BASE },
+    Limits { reg: 15, vvvv: 15, ..INDEX },
+    Limits { reg: 15, vvvv: 15, ..TARGET },
+    Limits { reg: 15, vvvv: 15, ..TARGET },
+    Limits { reg: 15, vvvv: 15, ..NOTHING },
+];
+
+/// The number of the fields of a line, in the order in which they are listed.
+#[inline(always)]
+fn fields_number(fields: OpFields) -> usize
+    ensures is { result ≡ fields_number fields }
+    ensures below { result < 6 }
+{
+    match fields {
+        OpFields::Bare => 0,
+        OpFields::Rm => 1,
+        OpFields::Mem => 2,
+        OpFields::RegRm => 3,
+        OpFields::RegMem => 4,
+        OpFields::RegVvvvRm => 5,
+    }
+}
+
+/// The first numbers that are too large for the bytes of an immediate, by the number of its kind.
+static TOO_LARGE: [u64; 6] = [1, 1 << 8, 1 << 16, 1 << 32, 1 << 8, 1 << 32];
+
+/// The number of the kind of an immediate, in the order in which they are listed.
+#[inline(always)]
+fn imm_number(kind: OpImm) -> usize
+    ensures is { result ≡ imm_number kind }
+    ensures below { result < 6 }
+{
+    match kind {
+        OpImm::None => 0,
+        OpImm::U8 => 1,
+        OpImm::U16 => 2,
+        OpImm::U32 => 3,
+        OpImm::I8 => 4,
+        OpImm::I32 => 5,
+    }
+}
+
+/// The first number that is too large for the bytes of an immediate. It's looked up: a branch would cost more.
+#[inline(always)]
+fn limit(kind: OpImm) -> u64
+    ensures { result ≡ 256 ^ imm_bytes (imm_field kind) }
+{
+    TOO_LARGE[imm_number(kind)]
+}
+
+/// The bytes of an immediate of this kind as one word, the first one the lowest, from the low 32 bits of its value. `None` where
+/// they aren't those of one. It isn't asked first whether a signed byte is wanted, since a branch on that is often guessed wrong.
+#[inline(always)]
+fn imm_bytes(kind: OpImm, low: u32) -> Option<u32>
+    ensures { IfSome result (λ word. (nat_lt word (256 ^ imm_bytes (imm_field kind)) ≡ true) × (imm_word (option_map imm_value (imm_named (imm_field kind) word)) ≡ low)) }
+{
+    let is_signed_byte = matches!(kind, OpImm::I8);
+    let from_0 = if is_signed_byte {
+        low.wrapping_add(128)
+    } else {
+        low
+    };
+    let word = if is_signed_byte { low % 256 } else { low };
+    if u64::from(from_0) < limit(kind) {
+        Some(word)
+    } else {
+        None
+    }
+}
+
+impl HqInst {
+    /// Its place, which has no late offset.
+    #[inline(always)]
+    fn settled_place(&self) -> HqPlace
+        ensures { result ≡ settled_place self.now }
+    {
+        HqPlace {
+            place: self.place,
+            base: self.base,
+            index: self.index,
+            scale: self.scale,
+            trap: self.trap,
+            has_offset: 0,
+            offset: 0,
+            reserved: 0,
+            disp: self.disp,
+            target: self.target,
+        }
+    }
+
+    /// Whether each number is at most the one of these, and the index isn't the stack pointer.
+    #[inline(always)]
+    fn is_within(&self, most: &Limits) -> bool
+        ensures { result ≡ is_within most.now self.now }
+    {
+        let numbers = (self.reg <= most.reg)
+            & (self.vvvv <= most.vvvv)
+            & (self.base <= most.base)
+            & (self.index <= most.index)
+            & (self.scale <= most.scale)
+            & (self.trap <= most.trap)
+            & (self.has_offset <= most.has_offset)
+            & (self.offset <= most.offset);
+        numbers
+            & (self.reserved < most.reserved)
+            & (self.index != gpr::enc::RSP)
+            & (self.disp.cast_unsigned() <= most.disp)
+            & (self.target <= most.target)
+    }
+
+    /// Whether it is an instruction of a line with these fields and of this place, which is its own, but for the immediate, and
+    /// can be encoded where no late offset is known.
+    #[inline(always)]
+    fn is_ready(&self, fields: OpFields, kind: PlaceKind) -> bool
+        requires { kind_number kind ≡ self.now.place }
+        ensures { result ≡ is_ready fields kind self.now }
+    {
+        self.is_within(&LIMITS[fields_number(fields) * 7 + usize::from(self.place)])
+    }
+
+    /// The instruction of the core that these integers are, if it can be encoded where no late offset is known. `None` says
+    /// nothing: [`core`](Self::core) tells what else they may be.
+    #[inline(always)]
+    pub fn encodable(&self) -> Option<Core>
+        ensures is { IfSome result (λ c. plain (core_view c) ≡ self.now) }
+        ensures encodable { IfSome result (λ c. IsTrue (is_encodable (λ _. None) (core_view c))) }
+    {
+        let op = Op::from_number(self.line)?;
+        let kind = kind_of(self.place)?;
+        let shape = op.shape();
+        if !self.is_ready(shape.fields, kind) {
+            return None;
+        }
+        let word = imm_bytes(shape.imm, self.imm)?;
+        let place = self.settled_place().whole_numbers(kind);
+        Some(Core::of_fitting(op, self.reg, self.vvvv, place, word))
+    }
+}
