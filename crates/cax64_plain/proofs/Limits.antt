@@ -2,12 +2,10 @@ use Rattle.std.proofs.Common.{◌≡◌, ◌∙◌, ◌+◌, ◌<◌, ◌≤◌,
 use Rattle.std.proofs.lemmas.Bool.{and_parts}
 use Rattle.std.proofs.lemmas.Bool.Decides.{nat_tests}
 use Rattle.std.specs.Prelude.{◌==◌, ◌||◌, ◌&&◌, nat_le, nat_lt, slice_index_or}
-use Rattle.cax64_place.specs.Kind.{has_base, has_index}
-use Rattle.cax64_place.specs.Place.{is_zero}
 use Rattle.cax64_place.specs.Tail.{kind_number}
 use Rattle.cax64_place.specs.declared.place.PlaceKind.{PlaceKind}
 use Rattle.cax64_place.specs.declared.place.PlaceKind.TheVariants.{Absent, Register, Base, BaseAndIndex, Label, Constant, NoTarget}
-use Rattle.cax64_plain.specs.Named.{has_displacement, has_offset, has_target, is_whole, is_within}
+use Rattle.cax64_plain.specs.Named.{is_whole, is_within}
 use Rattle.cax64_plain.specs.declared.place.HqPlace.{HqPlace}
 use Rattle.cax64_plain.specs.declared.place.Most.{Most}
 use Rattle.cax64_plain.specs.declared.place.TheConstants.{MOST}

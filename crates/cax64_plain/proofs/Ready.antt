@@ -1,9 +1,9 @@
-use Rattle.std.proofs.Common.{◌≡◌, ◌∙◌, ◌+◌, ◌*◌, ℕ, refl, sym, ap, subst, arith, Bool, true, false, Option, None, ℤ, pos, FitsSigned, w32}
+use Rattle.std.proofs.Common.{◌≡◌, ◌∙◌, ◌+◌, ◌*◌, ℕ, refl, sym, ap, subst, arith, Bool, true, false, None, ℤ, pos, FitsSigned, w32}
 use Rattle.std.proofs.lemmas.Bool.{and_parts}
 use Rattle.std.proofs.lemmas.Bool.Decides.{nat_tests}
 use Rattle.std.proofs.lemmas.Int.{to_z-of_z}
-use Rattle.std.specs.Prelude.{◌==◌, ◌||◌, ◌&&◌, ◌^◌, ◌-◌, not, nat_le, nat_lt, slice_index_or, IsTrue}
-use Rattle.std.specs.Int.{cast_signed, cast_unsigned, from_bool}
+use Rattle.std.specs.Prelude.{◌==◌, ◌||◌, ◌&&◌, ◌^◌, ◌-◌, if◌then◌else◌, not, nat_le, nat_lt, slice_index_or, IsTrue}
+use Rattle.std.specs.Int.{cast_signed, cast_unsigned}
 use Rattle.cax64_encoder.specs.Fault.{all_met, late_offset_fits}
 use Rattle.cax64_encoder.specs.Numbered as numbered
 use Rattle.cax64_encoder.specs.Place.{memory_in}
@@ -16,16 +16,15 @@ use Rattle.cax64_place.specs.Tail.{kind_number}
 use Rattle.cax64_place.specs.declared.place.DataPlace.{DataPlace}
 use Rattle.cax64_place.specs.declared.place.PlaceKind.{PlaceKind}
 use Rattle.cax64_place.specs.declared.place.PlaceKind.TheVariants.{Absent, Register, Base, BaseAndIndex, Label, Constant, NoTarget}
-use Rattle.cax64_plain.specs.Encodable.{fields_number, is_ready, is_within, limits_of, limits_where, most, settled_place, takes}
+use Rattle.cax64_plain.specs.Encodable.{IsImm, IsReady, fields_number, is_ready, is_within, limits_of, limits_where, most, settled_place, takes}
 use Rattle.cax64_plain.specs.Named.{has_displacement, has_offset, has_target, index_beside, is_whole}
 use Rattle.cax64_plain.specs.Plain.{place_of}
 use Rattle.cax64_plain.specs.declared.encodable.Limits.{Limits}
 use Rattle.cax64_plain.specs.declared.encodable.TheConstants.{LIMITS}
 use Rattle.cax64_plain.specs.declared.inst.HqInst.{HqInst}
-use Rattle.cax64_plain.specs.declared.place.HqPlace.{HqPlace}
 use Rattle.x64_core.specs.Core.{is_encodable, visited_of}
 use Rattle.x64_core.specs.Fits.{core_fits, place_fits}
-use Rattle.x64_core.specs.Shape.{has_reg, has_vvvv, imm_field}
+use Rattle.x64_core.specs.Shape.{has_reg, has_vvvv, imm_field, shape_of}
 use Rattle.x64_core.specs.View.{core_view, place_operand}
 use Rattle.x64_core.specs.Viewed.{viewed, viewed_by}
 use Rattle.x64_core.specs.declared.instruction.Core.{Core}
@@ -264,3 +263,29 @@ can_be f k i c d r reg vvvv is kind base index late =
     let met : all_met (visited_of (core_view c)) ≡ true = sym (met_is c) ∙ both _ _ (rw reg r.reg_below) (both _ _ (rw vvvv r.vvvv_below) real) in
     let fits : late_offset_fits (λ _. None) (memory_in (place_operand (viewed c.place))) ≡ true = subst (λ (p : DataPlace). late_offset_fits (λ _. None) (memory_in (place_operand (viewed p))) ≡ true) (sym is) (subst (λ (j : PlaceKind). late_offset_fits (λ _. None) (memory_in (place_operand (viewed_by j d))) ≡ true) (sym kind) (late_by k d late)) in
     both _ _ met fits
+
+-- Of two kinds with one number both are the same.
+
+kind_at : ℕ → PlaceKind
+kind_at n = if n == 0 then Absent else (if n == 1 then Register else (if n == 2 then Base else (if n == 3 then BaseAndIndex else (if n == 4 then Label else (if n == 5 then Constant else NoTarget)))))
+
+kind_back : (k : PlaceKind) → kind_at (kind_number k) ≡ k
+unfolding kind_at
+kind_back Absent = refl
+kind_back Register = refl
+kind_back Base = refl
+kind_back BaseAndIndex = refl
+kind_back Label = refl
+kind_back Constant = refl
+kind_back NoTarget = refl
+
+pub same_kind : (a b : PlaceKind) (n : ℕ) → kind_number a ≡ n → kind_number b ≡ n → a ≡ b
+same_kind a b n e h = sym (kind_back a) ∙ ap kind_at (e ∙ sym h) ∙ kind_back b
+
+-- what is ready, by the shape of its line and the kind of its place
+pub ready_of : (i : HqInst) (s : OpShape) (k : PlaceKind) (number : ℕ) → FitsSigned w32 i.disp → IsReady i → number ≡ i.line → s ≡ shape_of number → kind_number k ≡ i.place → Ready s.fields k i × IsImm s.imm i.imm
+ready_of i s k number fits h n e own =
+    let same : shape_of i.line ≡ s = ap shape_of (sym n) ∙ sym e in
+    let kind : h.kind ≡ k = same_kind h.kind k i.place h.own own in
+    let within : is_ready s.fields k i ≡ true = subst (λ (j : PlaceKind). is_ready s.fields j i ≡ true) kind (subst (λ (t : OpShape). is_ready t.fields h.kind i ≡ true) same h.within) in
+    (ready s.fields k i fits within, subst (λ (t : OpShape). IsImm t.imm i.imm) same h.imm)

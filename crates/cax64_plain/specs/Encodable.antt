@@ -1,13 +1,19 @@
-use Rattle.std.specs.Prelude.{ℕ, ◌==◌, ◌&&◌, ◌^◌, ◌-◌, not, nat_le, nat_lt, Bool, true, false, if◌then◌else◌}
+use Rattle.std.specs.Prelude.{◌≡◌, ◌<◌, ℕ, ◌==◌, ◌&&◌, ◌^◌, ◌-◌, ◌%◌, option_map, not, nat_le, nat_lt, Bool, true, if◌then◌else◌}
 use Rattle.std.specs.Int.{cast_unsigned, from_bool, w32}
+use Rattle.cax64_encoder.specs.ImmActions.{imm_named}
+use Rattle.cax64_machine_code.specs.Line.{imm_bytes}
+use Rattle.cax64_operand.specs.Immediate.{imm_value}
 use Rattle.cax64_place.specs.Kind.{has_base, has_index}
+use Rattle.cax64_place.specs.Tail.{kind_number}
 use Rattle.cax64_place.specs.declared.place.PlaceKind.{PlaceKind}
 use Rattle.cax64_place.specs.declared.place.PlaceKind.TheVariants.{Absent, Register, Base, BaseAndIndex, Label, Constant, NoTarget}
 use Rattle.cax64_plain.specs.Named.{has_displacement, has_target}
+use Rattle.cax64_plain.specs.Plain.{imm_word}
 use Rattle.cax64_plain.specs.declared.encodable.Limits.{Limits}
 use Rattle.cax64_plain.specs.declared.inst.HqInst.{HqInst}
 use Rattle.cax64_plain.specs.declared.place.HqPlace.{HqPlace}
-use Rattle.x64_core.specs.Shape.{has_mem, has_reg, has_rm, has_vvvv}
+use Rattle.x64_core.specs.Shape.{has_mem, has_reg, has_rm, has_vvvv, imm_field, shape_of}
+use Rattle.x64_core.specs.declared.lines.TheConstants.{COUNT}
 use Rattle.x64_core.specs.declared.shapes.OpFields.{OpFields}
 use Rattle.x64_core.specs.declared.shapes.OpFields.TheVariants.{Bare, Rm, Mem, RegRm, RegMem, RegVvvvRm}
 use Rattle.x64_core.specs.declared.shapes.OpImm.{OpImm}
@@ -74,3 +80,25 @@ is_ready fields kind i = is_within (limits_of fields kind) i
 -- a place without a late offset
 abbrev pub settled_place : HqInst → HqPlace
 settled_place i = record { place = i.place; base = i.base; index = i.index; scale = i.scale; trap = i.trap; has_offset = 0; offset = 0; reserved = 0; disp = i.disp; target = i.target }
+
+-- the bytes of an immediate as one word, from the low 32 bits of its value
+abbrev pub imm_part : OpImm → ℕ → ℕ
+imm_part imm.None low = low
+imm_part imm.U8 low = low
+imm_part imm.U16 low = low
+imm_part imm.U32 low = low
+imm_part imm.I8 low = low % 256
+imm_part imm.I32 low = low
+
+-- these are the low 32 bits of an immediate of this kind
+pub record IsImm (kind : OpImm) (low : ℕ) : Type 0 where
+  pub below : nat_lt (imm_part kind low) (256 ^ imm_bytes (imm_field kind)) ≡ true
+  pub back : imm_word (option_map imm_value (imm_named (imm_field kind) (imm_part kind low))) ≡ low
+
+-- integers of an instruction that can be encoded where no late offset is known
+pub record IsReady (i : HqInst) : Type 0 where
+  pub line : i.line < COUNT
+  pub kind : PlaceKind
+  pub own : kind_number kind ≡ i.place
+  pub within : is_ready (shape_of i.line).fields kind i ≡ true
+  pub imm : IsImm (shape_of i.line).imm i.imm

@@ -1,12 +1,10 @@
 //! An instruction in integers that can be encoded, tested by one look at the largest numbers of its line and its place.
 
-ghost use Rattle.std.specs.Prelude.{◌≡◌, ◌<◌, ◌^◌, IfSome, IsTrue, None, nat_lt, option_map, true};
-ghost use Rattle.cax64_encoder.specs.ImmActions.{imm_named};
+ghost use Rattle.std.specs.Prelude.{◌≡◌, ◌<◌, ◌^◌, IfSome, IsTrue, None, true};
 ghost use Rattle.cax64_machine_code.specs.Line.{imm_bytes};
-ghost use Rattle.cax64_operand.specs.Immediate.{imm_value};
 ghost use Rattle.cax64_place.specs.Tail.{kind_number};
-ghost use Rattle.cax64_plain.specs.Encodable.{fields_number, imm_number, is_ready, is_within, settled_place};
-ghost use Rattle.cax64_plain.specs.Plain.{imm_word, plain};
+ghost use Rattle.cax64_plain.specs.Encodable.{IsImm, IsReady, fields_number, imm_number, imm_part, is_ready, is_within, settled_place};
+ghost use Rattle.cax64_plain.specs.Plain.{plain};
 ghost use Rattle.x64_core.specs.Core.{is_encodable};
 ghost use Rattle.x64_core.specs.Shape.{imm_field};
 ghost use Rattle.x64_core.specs.View.{core_view};
@@ -179,24 +177,30 @@ fn limit(kind: OpImm) -> u64
     TOO_LARGE[imm_number(kind)]
 }
 
-/// The bytes of an immediate of this kind as one word, the first one the lowest, from the low 32 bits of its value. `None` where
-/// they aren't those of one. It isn't asked first whether a signed byte is wanted, since a branch on that is often guessed wrong.
+/// The bytes of an immediate of this kind as one word, the first one the lowest, from the low 32 bits of its value.
 #[inline(always)]
-fn imm_bytes(kind: OpImm, low: u32) -> Option<u32>
-    ensures { IfSome result (λ word. (nat_lt word (256 ^ imm_bytes (imm_field kind)) ≡ true) × (imm_word (option_map imm_value (imm_named (imm_field kind) word)) ≡ low)) }
+fn imm_part(kind: OpImm, low: u32) -> u32
+    ensures { result ≡ imm_part kind low }
 {
-    let is_signed_byte = matches!(kind, OpImm::I8);
-    let from_0 = if is_signed_byte {
+    if matches!(kind, OpImm::I8) {
+        low % 256
+    } else {
+        low
+    }
+}
+
+/// Whether these are the low 32 bits of an immediate of this kind. It isn't asked first whether a signed byte is wanted, since a
+/// branch on that is often guessed wrong.
+#[inline(always)]
+fn is_imm(kind: OpImm, low: u32) -> bool
+    ensures { result ≡ true → IsImm kind low }
+{
+    let from_0 = if matches!(kind, OpImm::I8) {
         low.wrapping_add(128)
     } else {
         low
     };
-    let word = if is_signed_byte { low % 256 } else { low };
-    if u64::from(from_0) < limit(kind) {
-        Some(word)
-    } else {
-        None
-    }
+    u64::from(from_0) < limit(kind)
 }
 
 impl HqInst {
@@ -249,6 +253,39 @@ impl HqInst {
         self.is_within(&LIMITS[fields_number(fields) * 7 + usize::from(self.place)])
     }
 
+    /// Whether it is an instruction that can be encoded where no late offset is known. False says nothing: [`core`](Self::core)
+    /// tells what else it may be.
+    #[inline(always)]
+    pub fn is_encodable(&self) -> bool
+        ensures { result ≡ true → IsReady self.now }
+    {
+        let Some(op) = Op::from_number(self.line) else {
+            return false;
+        };
+        let Some(kind) = kind_of(self.place) else {
+            return false;
+        };
+        let shape = op.shape();
+        self.is_ready(shape.fields, kind) && is_imm(shape.imm, self.imm)
+    }
+
+    /// The instruction of the core that these integers are.
+    ///
+    /// It has to be one that can be encoded where no late offset is known, as [`is_encodable`](Self::is_encodable) tells. Where it
+    /// isn't, a build that wasn't proved may make a wrong instruction, or abort.
+    #[inline(always)]
+    pub fn encodable_core(&self) -> Core
+        requires { IsReady self.now }
+        ensures is { plain (core_view result) ≡ self.now }
+        ensures encodable { IsTrue (is_encodable (λ _. None) (core_view result)) }
+    {
+        let op = Op::from_number(self.line).unwrap();
+        let kind = kind_of(self.place).unwrap();
+        let word = imm_part(op.shape().imm, self.imm);
+        let place = self.settled_place().whole_numbers(kind);
+        Core::of_fitting(op, self.reg, self.vvvv, place, word)
+    }
+
     /// The instruction of the core that these integers are, if it can be encoded where no late offset is known. `None` says
     /// nothing: [`core`](Self::core) tells what else they may be.
     #[inline(always)]
@@ -256,14 +293,10 @@ impl HqInst {
         ensures is { IfSome result (λ c. plain (core_view c) ≡ self.now) }
         ensures encodable { IfSome result (λ c. IsTrue (is_encodable (λ _. None) (core_view c))) }
     {
-        let op = Op::from_number(self.line)?;
-        let kind = kind_of(self.place)?;
-        let shape = op.shape();
-        if !self.is_ready(shape.fields, kind) {
-            return None;
+        if self.is_encodable() {
+            Some(self.encodable_core())
+        } else {
+            None
         }
-        let word = imm_bytes(shape.imm, self.imm)?;
-        let place = self.settled_place().whole_numbers(kind);
-        Some(Core::of_fitting(op, self.reg, self.vvvv, place, word))
     }
 }

@@ -1,7 +1,7 @@
-use Rattle.std.proofs.Common.{◌≡◌, ◌∙◌, ◌+◌, ◌≤◌, ℕ, pos, refl, sym, ap, subst, arith, Bool, true, false, Option, Some, None, List, [], ◌∷◌, ◌++◌, Result, Ok, drop, length, take, append-nil, append_assoc, length-append, IsTrue, w64}
+use Rattle.std.proofs.Common.{◌≡◌, ◌∙◌, ◌+◌, ◌≤◌, ℕ, pos, refl, sym, ap, subst, arith, Bool, true, false, Option, Some, None, List, [], ◌∷◌, ◌++◌, Ok, drop, length, take, append-nil, append_assoc, length-append, IsTrue, w64}
 use Rattle.std.proofs.lemmas.Bool.Decides.{nat_tests}
 use Rattle.std.proofs.lemmas.List.{length-take-le}
-use Rattle.std.specs.Prelude.{◌==◌, is_none, slice_get, unwrap_or}
+use Rattle.std.specs.Prelude.{◌==◌, is_none, slice_get}
 use Rattle.std.specs.Int.{to_le_bytes}
 use Rattle.std.specs.Int.NonZero.{non_zero_u8_get}
 use Rattle.cax64_address.specs.Emitted.{target_actions}
@@ -17,7 +17,7 @@ use Rattle.cax64_encoder.specs.declared.role.PlaceOperand.TheVariants.{NoPlace, 
 use Rattle.cax64_encoder.proofs.Encodes.{trap_bytes}
 use Rattle.cax64_encoder.proofs.Faults.{no_fault}
 use Rattle.cax64_machine_code.specs.ReadLine.{LineReading, read_line}
-use Rattle.cax64_plain.specs.Plain.{place_of, plain, plain_place, target_place, trap_number}
+use Rattle.cax64_plain.specs.Plain.{place_of, plain, plain_place, target_place}
 use Rattle.cax64_plain.specs.Told.{place_told, told, told_at}
 use Rattle.cax64_plain.specs.declared.told.HqUse.{HqUse}
 use Rattle.cax64_plain.proofs.Places.{zero_value}

@@ -1,7 +1,8 @@
-use Rattle.std.proofs.Common.{◌≡◌, ◌∙◌, ◌+◌, ◌-◌, ◌*◌, ◌<◌, ◌≤◌, ◌^◌, ℕ, refl, sym, ap, subst, arith, Option, Some, None, List, [], ◌∷◌, ◌++◌, ℤ, Result, Ok, Err, drop, get_or, take, length, append-nil, append_assoc, length-append}
+use Rattle.std.proofs.Common.{◌≡◌, ◌∙◌, ◌+◌, ◌-◌, ◌*◌, ◌<◌, ◌≤◌, ◌^◌, ℕ, refl, sym, ap, subst, arith, Option, Some, None, List, [], ◌∷◌, ◌++◌, ℤ, Result, Ok, Err, drop, get_or, take, length, append-nil, append_assoc, length-append, ◌⊎◌, inl, inr, Bool, true, false}
 use Rattle.std.proofs.lemmas.List.{length-drop, take_at, drop_at, drop-drop, drop_all, drop_more, length-take-le, take-append-drop, take_all, take_more}
 use Rattle.std.proofs.lemmas.Option.{slice_get-get_or}
-use Rattle.std.specs.Prelude.{OnOk, slice_get, unwrap_or}
+use Rattle.std.proofs.lemmas.Bool.Decides.{nat_tests}
+use Rattle.std.specs.Prelude.{OnOk, nat_lt, slice_get, unwrap_or}
 use Rattle.cax64_address.specs.declared.amode.Amode.{Amode}
 use Rattle.cax64_address.specs.declared.amode.Amode.TheVariants.{ImmReg, ImmRegRegShift, RipRelative}
 use Rattle.cax64_encoder.specs.EncodesLine.{line_notices_of}
@@ -11,6 +12,7 @@ use Rattle.cax64_machine_code.specs.Line.{imm_bytes}
 use Rattle.cax64_machine_code.specs.ReadLine.{LineReading, read_of}
 use Rattle.cax64_machine_code.specs.Reading.{PartsOf}
 use Rattle.cax64_machine_code.specs.declared.line.Line.{Line}
+use Rattle.cax64_plain.specs.Encodable.{IsReady}
 use Rattle.cax64_plain.specs.Plain.{plain}
 use Rattle.cax64_plain.specs.Told.{told}
 use Rattle.cax64_plain.specs.declared.inst.HqInst.{HqInst}
@@ -25,7 +27,7 @@ use Rattle.cax64_sink.specs.declared.fixed_sink.FixedSink.{FixedSink}
 use Rattle.huqmeris_c.specs.Each.{AreSound, EachSound, EncodesEach, IsRefused, PutEach, StoppedAt, list_len, list_uses, plains, uses_told}
 use Rattle.huqmeris_c.specs.Encodes.{no_offsets, written}
 use Rattle.huqmeris_c.specs.declared.progress.HqDone.{HqDone}
-use Rattle.huqmeris_c.specs.Listed.{AreSized, CanPut, HasRoomFor, HasSize, IsSized, PutBehind, PutNext, moved}
+use Rattle.huqmeris_c.specs.Listed.{AreReady, CanPut, HasRoomFor, HasSize, IsSized, PutBehind, PutNext, moved}
 use Rattle.huqmeris_c.specs.PutCode.{PutCode}
 use Rattle.x64_core.specs.Adds.{AddsCore}
 use Rattle.x64_core.specs.Core.{core_len, core_notices, fault_of}
@@ -377,22 +379,38 @@ ready_put v at code part part' behind len len' heard room is same put tells =
     }
 
 -- One more that can be encoded.
-pub sized_more : (insts : List HqInst) (d : HqInst) (i : ℕ) → AreSized (take i insts) i → i < length insts → IsSized (get_or insts i d) → AreSized (take (i + 1) insts) (i + 1)
-sized_more insts d i h within size =
+
+before_next : (n i : ℕ) → n < i + 1 → (n < i) ⊎ (n ≡ i)
+before_next n i h = by_test (nat_lt n i) refl
+  where
+    by_test : (lt : Bool) → nat_lt n i ≡ lt → (n < i) ⊎ (n ≡ i)
+    by_test true e = inl (grind (arith, nat_tests, e))
+    by_test false e = inr (grind (arith, nat_tests, e, h))
+
+pub ready_more : (insts : List HqInst) (d : HqInst) (i : ℕ) → AreReady insts i → i < length insts → IsReady (get_or insts i d) → IsSized (get_or insts i d) → AreReady insts (i + 1)
+ready_more insts d i h within own size =
     let more = measured_more insts d h.bytes h.uses i size.bytes size.uses size.bytes size.uses (record { sound = h.sound; most = h.most; few = h.few }) within size.size refl refl in
-    record { bytes = h.bytes + size.bytes; uses = h.uses + size.uses; sound = more.sound; most = more.most; few = more.few }
+    record { bytes = h.bytes + size.bytes; uses = h.uses + size.uses; sound = more.sound; most = more.most; few = more.few; each = λ n inst lt there. by_place n inst there (before_next n i lt) }
+  where
+    by_place : (n : ℕ) (inst : HqInst) → slice_get insts n ≡ Some inst → (n < i) ⊎ (n ≡ i) → IsReady inst
+    by_place n inst there (inl lt) = h.each n inst lt there
+    by_place n inst there (inr e) = subst IsReady (ap (λ (o : Option HqInst). unwrap_or o d) (sym (slice_get-get_or insts i d within) ∙ ap (λ (k : ℕ). slice_get insts k) (sym e) ∙ there)) own
 
-pub none_sized : AreSized [] 0
-none_sized = record { bytes = 0; uses = 0; sound = none_sound; most = omega arith; few = omega arith }
+pub none_ready : (insts : List HqInst) → AreReady insts 0
+none_ready insts = record { bytes = 0; uses = 0; sound = none_sound; most = omega arith; few = omega arith; each = λ n inst lt there. let bad : ⊥ = omega (arith, lt) in absurd bad }
 
-pub all_sized : (insts : List HqInst) (i : ℕ) → AreSized (take i insts) i → length insts ≤ i → i ≤ length insts → AreSized insts (length insts)
-all_sized insts i h end within =
+pub all_ready : (insts : List HqInst) (i : ℕ) → AreReady insts i → length insts ≤ i → i ≤ length insts → AreReady insts (length insts)
+all_ready insts i h end within =
     let there : i ≡ length insts = omega (arith, end, within) in
-    subst (λ (n : ℕ). AreSized insts n) there (subst (λ (l : List HqInst). AreSized l i) (take_all i insts end) h)
+    subst (λ (n : ℕ). AreReady insts n) there h
+
+pub ready_at : (insts : List HqInst) (d : HqInst) (n i : ℕ) → AreReady insts n → i < length insts → length insts ≤ n → IsReady (get_or insts i d)
+ready_at insts d n i h within end = h.each i (get_or insts i d) (omega (arith, within, end)) (slice_get-get_or insts i d within)
 
 -- There is room for the most that they may have.
-pub sized_fits : (insts : List HqInst) (room places : ℕ) → AreSized insts (length insts) → length insts * 13 ≤ room → length insts ≤ places → HasRoomFor insts room places
-sized_fits insts room places h r p =
+pub ready_fits : (insts : List HqInst) (room places : ℕ) → AreReady insts (length insts) → length insts * 13 ≤ room → length insts ≤ places → HasRoomFor insts room places
+ready_fits insts room places h r p =
     let most = h.most in
     let few = h.few in
-    record { bytes = h.bytes; uses = h.uses; sound = h.sound; fits = omega (arith, most, r); few = omega (arith, few, p) }
+    let whole : take (length insts) insts ≡ insts = take_all (length insts) insts (omega arith) in
+    record { bytes = h.bytes; uses = h.uses; sound = subst (λ (l : List HqInst). AreSound l h.bytes h.uses) whole h.sound; fits = omega (arith, most, r); few = omega (arith, few, p) }

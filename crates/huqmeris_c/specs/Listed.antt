@@ -1,7 +1,8 @@
-use Rattle.std.specs.Prelude.{◌≡◌, ◌≤◌, ◌+◌, ◌*◌, ◌++◌, ℕ, Option, Some, None, List, [], ◌∷◌, drop, slice_get, take, length}
+use Rattle.std.specs.Prelude.{◌≡◌, ◌≤◌, ◌<◌, ◌+◌, ◌*◌, ◌++◌, ℕ, Option, Some, None, List, [], ◌∷◌, drop, slice_get, take, length}
 use Rattle.cax64_encoder.specs.EncodesLine.{line_notices_of}
 use Rattle.cax64_encoder.specs.Place.{memory_in}
 use Rattle.cax64_machine_code.specs.ReadLine.{LineReading}
+use Rattle.cax64_plain.specs.Encodable.{IsReady}
 use Rattle.cax64_plain.specs.Plain.{plain}
 use Rattle.cax64_plain.specs.Told.{told}
 use Rattle.cax64_plain.specs.declared.inst.HqInst.{HqInst}
@@ -39,13 +40,14 @@ pub record IsSized (inst : HqInst) : Type 0 where
   pub uses : ℕ
   pub size : HasSize inst bytes uses
 
--- so many instructions that can be encoded, which have 13 bytes at most each, and one notice
-pub record AreSized (insts : List HqInst) (n : ℕ) : Type 0 where
+-- so many instructions that can be encoded where no late offset is known, which have 13 bytes at most each, and one notice
+pub record AreReady (insts : List HqInst) (n : ℕ) : Type 0 where
   pub bytes : ℕ
   pub uses : ℕ
-  pub sound : AreSound insts bytes uses
+  pub sound : AreSound (take n insts) bytes uses
   pub most : bytes ≤ 13 * n
   pub few : uses ≤ n
+  pub each : (i : ℕ) (inst : HqInst) → i < n → slice_get insts i ≡ Some inst → IsReady inst
 
 -- the first thing that is told of an instruction with nothing before it
 abbrev pub told_first : CoreView → LineReading → HqUse
@@ -69,6 +71,12 @@ pub record PutBehind (v : CoreView) (at : ℕ) (code code' : List ℕ) (len : �
   pub adds : AddsCore v (written []) (written added)
   pub tells : heard ≡ uses_told (line_notices_of (memory_in v.place) at adds.line.reads.reading)
   pub number : length heard ≡ core_notices v
+
+-- an instruction of these integers was put so
+pub record PutReady (inst : HqInst) (at : ℕ) (code code' : List ℕ) (len : ℕ) (heard : List HqUse) : Type 0 where
+  pub core : Core
+  pub is : plain (core_view core) ≡ inst
+  pub put : PutBehind (core_view core) at code code' len heard
 
 -- there is room for the next one
 pub record CanPut (inst : HqInst) (room places at count : ℕ) : Type 0 where

@@ -1,16 +1,16 @@
 //! Encoding of many instructions.
 
-ghost use Rattle.std.specs.Prelude.{◌≡◌, ◌≤◌, ◌<◌, ◌+◌, ◌++◌, ◌^◌, ℕ, [], IfErr, IfOk, IsTrue, None, Some, drop, length, take, true};
+ghost use Rattle.std.specs.Prelude.{◌≡◌, ◌≤◌, ◌<◌, ◌+◌, ◌++◌, ◌^◌, ℕ, [], IfErr, IfOk, None, Some, drop, length, take, true};
 ghost use Rattle.cax64_encoder.specs.EncodesLine.{line_notices_of};
 ghost use Rattle.cax64_encoder.specs.Place.{memory_in};
 ghost use Rattle.cax64_machine_code.specs.ReadLine.{LineReading, read_of};
-ghost use Rattle.cax64_plain.specs.Plain.{plain};
+ghost use Rattle.cax64_plain.specs.Encodable.{IsReady};
 ghost use Rattle.cax64_sink.specs.FixedSink.{fixed_sink_state};
 ghost use Rattle.huqmeris_c.specs.Each.{AreSound, EachPutAs, IsRefused, PutEach, StoppedAt, uses_told};
 ghost use Rattle.huqmeris_c.specs.Encodes.{no_offsets, written};
-ghost use Rattle.huqmeris_c.specs.Listed.{AreSized, CanPut, HasRoomFor, HasSize, IsSized, PutBehind, PutNext, moved, told_first, use_list};
+ghost use Rattle.huqmeris_c.specs.Listed.{AreReady, CanPut, HasRoomFor, HasSize, IsSized, PutBehind, PutNext, PutReady, moved, told_first, use_list};
 ghost use Rattle.x64_core.specs.Adds.{AddsCore};
-ghost use Rattle.x64_core.specs.Core.{core_len, fault_of, is_encodable};
+ghost use Rattle.x64_core.specs.Core.{core_len, fault_of};
 ghost use Rattle.x64_core.specs.Line.{core_line};
 ghost use Rattle.x64_core.specs.Lines.{core_lines};
 ghost use Rattle.x64_core.specs.View.{core_view};
@@ -52,21 +52,20 @@ fn size_of(inst: &HqInst) -> Result<RoomNeeded, i32>
 /// Whether an instruction can be encoded where no late offset is known. False says nothing.
 #[inline(always)]
 fn is_ready(inst: &HqInst) -> bool
-    ensures { result ≡ true → IsSized inst.now }
+    ensures ready { result ≡ true → IsReady inst.now }
+    ensures sized { result ≡ true → IsSized inst.now }
 {
-    match inst.encodable() {
-        None => false,
-        Some(core) => {
-            // That it has 13 bytes at most is asked for the proof's sake alone, and the compiler leaves it out.
-            let _ = core.room_needed(&FixedSink::<0>::new());
-            true
-        }
+    if !inst.is_encodable() {
+        return false;
     }
+    // That it has 13 bytes at most is asked for the proof's sake alone, and the compiler leaves it out.
+    let _ = inst.encodable_core().room_needed(&FixedSink::<0>::new());
+    true
 }
 
 /// Whether each instruction can be encoded where no late offset is known. False says nothing.
 fn are_ready(insts: &[HqInst]) -> bool
-    ensures { result ≡ true → AreSized insts.now (length insts.now) }
+    ensures { result ≡ true → AreReady insts.now (length insts.now) }
 {
     for i in 0..insts.len() {
         if !is_ready(&insts[i]) {
@@ -173,16 +172,16 @@ fn use_behind(core: &Core, told: HqUse, at: usize) -> Option<HqUse>
 
 /// Puts an instruction of these integers that can be encoded behind so many bytes, and says how many it has, and what it tells.
 #[inline(always)]
-fn put_ready(inst: &HqInst, core: &Core, code: &mut [u8], at: usize) -> (usize, Option<HqUse>)
-    requires is { plain (core_view core.now) ≡ inst.now }
-    requires encodable { IsTrue (is_encodable no_offsets (core_view core.now)) }
+fn put_ready(inst: &HqInst, code: &mut [u8], at: usize) -> (usize, Option<HqUse>)
+    requires ready { IsReady inst.now }
     requires room { at + 16 ≤ length code.old }
     requires near { at < 2 ^ 31 }
-    ensures { PutBehind (core_view core.now) at code.old code.new result.0 (use_list result.1) }
+    ensures { PutReady inst.now at code.old code.new result.0 (use_list result.1) }
 {
-    let (behind, len) = put_encodable(core, &mut code[at..]);
+    let core = inst.encodable_core();
+    let (behind, len) = put_encodable(&core, &mut code[at..]);
     let told = HqUse::of_inst(inst, behind);
-    (usize::from(len), use_behind(core, told, at))
+    (usize::from(len), use_behind(&core, told, at))
 }
 
 /// Notes what may be told behind so many others, and says how many these are then.
@@ -203,7 +202,6 @@ fn note(uses: &mut [HqUse], count: usize, heard: Option<HqUse>) -> usize
 }
 
 /// Puts the next instruction, whatever it is, and says how many bytes there are then, and how many uses.
-#[cold]
 #[inline(never)]
 fn put_any(
     inst: &HqInst,
@@ -226,7 +224,7 @@ fn put_any(
     }
 }
 
-/// Puts the next instruction, and says how many bytes there are then, and how many uses.
+/// Puts the next instruction, which can be encoded, and says how many bytes there are then, and how many uses.
 #[inline(always)]
 fn put_next(
     inst: &HqInst,
@@ -235,18 +233,34 @@ fn put_next(
     at: usize,
     count: usize,
 ) -> (usize, usize)
+    requires encodable { IsReady inst.now }
     requires ready { CanPut inst.now (length code.old) (length uses.old) at count }
     requires near { at < 2 ^ 31 }
     ensures { PutNext inst.now code.old code.new uses.old uses.new at count result.0 result.1 }
 {
     if at + 16 <= code.len() {
-        if let Some(core) = inst.encodable() {
-            let put = put_ready(inst, &core, code, at);
-            let noted = note(uses, count, put.1);
-            return (at + put.0, noted);
-        }
+        let put = put_ready(inst, code, at);
+        let noted = note(uses, count, put.1);
+        return (at + put.0, noted);
     }
     put_any(inst, code, uses, at, count)
+}
+
+/// Puts instructions one behind the other that can be encoded where no late offset is known, as `put_each` does.
+fn put_each_ready(insts: &[HqInst], code: &mut [u8], uses: &mut [HqUse]) -> (usize, usize)
+    requires few { length insts.now ≤ 165191049 }
+    requires ready { AreReady insts.now (length insts.now) }
+    requires room { HasRoomFor insts.now (length code.old) (length uses.old) }
+    ensures { PutEach insts.now code.old code.new uses.old uses.new result.0 result.1 }
+{
+    let mut at = 0usize;
+    let mut count = 0usize;
+    for i in 0..insts.len() {
+        let next = put_next(&insts[i], code, uses, at, count);
+        at = next.0;
+        count = next.1;
+    }
+    (at, count)
 }
 
 /// Puts instructions one behind the other, and says how many bytes they have, and how many traps and targets they tell.
@@ -258,7 +272,7 @@ fn put_each(insts: &[HqInst], code: &mut [u8], uses: &mut [HqUse]) -> (usize, us
     let mut at = 0usize;
     let mut count = 0usize;
     for i in 0..insts.len() {
-        let next = put_next(&insts[i], code, uses, at, count);
+        let next = put_any(&insts[i], code, uses, at, count);
         at = next.0;
         count = next.1;
     }
@@ -285,7 +299,7 @@ pub extern "C" fn hq_encode_all(
     }
     // Where there is room for the most that they may have, it isn't counted what they have before they are put.
     if insts.len() * 13 <= code.len() && insts.len() <= uses.len() && are_ready(insts) {
-        let (bytes, count) = put_each(insts, code, uses);
+        let (bytes, count) = put_each_ready(insts, code, uses);
         *done = HqDone {
             items: insts.len(),
             bytes,

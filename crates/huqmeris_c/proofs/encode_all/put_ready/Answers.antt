@@ -9,6 +9,12 @@ use Rattle.x64_core.specs.View.{core_view}
 
 pub returns : goal.returns
 returns c =
+    let core = c.encodable_core-core.result in
+    let is = c.encodable_core-core.ensures.is in
     let put = c.put_encodable-behind in
-    ready_put (core_view c.args.core.now) c.args.at c.args.code.now _ put.new.code put.result.0 put.result.1 c.from.result (use_list c.use_behind.result) c.requires.room refl c.from.ensures put.ensures
-    (c.use_behind.ensures put.ensures.adds.line.reads.reading (c.of_inst-told.ensures.is ∙ ap (λ (i : HqInst). told_at (place_of i) put.result.0) (sym c.requires.is) ∙ put.ensures.tells))
+    record {
+      core = core;
+      is = is;
+      put = ready_put (core_view core) c.args.at c.args.code.now _ put.new.code put.result.0 put.result.1 c.from.result (use_list c.use_behind.result) c.requires.room refl c.from.ensures put.ensures
+          (c.use_behind.ensures put.ensures.adds.line.reads.reading (c.of_inst-told.ensures.is ∙ ap (λ (i : HqInst). told_at (place_of i) put.result.0) (sym is) ∙ put.ensures.tells));
+    }
