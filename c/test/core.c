@@ -57,7 +57,8 @@ static const char *encoded(const hq_inst *inst, const uint8_t *want, size_t size
         if (hq_encode(inst, code, room, &len, &told) != HQ_FULL || len != 77 || told.at != 7 || !is_filled(code, room))
             return "a slice that is too short isn't refused, or is written";
     }
-    for (size_t room = size; room < size + 3; room++) {
+    /* Up to more than sixteen bytes, from which on they are put another way. */
+    for (size_t room = size; room < 18; room++) {
         uint8_t *code = before(room);
         if (hq_encode(inst, code, room, &len, &told) != HQ_OK || len != size || told.kind != HQ_TOLD_NOTHING)
             return "it isn't encoded";

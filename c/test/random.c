@@ -51,9 +51,9 @@ static void fill(hq_inst *inst)
 static int is_wanted(const hq_inst *inst, unsigned *encoded)
 {
     static const uint8_t blank[16] = {1, 2, 3, 4, 5, 6, 7, 8, 9, 10, 11, 12, 13, 14, 15, 16};
-    uint8_t code[16];
-    hq_use told = {7, 7, 7};
-    uint32_t len = 77, length = 77;
+    uint8_t code[16], wide[16];
+    hq_use told = {7, 7, 7}, other = {7, 7, 7};
+    uint32_t len = 77, length = 77, same = 77;
     hq_reading r;
     hq_inst back, bare = *inst;
     memcpy(code, blank, sizeof code);
@@ -61,6 +61,10 @@ static int is_wanted(const hq_inst *inst, unsigned *encoded)
     add(&check, sizeof check);
     add(code, sizeof code);
     add(&told, sizeof told);
+    /* With sixteen bytes of room they are put another way. */
+    memcpy(wide, blank, sizeof wide);
+    if (hq_encode(inst, wide, sizeof wide, &same, &other) != status || same != len || memcmp(wide, code, sizeof code) || memcmp(&other, &told, sizeof told))
+        return 0;
     if (status != check || hq_length(inst, &length) != check || length != len)
         return 0;
     if (status != HQ_OK)

@@ -39,6 +39,14 @@ static int is_told(const char *text, const hq_use *told)
     return told->kind == HQ_TOLD_PLACE && told->at == (uint32_t)at;
 }
 
+static int is_filled(const uint8_t *p, size_t n)
+{
+    for (size_t i = 0; i < n; i++)
+        if (p[i] != 0xA5)
+            return 0;
+    return 1;
+}
+
 /* NULL where an instruction is as wanted, or why not. Of three rows the port puts a prefix that nothing asks for: the second bytes of
  * a line are those without it. */
 static const char *instruction(char **column, int *skipped)
@@ -57,10 +65,15 @@ static const char *instruction(char **column, int *skipped)
     }
     if (hq_encode(&inst, before(size - 1), size - 1, &len, &told) != HQ_FULL || len != 77)
         return "a slice that is too short isn't refused";
-    uint8_t *code = before(size);
-    if (hq_encode(&inst, code, size, &len, &told) != HQ_OK || len != size || memcmp(code, want, size))
-        return "the bytes are others";
-    return is_told(column[9], &told) ? NULL : "something else is told";
+    /* Up to more than sixteen bytes, from which on they are put another way. */
+    for (size_t room = size; room < 18; room++) {
+        uint8_t *code = before(room);
+        if (hq_encode(&inst, code, room, &len, &told) != HQ_OK || len != size || memcmp(code, want, size) || !is_filled(code + size, room - size))
+            return "the bytes are others";
+        if (!is_told(column[9], &told))
+            return "something else is told";
+    }
+    return NULL;
 }
 
 /* The same of a fault. Those of registers are counted in another order here, and those of fixed registers don't cross. */

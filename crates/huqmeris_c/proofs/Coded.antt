@@ -19,8 +19,10 @@ use Rattle.cax64_encoder.proofs.Faults.{no_fault}
 use Rattle.cax64_machine_code.specs.ReadLine.{LineReading, read_line}
 use Rattle.cax64_plain.specs.Plain.{place_of, plain, plain_place, target_place}
 use Rattle.cax64_plain.specs.Told.{place_told, told, told_at}
+use Rattle.cax64_plain.specs.declared.inst.HqInst.{HqInst}
 use Rattle.cax64_plain.specs.declared.told.HqUse.{HqUse}
 use Rattle.cax64_plain.proofs.Places.{zero_value}
+use Rattle.cax64_plain.proofs.Views.{same_view}
 use Rattle.cax64_sink.specs.Call.{Action, Step, bytes_of}
 use Rattle.cax64_sink.specs.Puts.{puts}
 use Rattle.cax64_sink.specs.Rest.{is_imm_len, long_actions, rest_actions, word_actions}
@@ -186,6 +188,10 @@ none_of (Some a) h = cc
 
 pub faultless : (v : CoreView) → IsTrue (is_encodable no_offsets v) → fault_of no_offsets v ≡ None
 faultless v can = none_of (fault_of no_offsets v) (no_fault no_offsets (core_meant v no_offsets).visited (core_meant v no_offsets).memory ∙ can)
+
+-- of integers that are encodable, whoever they are
+pub no_fault_of : (i : HqInst) (c other : Core) → plain (core_view c) ≡ i → IsTrue (is_encodable no_offsets (core_view c)) → plain (core_view other) ≡ i → fault_of no_offsets (core_view other) ≡ None
+no_fault_of i c other is can h = ap (λ (v : CoreView). fault_of no_offsets v) (sym (same_view i c other is h)) ∙ faultless (core_view c) can
 
 pub put_code_done : (v w : CoreView) (code code' : List ℕ) (behind len len' : ℕ) (told before : HqUse) → v ≡ w → IsTrue (is_encodable no_offsets v) → 16 ≤ length code → PutCode v code code' behind len → told ≡ told_at (place_of (plain v)) behind → PutAs w code code' len' len before told (pos 0)
 put_code_done v w code code' behind len len' heard before same can room k is =

@@ -43,6 +43,9 @@ pub extern "C" fn hq_check(inst: &HqInst) -> i32
     ensures bad { ((c : Core) → plain (core_view c) ≢ inst.now) → result ≡ pos 1 }
     ensures checks { (c : Core) → plain (core_view c) ≡ inst.now → result ≡ check_status (fault_of no_offsets (core_view c)) }
 {
+    if let Some(_) = inst.encodable() {
+        return HQ_OK;
+    }
     let Some(core) = inst.core() else {
         return HQ_BAD_INST;
     };
@@ -61,6 +64,10 @@ pub extern "C" fn hq_length(inst: &HqInst, len: &mut u32) -> i32
         ((result ≡ pos 0) × (len.new ≡ core_len no_offsets (core_view c)))
         (λ fault. (result ≡ fault_status fault) × (len.new ≡ len.old)) }
 {
+    if let Some(core) = inst.encodable() {
+        *len = u32::from(core.encoded_len(&sink()));
+        return HQ_OK;
+    }
     let Some(core) = inst.core() else {
         return HQ_BAD_INST;
     };
