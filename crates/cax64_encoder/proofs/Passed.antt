@@ -93,7 +93,7 @@ met_with n (role.Register number) tested later same = rw (marked_real number, sa
 met_with n (role.TwoRegisters first second equal) tested later same = rw (marked_real first, marked_real second, same) refl
 met_with n (role.FixedRegister fixed) tested later same = rw same refl
 met_with n (role.Place place.TheVariants.NoPlace) tested later same = same
-met_with n (role.Place (place.TheVariants.Register number)) tested later same = rw (marked_real number, same) refl
+met_with n (role.Place (place.TheVariants.Register number)) tested later same = rw (and_true (nat_lt (marked_value number) 16), marked_real number, same) refl
 met_with n (role.Place (place.TheVariants.Memory amode)) tested later same = rw (amode_same n amode, same) refl
 met_with n (role.Immediate imm) tested later same = same
 
@@ -107,9 +107,7 @@ place_is n [] = refl
 place_is n (role.Register number ∷ later) = place_is n later
 place_is n (role.TwoRegisters first second same ∷ later) = place_is n later
 place_is n (role.FixedRegister fixed ∷ later) = place_is n later
-place_is n (role.Place place.TheVariants.NoPlace ∷ later) = refl
-place_is n (role.Place (place.TheVariants.Register number) ∷ later) = refl
-place_is n (role.Place (place.TheVariants.Memory amode) ∷ later) = refl
+place_is n (role.Place operand ∷ later) = refl
 place_is n (role.Immediate imm ∷ later) = place_is n later
 
 late_same : {M : Type 0} (n : Numbering M) (offsets : ℕ → Option ℤ) (p : PlaceOperand M) → sum_fits offsets (marked_place n p).displacement.offset (marked_place n p).displacement.simm32 ≡ late_offset_fits offsets (memory_in p)
@@ -138,8 +136,9 @@ form_same n (role.TwoRegisters first second equal) tested form same h =
 form_same n (role.FixedRegister fixed) tested form same h = same (and_parts (is_number fixed.held fixed.expected) tested.met h).1
 form_same n (role.Place place.TheVariants.NoPlace) tested form same h = rw (same h) refl
 form_same n (role.Place (place.TheVariants.Register number)) tested form same h =
-    let p = and_parts (nat_lt (marked_value number) 16) tested.met h in
-    rw (marked_is number p.0, same p.1) refl
+    let p = and_parts (nat_lt (marked_value number) 16 && true) tested.met h in
+    let q = and_parts (nat_lt (marked_value number) 16) true p.0 in
+    rw (marked_is number q.0, same p.1) refl
 form_same n (role.Place (place.TheVariants.Memory amode)) tested form same h =
     let marked = marked_amode n amode in
     let p = and_parts (nat_lt marked.base 16 && nat_lt marked.index 16) tested.met h in

@@ -20,10 +20,9 @@ pub enum Part {
     TwoRegisters(u8, u8, bool),
     /// A register that isn't in the bytes: whether it is as it has to be.
     Fixed(bool),
-    /// A register in the rest of the tail.
-    PlaceRegister(u8),
-    /// An address in the rest of the tail.
-    Address(NumberedPlace),
+    /// A register or an address in the rest of the tail. It's one part, since which of them stands there is known only at run
+    /// time, and asked once.
+    Place(NumberedPlace),
     /// The bytes of an immediate as one word.
     Imm(u32),
 }
@@ -53,19 +52,19 @@ impl Part {
             Operand::ReadWriteXmm(reg) => Part::Register(Number::marked_value_of(*reg)),
             Operand::WriteXmm(reg) => Part::Register(Number::marked_value_of(*reg)),
             Operand::ReadGprMem(GprMem::Gpr(reg), _) => {
-                Part::PlaceRegister(Number::marked_value_of(*reg))
+                Part::Place(NumberedPlace::of_register(Number::marked_value_of(*reg)))
             }
             Operand::ReadWriteGprMem(GprMem::Gpr(reg), _) => {
-                Part::PlaceRegister(Number::marked_value_of(*reg))
+                Part::Place(NumberedPlace::of_register(Number::marked_value_of(*reg)))
             }
             Operand::ReadXmmMem(XmmMem::Xmm(reg)) => {
-                Part::PlaceRegister(Number::marked_value_of(*reg))
+                Part::Place(NumberedPlace::of_register(Number::marked_value_of(*reg)))
             }
             Operand::ReadAmode(amode)
             | Operand::ReadGprMem(GprMem::Mem(amode), _)
             | Operand::ReadWriteGprMem(GprMem::Mem(amode), _)
             | Operand::ReadXmmMem(XmmMem::Mem(amode)) => {
-                Part::Address(NumberedPlace::marked(amode))
+                Part::Place(NumberedPlace::marked(amode))
             }
             Operand::Imm(imm) => Part::Imm(word_of(imm.bytes())),
         }

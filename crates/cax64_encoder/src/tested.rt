@@ -6,7 +6,6 @@ ghost use Rattle.cax64_encoder.specs.Tested.{ByOutcome, can_be_put, none_tested,
 ghost use Rattle.cax64_encoder.specs.declared.tested.Outcome.TheVariants.{NotEncodable};
 
 use crate::content::Content;
-use crate::numbered::NumberedPlace;
 use crate::part::Part;
 use cax64_machine_code::row::Row;
 use cax64_operand::{FromOperands, Nop, Operand, RegisterFamily, Task};
@@ -85,11 +84,7 @@ impl Tested {
                 (first < 16) & is_second_met
             }
             Part::Fixed(is_met) => is_met,
-            Part::PlaceRegister(number) => {
-                self.content.form.place = NumberedPlace::of_register(number);
-                number < 16
-            }
-            Part::Address(place) => {
+            Part::Place(place) => {
                 let base = place.base;
                 let index = place.index;
                 self.content.form.place = place;
