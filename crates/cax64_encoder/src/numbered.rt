@@ -73,12 +73,18 @@ impl NumberedPlace {
     pub(crate) fn of_register(number: u8) -> NumberedPlace
         ensures { result ≡ register_place number }
     {
-        let mut numbers = NumberedPlace::none();
-        numbers.stands = true;
-        numbers.is_register = true;
-        numbers.base = number;
-        numbers.register = number;
-        numbers
+        NumberedPlace {
+            stands: true,
+            is_register: true,
+            has_index: false,
+            relative: None,
+            base: number,
+            index: 0,
+            register: number,
+            scale: Scale::One,
+            displacement: AmodeOffsetPlusKnownOffset::ZERO,
+            trap: None,
+        }
     }
 
     /// The numbers of an address, 0 of a virtual register.
