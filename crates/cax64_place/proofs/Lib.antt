@@ -1,5 +1,6 @@
 pub mod Cases
 pub mod Placed
+pub mod Special
 pub mod TailTable
 pub mod Tailed
 pub mod HeadParts

@@ -80,7 +80,7 @@ fn special(reg: u8, place: &DataPlace) -> u8
     ensures is { result ≡ bit_or (reg / 4 % 2) (special_of place.now.kind place.now.base) }
     ensures below { result < 2 }
 {
-    (reg / 4 % 2) | (place.base / 4 % 2 * u8::from(place.kind.is_register()))
+    (reg | (place.base * u8::from(place.kind.is_register()))) / 4 % 2
 }
 
 /// The legacy prefixes of a line without VEX, REX if it stands, and the opcode, where R, X and B are these three bits.
@@ -142,11 +142,13 @@ pub fn code_of(
     ensures is { IsCode result }
 {
     let imm_len = entry.imm_len();
+    // The head comes first, so that less has to be kept beside it.
+    let head = head(entry, heads, reg, vvvv, place);
     // Where there is a digit there is no register, which then counts as 0.
     let tail = tail_part(place, (reg + entry.digit()) % 8, displacement, imm_len);
     Code {
         trap: place.trap,
-        front: head(entry, heads, reg, vvvv, place).append(tail.front),
+        front: head.append(tail.front),
         target: tail.target,
         long: tail.long,
         imm,
