@@ -1,7 +1,7 @@
 use Rattle.std.proofs.Common.{◌≡◌, ◌∙◌, ℕ, zero, suc, refl, sym, ap, arith, Bool, true, false, Option, Some, None, ℤ, pos, negsuc}
 use Rattle.std.proofs.lemmas.Bool.{and_parts}
 use Rattle.std.proofs.lemmas.Bool.Decides.{nat_tests}
-use Rattle.std.specs.Prelude.{◌==◌, ◌||◌, ◌&&◌, nat_lt, is_none, is_some}
+use Rattle.std.specs.Prelude.{◌==◌, ◌||◌, ◌&&◌, ◌+◌, ◌≤◌, nat_lt, is_none, is_some, slice_index_or}
 use Rattle.std.specs.Int.{from_bool}
 use Rattle.cax64_address.specs.Address.{scale_number}
 use Rattle.cax64_address.specs.declared.amode.Scale.{Scale}
@@ -16,6 +16,7 @@ use Rattle.cax64_sink.specs.declared.TrapCode.{TrapCode}
 use Rattle.cax64_plain.specs.Named.{has_displacement, has_offset, has_target, index_beside, is_whole, offset_named}
 use Rattle.cax64_plain.specs.Plain.{or_0, plain_place, trap_number}
 use Rattle.cax64_plain.specs.declared.place.HqPlace.{HqPlace}
+use Rattle.cax64_plain.specs.declared.place.TheConstants.{NO_INDEX}
 use Rattle.cax64_plain.proofs.Places.{zero_value}
 use Rattle.x64_core.specs.View.{place_operand}
 use Rattle.x64_core.specs.Viewed.{viewed, viewed_by}
@@ -129,3 +130,29 @@ back_by NoTarget s p o w e = built_is s 6 0 0 0 0 0 0 (pos 0) 0 e (zero_is _ w.b
 
 pub back : (kind : PlaceKind) (s : HqPlace) (p : DataPlace) → Of kind s p → is_whole kind s ≡ true → kind_number kind ≡ s.place → plain_place (place_operand (viewed p)) ≡ s
 back kind s p o h e = ap (λ (k : PlaceKind). plain_place (place_operand (viewed_by k p))) o.place ∙ back_by kind s p o (whole kind s h) e
+
+-- The index beside what its kind adds to it.
+
+no_more : (n : ℕ) → n + 0 ≡ n
+no_more n = omega arith
+
+beside_by : (kind : PlaceKind) (s : HqPlace) (d : ℕ) → is_whole kind s ≡ true → s.index + slice_index_or NO_INDEX (kind_number kind) d ≡ index_beside kind s.index
+beside_by Absent s d h = no_more s.index
+beside_by Register s d h = no_more s.index
+beside_by Base s d h = ap (λ (n : ℕ). n + 4) (sym (zero_is s.index (whole Base s h).index))
+beside_by BaseAndIndex s d h = no_more s.index
+beside_by Label s d h = no_more s.index
+beside_by Constant s d h = no_more s.index
+beside_by NoTarget s d h = no_more s.index
+
+pub beside : (kind : PlaceKind) (s : HqPlace) (n d : ℕ) → is_whole kind s ≡ true → kind_number kind ≡ s.place → n ≡ s.place → s.index + slice_index_or NO_INDEX n d ≡ index_beside kind s.index
+beside kind s n d h own is = rw (is, ← own) (beside_by kind s d h)
+
+pub beside_fits : (kind : PlaceKind) (n : ℕ) → n ≤ 255 → index_beside kind n ≤ 255
+beside_fits Absent n h = h
+beside_fits Register n h = h
+beside_fits Base n h = omega arith
+beside_fits BaseAndIndex n h = h
+beside_fits Label n h = h
+beside_fits Constant n h = h
+beside_fits NoTarget n h = h

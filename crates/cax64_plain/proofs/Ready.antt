@@ -35,7 +35,7 @@ use Rattle.x64_core.proofs.Reals.{met_is}
 
 -- The table has the largest numbers.
 
-found : (f : OpFields) (k : PlaceKind) (d : Limits) → slice_index_or LIMITS (fields_number f * 7 + kind_number k) d ≡ limits_of f k
+found : (f : OpFields) (k : PlaceKind) (d : Limits) → slice_index_or LIMITS (fields_number f * 8 + kind_number k) d ≡ limits_of f k
 found Bare Absent d = refl
 found Bare Register d = refl
 found Bare Base d = refl
@@ -79,7 +79,7 @@ found RegVvvvRm Label d = refl
 found RegVvvvRm Constant d = refl
 found RegVvvvRm NoTarget d = refl
 
-pub ready_is : (f : OpFields) (k : PlaceKind) (i : HqInst) (d : Limits) (m n : ℕ) → m ≡ fields_number f → n ≡ i.place → kind_number k ≡ i.place → is_within (slice_index_or LIMITS (m * 7 + n) d) i ≡ is_ready f k i
+pub ready_is : (f : OpFields) (k : PlaceKind) (i : HqInst) (d : Limits) (m n : ℕ) → m ≡ fields_number f → n ≡ i.place → kind_number k ≡ i.place → is_within (slice_index_or LIMITS (m * 8 + n) d) i ≡ is_ready f k i
 ready_is f k i d m n e h own = rw (e, h ∙ sym own) (ap (λ (l : Limits). is_within l i) (found f k d))
 
 -- What the largest numbers say.

@@ -17,7 +17,8 @@ use x64_core::shapes::{OpFields, OpImm};
 use x64_core::{Core, Op};
 
 /// The largest numbers of an instruction that can be encoded, by the operands of its line and the kind of its place: 0 of what
-/// it lacks. The first eight stand in the order of `HqInst`, so that they are compared at once.
+/// it lacks. The first eight stand in the order of `HqInst`, so that they are compared at once, and all are 32 bytes, so that
+/// they are found by a shift.
 struct Limits {
     reg: u8,
     vvvv: u8,
@@ -28,8 +29,8 @@ struct Limits {
     has_offset: u8,
     offset: u8,
     /// Of the displacement's bytes as a word.
-    disp: u32,
-    target: u32,
+    disp: u64,
+    target: u64,
     /// What `reserved` is below: 0 where the line doesn't take such a place.
     reserved: u8,
 }
@@ -81,11 +82,12 @@ const TARGET: Limits = Limits {
     ..NOTHING
 };
 
-/// For the fields of each line the seven kinds of place, by their numbers.
+/// For the fields of each line the seven kinds of place, by their numbers, and one that there isn't.
 #[rattlefmt::skip]
-static LIMITS: [Limits; 42] = [
+static LIMITS: [Limits; 48] = [
     // Bare
     NOTHING,
+    NONE,
     NONE,
     NONE,
     NONE,
@@ -100,6 +102,7 @@ static LIMITS: [Limits; 42] = [
     TARGET,
     TARGET,
     NOTHING,
+    NONE,
     // Mem
     NONE,
     NONE,
@@ -108,6 +111,7 @@ static LIMITS: [Limits; 42] = [
     TARGET,
     TARGET,
     NOTHING,
+    NONE,
     // RegRm
     NONE,
     Limits { reg: 15, ..REGISTER },
@@ -116,6 +120,7 @@ static LIMITS: [Limits; 42] = [
     Limits { reg: 15, ..TARGET },
     Limits { reg: 15, ..TARGET },
     Limits { reg: 15, ..NOTHING },
+    NONE,
     // RegMem
     NONE,
     NONE,
@@ -124,6 +129,7 @@ static LIMITS: [Limits; 42] = [
     Limits { reg: 15, ..TARGET },
     Limits { reg: 15, ..TARGET },
     Limits { reg: 15, ..NOTHING },
+    NONE,
     // RegVvvvRm
     NONE,
     Limits { reg: 15, vvvv: 15, ..REGISTER },
@@ -132,6 +138,7 @@ static LIMITS: [Limits; 42] = [
     Limits { reg: 15, vvvv: 15, ..TARGET },
     Limits { reg: 15, vvvv: 15, ..TARGET },
     Limits { reg: 15, vvvv: 15, ..NOTHING },
+    NONE,
 ];
 
 /// The number of the fields of a line, in the order in which they are listed.
@@ -177,16 +184,23 @@ fn limit(kind: OpImm) -> u64
     TOO_LARGE[imm_number(kind)]
 }
 
+/// The bits of the bytes of an immediate among the low 32 bits of its value, by the number of its kind. An unsigned one has no
+/// others.
+static BITS: [u32; 6] = [
+    0xFFFF_FFFF,
+    0xFFFF_FFFF,
+    0xFFFF_FFFF,
+    0xFFFF_FFFF,
+    0xFF,
+    0xFFFF_FFFF,
+];
+
 /// The bytes of an immediate of this kind as one word, the first one the lowest, from the low 32 bits of its value.
 #[inline(always)]
 fn imm_part(kind: OpImm, low: u32) -> u32
     ensures { result ≡ imm_part kind low }
 {
-    if matches!(kind, OpImm::I8) {
-        low % 256
-    } else {
-        low
-    }
+    low & BITS[imm_number(kind)]
 }
 
 /// Whether these are the low 32 bits of an immediate of this kind. It isn't asked first whether a signed byte is wanted, since a
@@ -239,8 +253,8 @@ impl HqInst {
         numbers
             & (self.reserved < most.reserved)
             & (self.index != gpr::enc::RSP)
-            & (self.disp.cast_unsigned() <= most.disp)
-            & (self.target <= most.target)
+            & (u64::from(self.disp.cast_unsigned()) <= most.disp)
+            & (u64::from(self.target) <= most.target)
     }
 
     /// Whether it is an instruction of a line with these fields and of this place, which is its own, but for the immediate, and
@@ -250,7 +264,7 @@ impl HqInst {
         requires { kind_number kind ≡ self.now.place }
         ensures { result ≡ is_ready fields kind self.now }
     {
-        self.is_within(&LIMITS[fields_number(fields) * 7 + usize::from(self.place)])
+        self.is_within(&LIMITS[fields_number(fields) * 8 + usize::from(self.place)])
     }
 
     /// Whether it is an instruction that can be encoded where no late offset is known. False says nothing: [`core`](Self::core)

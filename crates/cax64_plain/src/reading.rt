@@ -229,6 +229,28 @@ impl PlacePart {
 }
 
 impl HqReading {
+    /// Nothing.
+    pub const NOTHING: HqReading = HqReading {
+        imm: 0,
+        disp: 0,
+        line: 0,
+        length: 0,
+        tail: 0,
+        reg_kind: HQ_READ_NOTHING,
+        reg: 0,
+        has_vvvv: 0,
+        vvvv: 0,
+        place_kind: HQ_READ_NOTHING,
+        has_base: 0,
+        base: 0,
+        has_index: 0,
+        index: 0,
+        factor: 0,
+        has_imm: 0,
+        reserved: 0,
+        reserved_word: 0,
+    };
+
     /// What it has of a place.
     fn part(&self) -> PlacePart
         ensures { result ≡ part_in self.now }
