@@ -1,4 +1,4 @@
-use Rattle.std.proofs.Common.{◌≡◌, ◌∙◌, ◌+◌, ◌-◌, ◌*◌, ◌<◌, ◌≤◌, ◌^◌, ℕ, refl, sym, ap, subst, arith, Option, Some, None, List, [], ◌∷◌, ◌++◌, ℤ, Result, Ok, Err, drop, get_or, take, length, append-nil, append_assoc, length-append, ◌⊎◌, inl, inr, Bool, true, false}
+use Rattle.std.proofs.Common.{◌≡◌, ◌≢◌, ◌∙◌, ◌+◌, ◌-◌, ◌*◌, ◌<◌, ◌≤◌, ◌^◌, ℕ, refl, sym, ap, subst, arith, Option, Some, None, List, [], ◌∷◌, ◌++◌, ℤ, Result, Ok, Err, drop, get_or, take, length, append-nil, append_assoc, length-append, ◌⊎◌, inl, inr, Bool, true, false}
 use Rattle.std.proofs.lemmas.List.{length-drop, take_at, drop_at, drop-drop, drop_all, drop_more, length-take-le, take-append-drop, take_all, take_more}
 use Rattle.std.proofs.lemmas.Option.{slice_get-get_or}
 use Rattle.std.proofs.lemmas.Bool.Decides.{nat_tests}
@@ -17,6 +17,7 @@ use Rattle.cax64_plain.specs.Plain.{plain}
 use Rattle.cax64_plain.specs.Told.{told}
 use Rattle.cax64_plain.specs.declared.inst.HqInst.{HqInst}
 use Rattle.cax64_plain.specs.declared.told.HqUse.{HqUse}
+use Rattle.cax64_plain.proofs.Views.{same_view}
 use Rattle.cax64_sink.specs.FixedSink.{fixed_sink_state}
 use Rattle.cax64_sink.specs.declared.DeferredTarget.{DeferredTarget}
 use Rattle.cax64_sink.specs.declared.DeferredTarget.TheVariants as target
@@ -414,3 +415,41 @@ ready_fits insts room places h r p =
     let few = h.few in
     let whole : take (length insts) insts ≡ insts = take_all (length insts) insts (omega arith) in
     record { bytes = h.bytes; uses = h.uses; sound = subst (λ (l : List HqInst). AreSound l h.bytes h.uses) whole h.sound; fits = omega (arith, most, r); few = omega (arith, few, p) }
+
+-- What an instruction tells, by whether it tells anything.
+
+none_left : (told : List HqUse) → length told ≡ 0 → [] ≡ told
+none_left [] h = refl
+none_left (heard ∷ later) h = cc
+
+pub tells_nothing : (memory : Option (Amode ℕ)) (at : ℕ) (r : LineReading) → memory_notices memory ≡ 0 → [] ≡ uses_told (line_notices_of memory at r)
+tells_nothing memory at r h = none_left (uses_told (line_notices_of memory at r)) (number_told memory at r ∙ h)
+
+pub tells_one : (memory : Option (Amode ℕ)) (at : ℕ) (r : LineReading) (heard : HqUse) → memory_notices memory ≢ 0 → heard ≡ told (slice_get (line_notices_of memory 0 r) 0) → moved at heard ∷ [] ≡ uses_told (line_notices_of memory at r)
+tells_one memory at r heard some is = by_first (slice_get (line_notices_of memory 0 r) 0) refl
+  where
+    by_first : (first : Option Notice) → slice_get (line_notices_of memory 0 r) 0 ≡ first → moved at heard ∷ [] ≡ uses_told (line_notices_of memory at r)
+    by_first None e =
+        let none : [] ≡ uses_told (line_notices_of memory at r) = ap (λ (n : Option Notice). moved_if at n) (sym e) ∙ all_moved memory at r in
+        absurd (some (sym (number_told memory at r) ∙ ap (λ (l : List HqUse). length l) (sym none)))
+    by_first (Some notice) e =
+        ap (λ (h : HqUse). moved at h ∷ []) (is ∙ ap (λ (n : Option Notice). told n) e)
+        ∙ ap (λ (n : Option Notice). moved_if at n) (sym e)
+        ∙ all_moved memory at r
+
+-- An instruction that can be encoded was put, and what it tells was noted.
+pub ready_next : (inst : HqInst) (core : Core) (code code' : List ℕ) (uses uses' heard : List HqUse) (at count at' count' len : ℕ) → plain (core_view core) ≡ inst → PutBehind (core_view core) at code code' len heard → at' ≡ at + len → count' ≡ count + length heard → length code' ≡ length code → take count' uses' ≡ take count uses ++ heard → drop count' uses' ≡ drop count' uses → length uses' ≡ length uses → PutNext inst code code' uses uses' at count at' count'
+ready_next inst core code code' uses uses' heard at count at' count' len is put end number size front behind places = record {
+  core = core;
+  is = is;
+  alone = λ other h. same_view inst core other is h;
+  len = len;
+  heard = heard;
+  put = put;
+  end = end;
+  number = number;
+  size = size;
+  front = front;
+  behind = behind;
+  places = places;
+}

@@ -1,16 +1,14 @@
-use Rattle.std.proofs.Common.{◌≡◌, ◌∙◌, ◌+◌, ◌-◌, ◌<◌, ◌≤◌, ℕ, refl, sym, ap, subst, arith, Option, Some, None, List, [], ◌∷◌, ◌++◌, drop, take, length, set, add-one}
+use Rattle.std.proofs.Common.{◌≡◌, ◌∙◌, ◌+◌, ◌-◌, ◌<◌, ◌≤◌, ℕ, Bool, true, false, refl, sym, ap, subst, arith, Option, Some, None, List, [], ◌∷◌, ◌++◌, drop, take, length, set, add-one}
 use Rattle.std.proofs.lemmas.List.{drop-drop, drop-set-lt, length-drop}
 use Rattle.std.proofs.Math.Seq.{take-length, take-suc-set}
-use Rattle.std.specs.Prelude.{option_map}
+use Rattle.std.specs.Prelude.{MatchOption, option_map}
 use Rattle.cax64_machine_code.specs.Reading.{FoundOf}
-use Rattle.cax64_machine_code.specs.ReadLine.{LineReading, find_line, line_reading_of, read_line, read_of}
+use Rattle.cax64_machine_code.specs.ReadLine.{LineReading, find_line, line_reading_of, or_else, read_line, read_of}
 use Rattle.cax64_machine_code.specs.declared.line.Line.{Line}
-use Rattle.cax64_plain.specs.Reading.{IsReading, plain_reading}
+use Rattle.cax64_plain.specs.Reading.{IsReading}
 use Rattle.cax64_plain.specs.declared.reading.HqReading.{HqReading}
 use Rattle.huqmeris_c.specs.InTurn.{InTurn, IsRead}
 use Rattle.x64_core.specs.Lines.{core_lines}
-use Rattle.x64_core_reader.specs.Reading.{line_reading}
-use Rattle.x64_core_reader.specs.declared.reading.CoreReading.{CoreReading}
 
 -- Instructions read one behind the other.
 
@@ -33,26 +31,37 @@ found_within : (bytes : List ℕ) (o : Option (FoundOf Line)) → length_in (opt
 found_within bytes None = omega arith
 found_within bytes (Some found) = omega arith
 
-within : (line : Line) (bytes : List ℕ) (reading : LineReading) → read_line line bytes ≡ Some reading → reading.length ≤ length bytes
+line_within : (line : Line) (bytes : List ℕ) → length_in (read_line line bytes) ≤ length bytes
 unfolding read_line
-within line bytes reading h = subst (λ (o : Option LineReading). length_in o ≤ length bytes) h (found_within bytes (find_line line bytes))
+line_within line bytes = found_within bytes (find_line line bytes)
 
-pub is_read : (bytes : List ℕ) (r : CoreReading) (plain : HqReading) → ◌≡◌ {A = Option LineReading} (Some (line_reading r)) (read_of core_lines bytes) → plain ≡ plain_reading r.op.number (line_reading r) → IsRead bytes plain
-is_read bytes r plain h e = record {
-  reading = line_reading r;
-  is = sym h;
-  plain_is = subst (λ (p : HqReading). IsReading (line_reading r) p) (sym e) (record { line = refl; is = refl });
-}
+either_within : (a b : Option LineReading) (n : ℕ) → length_in a ≤ n → length_in b ≤ n → length_in (or_else a b) ≤ n
+either_within None b n h k = k
+either_within (Some r) b n h k = h
+
+within : (lines : List Line) (bytes : List ℕ) → length_in (read_of lines bytes) ≤ length bytes
+unfolding read_of
+within [] bytes = omega arith
+within (line ∷ lines) bytes = either_within (read_line line bytes) (read_of lines bytes) (length bytes) (line_within line bytes) (within lines bytes)
 
 -- all that stands behind so many bytes
 rest_is : (at : ℕ) (bytes : List ℕ) → take (length bytes - at) (drop at bytes) ≡ drop at bytes
 rest_is at bytes = ap (λ (n : ℕ). take n (drop at bytes)) (sym (length-drop at bytes)) ∙ take-length (drop at bytes)
 
-pub read_at : (at : ℕ) (bytes : List ℕ) (r : CoreReading) → ◌≡◌ {A = Option LineReading} (Some (line_reading r)) (read_of core_lines (take (length bytes - at) (drop at bytes))) → ◌≡◌ {A = Option LineReading} (Some (line_reading r)) (read_of core_lines (drop at bytes))
-read_at at bytes r h = subst (λ (b : List ℕ). ◌≡◌ {A = Option LineReading} (Some (line_reading r)) (read_of core_lines b)) (rest_is at bytes) h
+-- what the reader's integers say of them
+Answered : Option LineReading → Bool → HqReading → HqReading → Type 0
+Answered found is old plain = MatchOption found ((is ≡ false) × (plain ≡ old)) (λ reading. (is ≡ true) × IsReading reading plain)
 
-pub within_at : (line : Line) (at : ℕ) (bytes : List ℕ) (reading : LineReading) → read_line line (take (length bytes - at) (drop at bytes)) ≡ Some reading → reading.length ≤ length (drop at bytes)
-within_at line at bytes reading h = within line (drop at bytes) reading (subst (λ (b : List ℕ). read_line line b ≡ Some reading) (rest_is at bytes) h)
+pub read_at : (at : ℕ) (bytes : List ℕ) (is : Bool) (old plain : HqReading) → MatchOption (read_of core_lines (take (length bytes - at) (drop at bytes))) ((is ≡ false) × (plain ≡ old)) (λ reading. (is ≡ true) × IsReading reading plain) → is ≡ true → IsRead (drop at bytes) plain × (plain.length ≤ length (drop at bytes))
+unfolding Answered
+read_at at bytes is old plain h e = by_found (read_of core_lines (drop at bytes)) refl (subst (λ (b : List ℕ). Answered (read_of core_lines b) is old plain) (rest_is at bytes) h)
+  where
+    by_found : (found : Option LineReading) → read_of core_lines (drop at bytes) ≡ found → Answered found is old plain → IsRead (drop at bytes) plain × (plain.length ≤ length (drop at bytes))
+    by_found None k m = let bad : true ≡ false = sym e ∙ m.0 in absurd cc
+    by_found (Some reading) k m =
+        let long : plain.length ≡ reading.length = ap (λ (p : HqReading). p.length) m.1.is in
+        let fits : reading.length ≤ length (drop at bytes) = subst (λ (o : Option LineReading). length_in o ≤ length (drop at bytes)) k (within core_lines (drop at bytes)) in
+        (record { reading = reading; is = k; plain_is = m.1 }, subst (λ (n : ℕ). n ≤ length (drop at bytes)) (sym long) fits)
 
 -- what the loop has done
 pub record ReadSoFar (bytes : List ℕ) (first out : List HqReading) (at i : ℕ) : Type 0 where

@@ -1,4 +1,4 @@
-use Rattle.std.proofs.Common.{◌≡◌, ◌∙◌, ◌+◌, ◌≤◌, ◌⊎◌, inl, inr, ℕ, ℤ, pos, sym, ap, subst, arith, Option, None, Some, List, [], ◌++◌, drop, length, take, slice_get}
+use Rattle.std.proofs.Common.{◌≡◌, ◌∙◌, ◌+◌, ◌≤◌, ◌⊎◌, inl, inr, ℕ, ℤ, pos, sym, ap, subst, arith, Option, List, [], ◌++◌, drop, length, take}
 use Rattle.std.proofs.lemmas.List.{length-take-le}
 use Rattle.cax64_sink.specs.Sink.{State}
 use Rattle.cax64_sink.specs.declared.DeferredTarget.{DeferredTarget}

@@ -1,10 +1,8 @@
 use Rattle.std.specs.Prelude.{◌≡◌, ◌≤◌, ◌<◌, ◌+◌, ◌*◌, ◌++◌, ℕ, Option, Some, None, List, [], ◌∷◌, drop, slice_get, take, length}
 use Rattle.cax64_encoder.specs.EncodesLine.{line_notices_of}
 use Rattle.cax64_encoder.specs.Place.{memory_in}
-use Rattle.cax64_machine_code.specs.ReadLine.{LineReading}
 use Rattle.cax64_plain.specs.Encodable.{IsReady}
 use Rattle.cax64_plain.specs.Plain.{plain}
-use Rattle.cax64_plain.specs.Told.{told}
 use Rattle.cax64_plain.specs.declared.inst.HqInst.{HqInst}
 use Rattle.cax64_plain.specs.declared.told.HqUse.{HqUse}
 use Rattle.huqmeris_c.specs.Each.{AreSound, uses_told}
@@ -49,10 +47,6 @@ pub record AreReady (insts : List HqInst) (n : ℕ) : Type 0 where
   pub few : uses ≤ n
   pub each : (i : ℕ) (inst : HqInst) → i < n → slice_get insts i ≡ Some inst → IsReady inst
 
--- the first thing that is told of an instruction with nothing before it
-abbrev pub told_first : CoreView → LineReading → HqUse
-told_first v reading = told (slice_get (line_notices_of (memory_in v.place) 0 reading) 0)
-
 -- there is room for all that is left
 pub record HasRoomFor (insts : List HqInst) (room places : ℕ) : Type 0 where
   pub bytes : ℕ
@@ -71,12 +65,6 @@ pub record PutBehind (v : CoreView) (at : ℕ) (code code' : List ℕ) (len : �
   pub adds : AddsCore v (written []) (written added)
   pub tells : heard ≡ uses_told (line_notices_of (memory_in v.place) at adds.line.reads.reading)
   pub number : length heard ≡ core_notices v
-
--- an instruction of these integers was put so
-pub record PutReady (inst : HqInst) (at : ℕ) (code code' : List ℕ) (len : ℕ) (heard : List HqUse) : Type 0 where
-  pub core : Core
-  pub is : plain (core_view core) ≡ inst
-  pub put : PutBehind (core_view core) at code code' len heard
 
 -- there is room for the next one
 pub record CanPut (inst : HqInst) (room places at count : ℕ) : Type 0 where

@@ -5,9 +5,9 @@ ghost use Rattle.cax64_machine_code.specs.ReadLine.{read_of};
 ghost use Rattle.huqmeris_c.specs.InTurn.{InTurn};
 ghost use Rattle.x64_core.specs.Lines.{core_lines};
 
+use crate::decode::read;
 use cax64_plain::HqReading;
 use cax64_plain::status::HQ_OK;
-use x64_core_reader::read_core;
 
 /// Reads instructions into the places, and answers how many, and how many bytes they have.
 fn read_each(bytes: &[u8], out: &mut [HqReading]) -> (usize, usize)
@@ -20,11 +20,10 @@ fn read_each(bytes: &[u8], out: &mut [HqReading]) -> (usize, usize)
     let places = out.len();
     let mut at = 0usize;
     for i in 0..places {
-        let Some(reading) = read_core(&bytes[at..]) else {
+        if !read(&bytes[at..], &mut out[i]) {
             return (i, at);
-        };
-        out[i] = HqReading::of(&reading);
-        at += usize::from(reading.length);
+        }
+        at += usize::from(out[i].length);
     }
     (places, at)
 }

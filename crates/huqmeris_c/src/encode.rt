@@ -19,14 +19,14 @@ ghost use Rattle.x64_core.specs.Shape.{imm_field};
 ghost use Rattle.x64_core.specs.View.{core_view};
 ghost use Rattle.x64_core.specs.declared.instruction.Core.{Core};
 
+use crate::decode::read;
 use crate::words::put_words;
 use cax64_encoder::EncodeError;
 use cax64_plain::status::{HQ_BAD_INST, HQ_FULL, HQ_OK, fault_status};
-use cax64_plain::{HqInst, HqUse};
+use cax64_plain::{HqInst, HqReading, HqUse};
 use cax64_sink::{FixedSink, Notice};
 use x64_core::shapes::OpImm;
 use x64_core::{Core, CorePlace};
-use x64_core_reader::read_core;
 
 /// What this library encodes into: at any place of an instruction, which has 13 bytes at most, there is room for a word of
 /// eight, so that no byte is put alone.
@@ -108,7 +108,10 @@ pub(crate) fn notice_of(core: &Core, bytes: &[u8]) -> Option<Notice>
             None => None,
         },
         CorePlace::Relative(target) => {
-            let reading = read_core(bytes)?;
+            let mut reading = HqReading::NOTHING;
+            if !read(bytes, &mut reading) {
+                return None;
+            }
             let behind = reading
                 .length
                 .saturating_sub(reading.tail)

@@ -1,14 +1,16 @@
 //! Encoding of many instructions.
 
-ghost use Rattle.std.specs.Prelude.{◌≡◌, ◌≤◌, ◌<◌, ◌+◌, ◌++◌, ◌^◌, ℕ, [], IfErr, IfOk, None, Some, drop, length, take, true};
+ghost use Rattle.std.specs.Prelude.{◌≡◌, ◌≤◌, ◌<◌, ◌+◌, ◌++◌, ◌∷◌, ◌^◌, ℕ, [], IfErr, IfOk, None, Some, drop, length, take, true};
 ghost use Rattle.cax64_encoder.specs.EncodesLine.{line_notices_of};
 ghost use Rattle.cax64_encoder.specs.Place.{memory_in};
 ghost use Rattle.cax64_machine_code.specs.ReadLine.{LineReading, read_of};
 ghost use Rattle.cax64_plain.specs.Encodable.{IsReady};
+ghost use Rattle.cax64_plain.specs.Plain.{place_of};
+ghost use Rattle.cax64_plain.specs.Told.{told_at};
 ghost use Rattle.cax64_sink.specs.FixedSink.{fixed_sink_state};
 ghost use Rattle.huqmeris_c.specs.Each.{AreSound, EachPutAs, IsRefused, PutEach, StoppedAt, uses_told};
 ghost use Rattle.huqmeris_c.specs.Encodes.{no_offsets, written};
-ghost use Rattle.huqmeris_c.specs.Listed.{AreReady, CanPut, HasRoomFor, HasSize, IsSized, PutBehind, PutNext, PutReady, moved, told_first, use_list};
+ghost use Rattle.huqmeris_c.specs.Listed.{AreReady, CanPut, HasRoomFor, HasSize, IsSized, PutBehind, PutNext, moved, use_list};
 ghost use Rattle.x64_core.specs.Adds.{AddsCore};
 ghost use Rattle.x64_core.specs.Core.{core_len, fault_of};
 ghost use Rattle.x64_core.specs.Line.{core_line};
@@ -157,33 +159,6 @@ fn put_behind(core: &Core, code: &mut [u8], at: usize) -> (usize, Option<HqUse>)
     (bytes.len(), use_of(core, bytes, at))
 }
 
-/// What an instruction tells behind so many bytes that tells this alone.
-#[inline(always)]
-fn use_behind(core: &Core, told: HqUse, at: usize) -> Option<HqUse>
-    requires { at + told.at < 2 ^ 32 }
-    ensures { (reading : LineReading) → told ≡ told_first (core_view core.now) reading → use_list result ≡ uses_told (line_notices_of (memory_in (core_view core.now).place) at reading) }
-{
-    if core.notice_count() == 0 {
-        None
-    } else {
-        Some(moved(told, at))
-    }
-}
-
-/// Puts an instruction of these integers that can be encoded behind so many bytes, and says how many it has, and what it tells.
-#[inline(always)]
-fn put_ready(inst: &HqInst, code: &mut [u8], at: usize) -> (usize, Option<HqUse>)
-    requires ready { IsReady inst.now }
-    requires room { at + 16 ≤ length code.old }
-    requires near { at < 2 ^ 31 }
-    ensures { PutReady inst.now at code.old code.new result.0 (use_list result.1) }
-{
-    let core = inst.encodable_core();
-    let (behind, len) = put_encodable(&core, &mut code[at..]);
-    let told = HqUse::of_inst(inst, behind);
-    (usize::from(len), use_behind(&core, told, at))
-}
-
 /// Notes what may be told behind so many others, and says how many these are then.
 fn note(uses: &mut [HqUse], count: usize, heard: Option<HqUse>) -> usize
     requires { count + length (use_list heard) ≤ length uses.old }
@@ -224,26 +199,65 @@ fn put_any(
     }
 }
 
-/// Puts the next instruction, which can be encoded, and says how many bytes there are then, and how many uses.
+/// Notes what an instruction of these integers tells behind so many bytes. It's apart, so that the loop around it has the
+/// registers for what most instructions need: they tell nothing.
+#[cold]
+#[inline(never)]
+fn note_told(inst: &HqInst, behind: u8, uses: &mut [HqUse], at: usize, count: &mut usize)
+    requires room { count.old < length uses.old }
+    requires near { at < 2 ^ 31 }
+    ensures count { count.new ≡ count.old + 1 }
+    ensures front { take count.new uses.new ≡ take count.old uses.old ++ moved at (told_at (place_of inst.now) behind) ∷ [] }
+    ensures others { drop count.new uses.new ≡ drop count.new uses.old }
+    ensures places { length uses.new ≡ length uses.old }
+{
+    uses[*count] = moved(HqUse::of_inst(inst, behind), at);
+    *count += 1;
+}
+
+/// Puts the next instruction, which can be encoded, where there is room for two words, and says how many bytes there are then.
+#[inline(always)]
+fn put_ready(
+    inst: &HqInst,
+    code: &mut [u8],
+    uses: &mut [HqUse],
+    at: usize,
+    count: &mut usize,
+) -> usize
+    requires encodable { IsReady inst.now }
+    requires ready { CanPut inst.now (length code.old) (length uses.old) at count.old }
+    requires room { at + 16 ≤ length code.old }
+    requires near { at < 2 ^ 31 }
+    ensures { PutNext inst.now code.old code.new uses.old uses.new at count.old result count.new }
+{
+    let core = inst.encodable_core();
+    let (behind, len) = put_encodable(&core, &mut code[at..]);
+    if core.notice_count() != 0 {
+        note_told(inst, behind, uses, at, count);
+    }
+    at + usize::from(len)
+}
+
+/// Puts the next instruction, which can be encoded, and says how many bytes there are then.
 #[inline(always)]
 fn put_next(
     inst: &HqInst,
     code: &mut [u8],
     uses: &mut [HqUse],
     at: usize,
-    count: usize,
-) -> (usize, usize)
+    count: &mut usize,
+) -> usize
     requires encodable { IsReady inst.now }
-    requires ready { CanPut inst.now (length code.old) (length uses.old) at count }
+    requires ready { CanPut inst.now (length code.old) (length uses.old) at count.old }
     requires near { at < 2 ^ 31 }
-    ensures { PutNext inst.now code.old code.new uses.old uses.new at count result.0 result.1 }
+    ensures { PutNext inst.now code.old code.new uses.old uses.new at count.old result count.new }
 {
     if at + 16 <= code.len() {
-        let put = put_ready(inst, code, at);
-        let noted = note(uses, count, put.1);
-        return (at + put.0, noted);
+        return put_ready(inst, code, uses, at, count);
     }
-    put_any(inst, code, uses, at, count)
+    let next = put_any(inst, code, uses, at, *count);
+    *count = next.1;
+    next.0
 }
 
 /// Puts instructions one behind the other that can be encoded where no late offset is known, as `put_each` does.
@@ -256,9 +270,7 @@ fn put_each_ready(insts: &[HqInst], code: &mut [u8], uses: &mut [HqUse]) -> (usi
     let mut at = 0usize;
     let mut count = 0usize;
     for i in 0..insts.len() {
-        let next = put_next(&insts[i], code, uses, at, count);
-        at = next.0;
-        count = next.1;
+        at = put_next(&insts[i], code, uses, at, &mut count);
     }
     (at, count)
 }

@@ -54,7 +54,8 @@ fn blended(word: u64, count: usize, other: u64) -> u64
 }
 
 /// Puts so many lowest bytes of a word and, behind them, so many of another at the front. What stands behind them is as
-/// before: it is read before anything is written, so that no read waits for a write.
+/// before: it is read before anything is written, so that no read waits for a write. The first word is written whole, since
+/// the second covers what is too much of it.
 #[inline(always)]
 pub(crate) fn put_words(code: &mut [u8], front: u64, count: usize, rest: u64, more: usize)
     requires count { count ≤ 8 }
@@ -62,8 +63,7 @@ pub(crate) fn put_words(code: &mut [u8], front: u64, count: usize, rest: u64, mo
     requires room { 16 ≤ length code.old }
     ensures { code.new ≡ take count (to_le_bytes w64 front) ++ take more (to_le_bytes w64 rest) ++ drop (count + more) code.old }
 {
-    let first = word_at(code, 0);
     let second = word_at(code, count);
-    put_word(code, 0, blended(front, count, first));
+    put_word(code, 0, front);
     put_word(code, count, blended(rest, more, second));
 }

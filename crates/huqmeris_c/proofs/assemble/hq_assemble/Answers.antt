@@ -1,19 +1,15 @@
-use Rattle.std.proofs.Common.{◌≡◌, ◌∙◌, ℕ, ℤ, inl, inr, refl, sym, ap, subst, rules, Option, List, All, ◌++◌, drop, get_or, length, FitsSigned, w32}
+use Rattle.std.proofs.Common.{◌≡◌, ◌∙◌, ℕ, ℤ, inl, inr, refl, sym, ap, subst, rules, Option, List, ◌++◌, drop, length, FitsSigned, w32}
 use Rattle.std.proofs.lemmas.Int.{to_z-of_z}
 use Rattle.cax64_sink.specs.declared.DeferredTarget.{DeferredTarget}
 use Rattle.huqmeris_c.proofs.Opened.{unbound_at}
 use Rattle.huqmeris_c.proofs.Settled.{either_full, finished_counted}
 use Rattle.huqmeris_c.specs.Items.{AssembledTo, Counted, Unlisted}
 use Rattle.huqmeris_c.proofs.Splits.{joined}
-use Rattle.huqmeris_c.specs.Data.{code_of, data_of}
-use Rattle.huqmeris_c.specs.Putting.{Behind, HasPlaces, OpenAt, traps_in}
+use Rattle.huqmeris_c.specs.Putting.{HasPlaces, OpenAt, traps_in}
 use Rattle.huqmeris_c.specs.declared.item.HqItem.{HqItem}
 use Rattle.cax64_plain.specs.declared.told.HqUse.{HqUse}
 use Rattle.huqmeris_c.specs.declared.progress.HqDone.{HqDone}
 use Rattle.x64_code_buffer.specs.Buffer.{buffer_state, places_of}
-use Rattle.x64_code_buffer.specs.Laid.{LaidOut}
-use Rattle.x64_code_buffer.specs.Use.{IsOutside, links, uses_of}
-use Rattle.cax64_sink.specs.Sink.{State}
 use Rattle.huqmeris_c.proofs.assemble.hq_assemble.Goals as goal
 
 pub returns-in-Err : goal.returns-in-Err
