@@ -16,7 +16,7 @@ use Rattle.cax64_sink.specs.declared.TrapCode.{TrapCode}
 use Rattle.cax64_plain.specs.Named.{has_displacement, has_offset, has_target, index_beside, is_whole, offset_named}
 use Rattle.cax64_plain.specs.Plain.{or_0, plain_place, trap_number}
 use Rattle.cax64_plain.specs.declared.place.HqPlace.{HqPlace}
-use Rattle.cax64_plain.specs.declared.place.TheConstants.{NO_INDEX}
+use Rattle.cax64_plain.specs.declared.place.TheConstants.{NO_INDEX, SCALES}
 use Rattle.cax64_plain.proofs.Places.{zero_value}
 use Rattle.x64_core.specs.View.{place_operand}
 use Rattle.x64_core.specs.Viewed.{viewed, viewed_by}
@@ -64,6 +64,7 @@ record Whole (kind : PlaceKind) (s : HqPlace) : Type 0 where
   base : (has_base kind || (s.base == 0)) ≡ true
   index : (has_index kind || (s.index == 0)) ≡ true
   scale : (has_index kind || (s.scale == 0)) ≡ true
+  bits : nat_lt s.scale 4 ≡ true
   trap : (has_displacement kind || (s.trap == 0)) ≡ true
   offset : (has_offset kind || (s.has_offset == 0)) ≡ true
   flag : nat_lt s.has_offset 2 ≡ true
@@ -84,7 +85,7 @@ whole kind s h =
     let p3 = and_parts (((has_base kind || (s.base == 0)) && (has_index kind || (s.index == 0))) && (has_index kind || (s.scale == 0))) (nat_lt s.scale 4) p4.0 in
     let p2 = and_parts ((has_base kind || (s.base == 0)) && (has_index kind || (s.index == 0))) (has_index kind || (s.scale == 0)) p3.0 in
     let p1 = and_parts (has_base kind || (s.base == 0)) (has_index kind || (s.index == 0)) p2.0 in
-    record { base = p1.0; index = p1.1; scale = p2.1; trap = p4.1; offset = p5.1; flag = p6.1; key = p7.1; disp = p8.1; target = p9.1; reserved = p10.1 }
+    record { base = p1.0; index = p1.1; scale = p2.1; bits = p3.1; trap = p4.1; offset = p5.1; flag = p6.1; key = p7.1; disp = p8.1; target = p9.1; reserved = p10.1 }
 
 nothing : (s : HqPlace) (scale : Scale) (trap : Option TrapCode) (offset : Option ℕ) (d : ℤ) → scale_number scale ≡ s.scale → trap_number trap ≡ s.trap → offset ≡ offset_named s.has_offset s.offset → d ≡ s.disp → (s.scale == 0) ≡ true → (s.trap == 0) ≡ true → (s.has_offset == 0) ≡ true → is_zero s.disp ≡ true → nothing_more scale trap offset d ≡ true
 nothing s scale trap offset d es et eo ed zs zt zo zd = both _ _ (one_scale scale s.scale es zs) (both _ _ (no_trap trap s.trap et zt) (both _ _ (no_offset offset s.has_offset s.offset eo zo) (ap (λ (z : ℤ). is_zero z) ed ∙ zd)))
@@ -130,6 +131,18 @@ back_by NoTarget s p o w e = built_is s 6 0 0 0 0 0 0 (pos 0) 0 e (zero_is _ w.b
 
 pub back : (kind : PlaceKind) (s : HqPlace) (p : DataPlace) → Of kind s p → is_whole kind s ≡ true → kind_number kind ≡ s.place → plain_place (place_operand (viewed p)) ≡ s
 back kind s p o h e = ap (λ (k : PlaceKind). plain_place (place_operand (viewed_by k p))) o.place ∙ back_by kind s p o (whole kind s h) e
+
+-- The scale of two bits.
+
+scale_at : (n : ℕ) (d : Scale) → nat_lt n 4 ≡ true → scale_number (slice_index_or SCALES n d) ≡ n
+scale_at zero d h = refl
+scale_at (suc zero) d h = refl
+scale_at (suc (suc zero)) d h = refl
+scale_at (suc (suc (suc zero))) d h = refl
+scale_at (suc (suc (suc (suc n)))) d h = absurd (grind (arith, nat_tests, h))
+
+pub scale_found : (kind : PlaceKind) (s : HqPlace) (n : ℕ) (d : Scale) → is_whole kind s ≡ true → n ≡ s.scale → scale_number (slice_index_or SCALES n d) ≡ s.scale
+scale_found kind s n d h is = rw is (scale_at s.scale d (whole kind s h).bits)
 
 -- The index beside what its kind adds to it.
 

@@ -2,7 +2,9 @@ use Rattle.std.proofs.Common.{◌≡◌, ◌∙◌, ◌+◌, ◌*◌, ℕ, refl,
 use Rattle.std.proofs.lemmas.Bool.{and_parts}
 use Rattle.std.proofs.lemmas.Bool.Decides.{nat_tests}
 use Rattle.std.proofs.lemmas.Int.{to_z-of_z}
-use Rattle.std.specs.Prelude.{◌==◌, ◌||◌, ◌&&◌, ◌^◌, ◌-◌, if◌then◌else◌, not, nat_le, nat_lt, slice_index_or, IsTrue}
+use Rattle.std.proofs.lemmas.Nat.{and_mask}
+use Rattle.std.proofs.lemmas.Nat.Bits.{and_high_mask}
+use Rattle.std.specs.Prelude.{◌==◌, ◌||◌, ◌&&◌, ◌^◌, ◌/◌, ◌%◌, ◌<◌, bit_and, if◌then◌else◌, not, nat_le, nat_lt, slice_index_or, IsTrue}
 use Rattle.std.specs.Int.{cast_signed, cast_unsigned}
 use Rattle.cax64_encoder.specs.Fault.{all_met, late_offset_fits}
 use Rattle.cax64_encoder.specs.Numbered as numbered
@@ -16,7 +18,7 @@ use Rattle.cax64_place.specs.Tail.{kind_number}
 use Rattle.cax64_place.specs.declared.place.DataPlace.{DataPlace}
 use Rattle.cax64_place.specs.declared.place.PlaceKind.{PlaceKind}
 use Rattle.cax64_place.specs.declared.place.PlaceKind.TheVariants.{Absent, Register, Base, BaseAndIndex, Label, Constant, NoTarget}
-use Rattle.cax64_plain.specs.Encodable.{IsImm, IsReady, fields_number, is_ready, is_within, limits_of, limits_where, most, settled_place, takes}
+use Rattle.cax64_plain.specs.Encodable.{IsImm, IsReady, absent, fields_number, is_ready, is_within, limits_of, limits_where, most, settled_place, takes}
 use Rattle.cax64_plain.specs.Named.{has_displacement, has_offset, has_target, index_beside, is_whole}
 use Rattle.cax64_plain.specs.Plain.{place_of}
 use Rattle.cax64_plain.specs.declared.encodable.Limits.{Limits}
@@ -95,10 +97,38 @@ below false n m k e h = grind (arith, nat_tests, h, e)
 zero_is : (n : ℕ) → nat_le n 0 ≡ true → n ≡ 0
 zero_is n h = grind (arith, nat_tests, h)
 
-no_disp : (b : Bool) (z : ℤ) → FitsSigned w32 z → nat_le (cast_unsigned w32 z) (most b (2 ^ 32 - 1)) ≡ true → (b || is_zero z) ≡ true
-no_disp true z fits h = refl
-no_disp false z fits h =
-    let none : cast_unsigned w32 z ≡ 0 = zero_is (cast_unsigned w32 z) h in
+-- what a word of two has where the bits of one of them are 0
+
+low_part : (d t : ℕ) → d < 2 ^ 32 → (d + t * 2 ^ 32) % 2 ^ 32 ≡ d
+low_part d t h = omega (arith, h)
+
+high_part : (d t : ℕ) → d < 2 ^ 32 → (d + t * 2 ^ 32) / 2 ^ 32 ≡ t
+high_part d t h = omega (arith, h)
+
+whole_part : (d t : ℕ) → d < 2 ^ 32 → t < 2 ^ 32 → (d + t * 2 ^ 32) % 2 ^ 64 ≡ d + t * 2 ^ 32
+whole_part d t h k = omega (arith, h, k)
+
+no_words : (a b : Bool) (d t : ℕ) → d < 2 ^ 32 → t < 2 ^ 32 → bit_and (d + t * 2 ^ 32) (absent a + absent b * 2 ^ 32) ≡ 0 → ((a || (d == 0)) ≡ true) × ((b || (t == 0)) ≡ true)
+no_words true true d t h k e = (refl, refl)
+no_words false true d t h k e =
+    let none : d ≡ 0 = sym (low_part d t h) ∙ sym (and_mask (d + t * 2 ^ 32) 32) ∙ e in
+    (rw none refl, refl)
+no_words true false d t h k e =
+    let fits : d + t * 2 ^ 32 < 2 ^ 64 = omega (arith, h, k) in
+    let high : (d + t * 2 ^ 32) / 2 ^ 32 * 2 ^ 32 ≡ 0 = sym (and_high_mask 64 32 (omega arith) (d + t * 2 ^ 32) fits) ∙ e in
+    let part : t * 2 ^ 32 ≡ 0 = ap (λ (n : ℕ). n * 2 ^ 32) (sym (high_part d t h)) ∙ high in
+    let none : t ≡ 0 = omega (arith, part) in
+    (refl, rw none refl)
+no_words false false d t h k e =
+    let both : d + t * 2 ^ 32 ≡ 0 = sym (whole_part d t h k) ∙ sym (and_mask (d + t * 2 ^ 32) 64) ∙ e in
+    let none : d ≡ 0 = omega (arith, both) in
+    let nothing : t ≡ 0 = omega (arith, both) in
+    (rw none refl, rw nothing refl)
+
+zero_disp : (b : Bool) (z : ℤ) → FitsSigned w32 z → (b || (cast_unsigned w32 z == 0)) ≡ true → (b || is_zero z) ≡ true
+zero_disp true z fits h = refl
+zero_disp false z fits h =
+    let none : cast_unsigned w32 z ≡ 0 = grind (arith, nat_tests, h) in
     let is : pos 0 ≡ z = sym (ap (λ (n : ℕ). cast_signed w32 n) none) ∙ to_z-of_z w32 z fits in
     subst (λ (y : ℤ). is_zero y ≡ true) is refl
 
@@ -135,8 +165,7 @@ record Parts (l : Limits) (i : HqInst) : Type 0 where
   offset : nat_le i.offset l.offset ≡ true
   reserved : nat_lt i.reserved l.reserved ≡ true
   no_rsp : not (i.index == 4) ≡ true
-  disp : nat_le (cast_unsigned w32 i.disp) l.disp ≡ true
-  target : nat_le i.target l.target ≡ true
+  words : (bit_and (cast_unsigned w32 i.disp + i.target * 2 ^ 32) l.absent == 0) ≡ true
 
 parts : (l : Limits) (i : HqInst) → is_within l i ≡ true → Parts l i
 parts l i h =
@@ -149,9 +178,7 @@ parts l i h =
     let a7 = a6 && nat_le i.offset l.offset in
     let a8 = a7 && nat_lt i.reserved l.reserved in
     let a9 = a8 && not (i.index == 4) in
-    let a10 = a9 && nat_le (cast_unsigned w32 i.disp) l.disp in
-    let p11 = and_parts a10 (nat_le i.target l.target) h in
-    let p10 = and_parts a9 (nat_le (cast_unsigned w32 i.disp) l.disp) p11.0 in
+    let p10 = and_parts a9 (bit_and (cast_unsigned w32 i.disp + i.target * 2 ^ 32) l.absent == 0) h in
     let p9 = and_parts a8 (not (i.index == 4)) p10.0 in
     let p8 = and_parts a7 (nat_lt i.reserved l.reserved) p9.0 in
     let p7 = and_parts a6 (nat_le i.offset l.offset) p8.0 in
@@ -161,10 +188,16 @@ parts l i h =
     let p3 = and_parts a2 (nat_le i.index l.index) p4.0 in
     let p2 = and_parts a1 (nat_le i.base l.base) p3.0 in
     let p1 = and_parts (nat_le i.reg l.reg) (nat_le i.vvvv l.vvvv) p2.0 in
-    record { reg = p1.0; vvvv = p1.1; base = p2.1; index = p3.1; scale = p4.1; trap = p5.1; has_offset = p6.1; offset = p7.1; reserved = p8.1; no_rsp = p9.1; disp = p10.1; target = p11.1 }
+    record { reg = p1.0; vvvv = p1.1; base = p2.1; index = p3.1; scale = p4.1; trap = p5.1; has_offset = p6.1; offset = p7.1; reserved = p8.1; no_rsp = p9.1; words = p10.1 }
 
-ready_by : (t : Bool) (f : OpFields) (k : PlaceKind) (i : HqInst) → FitsSigned w32 i.disp → takes f k ≡ t → Parts (limits_where t f k) i → Ready f k i
-ready_by true f k i fits e p = record {
+word_fits : (v : ℤ) → FitsSigned w32 v → cast_unsigned w32 v < 2 ^ 32
+word_fits v h = grind (arith, h)
+
+two_words : (k : PlaceKind) (i : HqInst) → FitsSigned w32 i.disp → i.target < 2 ^ 32 → (bit_and (cast_unsigned w32 i.disp + i.target * 2 ^ 32) (absent (has_displacement k) + absent (has_target k) * 2 ^ 32) == 0) ≡ true → ((has_displacement k || (cast_unsigned w32 i.disp == 0)) ≡ true) × ((has_target k || (i.target == 0)) ≡ true)
+two_words k i fits small h = no_words (has_displacement k) (has_target k) (cast_unsigned w32 i.disp) i.target (word_fits i.disp fits) small (grind (arith, nat_tests, h))
+
+ready_by : (t : Bool) (f : OpFields) (k : PlaceKind) (i : HqInst) → FitsSigned w32 i.disp → i.target < 2 ^ 32 → takes f k ≡ t → Parts (limits_where t f k) i → Ready f k i
+ready_by true f k i fits small e p = record {
   taken = e;
   reg = lacks (has_reg f) i.reg 15 p.reg;
   reg_below = below (has_reg f) i.reg 15 16 refl p.reg;
@@ -181,13 +214,13 @@ ready_by true f k i fits e p = record {
   no_offset = zero_is i.has_offset p.has_offset;
   no_key = zero_is i.offset p.offset;
   reserved = let r : nat_lt i.reserved 1 ≡ true = p.reserved in grind (arith, nat_tests, r);
-  disp = no_disp (has_displacement k) i.disp fits p.disp;
-  target = lacks (has_target k) i.target (2 ^ 32 - 1) p.target;
+  disp = zero_disp (has_displacement k) i.disp fits (two_words k i fits small p.words).0;
+  target = (two_words k i fits small p.words).1;
 }
-ready_by false f k i fits e p = let r : nat_lt i.reserved 0 ≡ true = p.reserved in absurd (grind (arith, nat_tests, r))
+ready_by false f k i fits small e p = let r : nat_lt i.reserved 0 ≡ true = p.reserved in absurd (grind (arith, nat_tests, r))
 
-pub ready : (f : OpFields) (k : PlaceKind) (i : HqInst) → FitsSigned w32 i.disp → is_ready f k i ≡ true → Ready f k i
-ready f k i fits h = ready_by (takes f k) f k i fits refl (parts (limits_of f k) i h)
+pub ready : (f : OpFields) (k : PlaceKind) (i : HqInst) → FitsSigned w32 i.disp → i.target < 2 ^ 32 → is_ready f k i ≡ true → Ready f k i
+ready f k i fits small h = ready_by (takes f k) f k i fits small refl (parts (limits_of f k) i h)
 
 both : (a b : Bool) → a ≡ true → b ≡ true → (a && b) ≡ true
 both true b h k = k
@@ -283,9 +316,9 @@ pub same_kind : (a b : PlaceKind) (n : ℕ) → kind_number a ≡ n → kind_num
 same_kind a b n e h = sym (kind_back a) ∙ ap kind_at (e ∙ sym h) ∙ kind_back b
 
 -- what is ready, by the shape of its line and the kind of its place
-pub ready_of : (i : HqInst) (s : OpShape) (k : PlaceKind) (number : ℕ) → FitsSigned w32 i.disp → IsReady i → number ≡ i.line → s ≡ shape_of number → kind_number k ≡ i.place → Ready s.fields k i × IsImm s.imm i.imm
-ready_of i s k number fits h n e own =
+pub ready_of : (i : HqInst) (s : OpShape) (k : PlaceKind) (number : ℕ) → FitsSigned w32 i.disp → i.target < 2 ^ 32 → IsReady i → number ≡ i.line → s ≡ shape_of number → kind_number k ≡ i.place → Ready s.fields k i × IsImm s.imm i.imm
+ready_of i s k number fits small h n e own =
     let same : shape_of i.line ≡ s = ap shape_of (sym n) ∙ sym e in
     let kind : h.kind ≡ k = same_kind h.kind k i.place h.own own in
     let within : is_ready s.fields k i ≡ true = subst (λ (j : PlaceKind). is_ready s.fields j i ≡ true) kind (subst (λ (t : OpShape). is_ready t.fields h.kind i ≡ true) same h.within) in
-    (ready s.fields k i fits within, subst (λ (t : OpShape). IsImm t.imm i.imm) same h.imm)
+    (ready s.fields k i fits small within, subst (λ (t : OpShape). IsImm t.imm i.imm) same h.imm)

@@ -1,4 +1,4 @@
-use Rattle.std.specs.Prelude.{◌≡◌, ◌<◌, ℕ, ◌==◌, ◌&&◌, ◌^◌, ◌-◌, ◌%◌, option_map, not, nat_le, nat_lt, Bool, true, if◌then◌else◌}
+use Rattle.std.specs.Prelude.{◌≡◌, ◌<◌, ℕ, ◌==◌, ◌&&◌, ◌^◌, ◌+◌, ◌-◌, ◌*◌, ◌%◌, bit_and, option_map, not, nat_le, nat_lt, Bool, true, if◌then◌else◌}
 use Rattle.std.specs.Int.{cast_unsigned, from_bool, w32}
 use Rattle.cax64_encoder.specs.ImmActions.{imm_named}
 use Rattle.cax64_machine_code.specs.Line.{imm_bytes}
@@ -51,6 +51,10 @@ takes fields NoTarget = has_mem fields
 abbrev pub most : Bool → ℕ → ℕ
 most present largest = if present then largest else 0
 
+-- the bits of a word that have to be 0: all of what isn't there
+abbrev pub absent : Bool → ℕ
+absent present = if present then 0 else 2 ^ 32 - 1
+
 abbrev pub limits_where : Bool → OpFields → PlaceKind → Limits
 limits_where taken fields kind = record {
   reg = most (taken && has_reg fields) 15;
@@ -61,8 +65,7 @@ limits_where taken fields kind = record {
   trap = most (taken && has_displacement kind) 255;
   has_offset = 0;
   offset = 0;
-  disp = most (taken && has_displacement kind) (2 ^ 32 - 1);
-  target = most (taken && has_target kind) (2 ^ 32 - 1);
+  absent = absent (taken && has_displacement kind) + absent (taken && has_target kind) * 2 ^ 32;
   reserved = from_bool taken;
 }
 
@@ -70,9 +73,9 @@ limits_where taken fields kind = record {
 abbrev pub limits_of : OpFields → PlaceKind → Limits
 limits_of fields kind = limits_where (takes fields kind) fields kind
 
--- each number is at most the one of these, and the index isn't the stack pointer
+-- each number is at most the one of these, the index isn't the stack pointer, and of displacement and target those bits are 0
 abbrev pub is_within : Limits → HqInst → Bool
-is_within l i = (((((((((((nat_le i.reg l.reg && nat_le i.vvvv l.vvvv) && nat_le i.base l.base) && nat_le i.index l.index) && nat_le i.scale l.scale) && nat_le i.trap l.trap) && nat_le i.has_offset l.has_offset) && nat_le i.offset l.offset) && nat_lt i.reserved l.reserved) && not (i.index == 4)) && nat_le (cast_unsigned w32 i.disp) l.disp) && nat_le i.target l.target)
+is_within l i = ((((((((((nat_le i.reg l.reg && nat_le i.vvvv l.vvvv) && nat_le i.base l.base) && nat_le i.index l.index) && nat_le i.scale l.scale) && nat_le i.trap l.trap) && nat_le i.has_offset l.has_offset) && nat_le i.offset l.offset) && nat_lt i.reserved l.reserved) && not (i.index == 4)) && (bit_and (cast_unsigned w32 i.disp + i.target * 2 ^ 32) l.absent == 0))
 
 abbrev pub is_ready : OpFields → PlaceKind → HqInst → Bool
 is_ready fields kind i = is_within (limits_of fields kind) i

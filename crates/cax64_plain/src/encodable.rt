@@ -17,8 +17,8 @@ use x64_core::shapes::{OpFields, OpImm};
 use x64_core::{Core, Op};
 
 /// The largest numbers of an instruction that can be encoded, by the operands of its line and the kind of its place: 0 of what
-/// it lacks. The first eight stand in the order of `HqInst`, so that they are compared at once, and all are 32 bytes, so that
-/// they are found by a shift.
+/// it lacks. The first eight stand in the order of `HqInst`, so that they are compared at once, and the displacement and the
+/// target are looked at as one word.
 struct Limits {
     reg: u8,
     vvvv: u8,
@@ -28,9 +28,8 @@ struct Limits {
     trap: u8,
     has_offset: u8,
     offset: u8,
-    /// Of the displacement's bytes as a word.
-    disp: u64,
-    target: u64,
+    /// The bits that have to be 0 of the displacement's bytes as a word, and above them of the target.
+    absent: u64,
     /// What `reserved` is below: 0 where the line doesn't take such a place.
     reserved: u8,
 }
@@ -45,8 +44,7 @@ const NOTHING: Limits = Limits {
     trap: 0,
     has_offset: 0,
     offset: 0,
-    disp: 0,
-    target: 0,
+    absent: 0xFFFF_FFFF_FFFF_FFFF,
     reserved: 1,
 };
 
@@ -64,7 +62,7 @@ const REGISTER: Limits = Limits {
 const BASE: Limits = Limits {
     base: 15,
     trap: 255,
-    disp: 4_294_967_295,
+    absent: 0xFFFF_FFFF_0000_0000,
     ..NOTHING
 };
 
@@ -73,12 +71,12 @@ const INDEX: Limits = Limits {
     index: 15,
     scale: 3,
     trap: 255,
-    disp: 4_294_967_295,
+    absent: 0xFFFF_FFFF_0000_0000,
     ..NOTHING
 };
 
 const TARGET: Limits = Limits {
-    target: 4_294_967_295,
+    absent: 0xFFFF_FFFF,
     ..NOTHING
 };
 
@@ -250,11 +248,11 @@ impl HqInst {
             & (self.trap <= most.trap)
             & (self.has_offset <= most.has_offset)
             & (self.offset <= most.offset);
+        let words = u64::from(self.disp.cast_unsigned()) + (u64::from(self.target) << 32);
         numbers
             & (self.reserved < most.reserved)
             & (self.index != gpr::enc::RSP)
-            & (u64::from(self.disp.cast_unsigned()) <= most.disp)
-            & (u64::from(self.target) <= most.target)
+            & ((words & most.absent) == 0)
     }
 
     /// Whether it is an instruction of a line with these fields and of this place, which is its own, but for the immediate, and

@@ -1,7 +1,6 @@
 //! The place of an instruction in integers.
 
 ghost use Rattle.std.specs.Prelude.{◌≡◌, ◌≢◌, ◌≤◌, IfNone, IfSome, true};
-ghost use Rattle.cax64_address.specs.Address.{scale_number};
 ghost use Rattle.cax64_place.specs.Tail.{kind_number};
 ghost use Rattle.cax64_plain.specs.Named.{index_beside, is_whole, is_within, offset_named};
 ghost use Rattle.cax64_plain.specs.Plain.{plain_place, target_place, trap_number};
@@ -167,20 +166,8 @@ pub(crate) fn kind_of(place: u8) -> Option<PlaceKind>
 /// What is added to the index of a place, by the number of its kind: beside a base alone it's 4, which is none.
 static NO_INDEX: [u8; 7] = [0, 0, gpr::enc::RSP, 0, 0, 0, 0];
 
-/// The scale of the two bits of a SIB byte, none above 3.
-#[inline(always)]
-fn scale_of(bits: u8) -> Option<Scale>
-    ensures some { IfSome result (λ scale. scale_number scale ≡ bits) }
-    ensures none { IfNone result (4 ≤ bits) }
-{
-    match bits {
-        0 => Some(Scale::One),
-        1 => Some(Scale::Two),
-        2 => Some(Scale::Four),
-        3 => Some(Scale::Eight),
-        _ => None,
-    }
-}
+/// By the two bits of a SIB byte.
+static SCALES: [Scale; 4] = [Scale::One, Scale::Two, Scale::Four, Scale::Eight];
 
 impl HqPlace {
     /// No place.
@@ -299,7 +286,7 @@ impl HqPlace {
             kind,
             base: self.base,
             index: self.index + NO_INDEX[usize::from(self.place)],
-            scale: scale_of(self.scale).unwrap(),
+            scale: SCALES[usize::from(self.scale)],
             trap: trap_of(self.trap),
             offset: offset_of(self.has_offset, self.offset),
             displacement: AmodeOffset::new(self.disp),

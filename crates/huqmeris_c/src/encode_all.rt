@@ -260,18 +260,23 @@ fn put_next(
     next.0
 }
 
-/// Puts instructions one behind the other that can be encoded where no late offset is known, as `put_each` does.
+/// Puts instructions one behind the other that can be encoded where no late offset is known, as `put_each` does. Before the last
+/// one there is always room for two words.
 fn put_each_ready(insts: &[HqInst], code: &mut [u8], uses: &mut [HqUse]) -> (usize, usize)
     requires few { length insts.now ≤ 165191049 }
+    requires some { 1 ≤ length insts.now }
     requires ready { AreReady insts.now (length insts.now) }
     requires room { HasRoomFor insts.now (length code.old) (length uses.old) }
+    requires most { length insts.now * 13 ≤ length code.old }
     ensures { PutEach insts.now code.old code.new uses.old uses.new result.0 result.1 }
 {
+    let last = insts.len() - 1;
     let mut at = 0usize;
     let mut count = 0usize;
-    for i in 0..insts.len() {
-        at = put_next(&insts[i], code, uses, at, &mut count);
+    for i in 0..last {
+        at = put_ready(&insts[i], code, uses, at, &mut count);
     }
+    at = put_next(&insts[last], code, uses, at, &mut count);
     (at, count)
 }
 
@@ -310,7 +315,11 @@ pub extern "C" fn hq_encode_all(
         return HQ_TOO_MANY;
     }
     // Where there is room for the most that they may have, it isn't counted what they have before they are put.
-    if insts.len() * 13 <= code.len() && insts.len() <= uses.len() && are_ready(insts) {
+    if !insts.is_empty()
+        && insts.len() * 13 <= code.len()
+        && insts.len() <= uses.len()
+        && are_ready(insts)
+    {
         let (bytes, count) = put_each_ready(insts, code, uses);
         *done = HqDone {
             items: insts.len(),
