@@ -1,6 +1,6 @@
 //! Encoding of many instructions.
 
-ghost use Rattle.std.specs.Prelude.{◌≡◌, ◌≤◌, ◌<◌, ◌+◌, ◌++◌, ◌∷◌, ◌^◌, ℕ, [], IfErr, IfOk, None, Some, drop, length, take, true};
+ghost use Rattle.std.specs.Prelude.{◌≡◌, ◌≤◌, ◌<◌, ◌+◌, ◌*◌, ◌++◌, ◌∷◌, ◌^◌, ℕ, [], IfErr, IfOk, None, Some, drop, length, take, true};
 ghost use Rattle.cax64_encoder.specs.EncodesLine.{line_notices_of};
 ghost use Rattle.cax64_encoder.specs.Place.{memory_in};
 ghost use Rattle.cax64_machine_code.specs.ReadLine.{LineReading, read_of};
