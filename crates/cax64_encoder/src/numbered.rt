@@ -51,7 +51,7 @@ pub struct NumberedForm {
 
 impl NumberedPlace {
     #[inline(always)]
-    fn none() -> NumberedPlace
+    pub(crate) fn none() -> NumberedPlace
         ensures { result ≡ no_place }
     {
         NumberedPlace {
@@ -73,33 +73,35 @@ impl NumberedPlace {
     pub(crate) fn of_register(number: u8) -> NumberedPlace
         ensures { result ≡ register_place number }
     {
-        NumberedPlace {
-            stands: true,
-            is_register: true,
-            has_index: false,
-            relative: None,
-            base: number,
-            index: 0,
-            register: number,
-            scale: Scale::One,
-            displacement: AmodeOffsetPlusKnownOffset::ZERO,
-            trap: None,
-        }
+        NumberedPlace::none().with_number(number)
     }
 
-    /// The numbers of an address, 0 of a virtual register.
+    /// The place of a register of this number, where nothing stands yet.
     #[inline(always)]
-    fn of_amode<M: AsReg>(amode: &Amode<M>) -> NumberedPlace
+    pub(crate) fn with_number(mut self, number: u8) -> NumberedPlace
+        requires { self ≡ no_place }
+        ensures { result ≡ register_place number }
+    {
+        self.stands = true;
+        self.is_register = true;
+        self.base = number;
+        self.register = number;
+        self
+    }
+
+    /// The numbers of an address, 0 of a virtual register, where nothing stands yet.
+    #[inline(always)]
+    fn with_amode<M: AsReg>(mut self, amode: &Amode<M>) -> NumberedPlace
+        requires { self ≡ no_place }
         ensures { result ≡ numbered_amode (numbering M.settled M.enc) amode.now }
     {
-        let mut numbers = NumberedPlace::none();
-        numbers.stands = true;
+        self.stands = true;
         match amode {
             Amode::ImmReg { base, simm32, trap } => {
-                numbers.base = Number::value_of(*base);
-                numbers.index = gpr::enc::RSP;
-                numbers.displacement = *simm32;
-                numbers.trap = *trap;
+                self.base = Number::value_of(*base);
+                self.index = gpr::enc::RSP;
+                self.displacement = *simm32;
+                self.trap = *trap;
             }
             Amode::ImmRegRegShift {
                 base,
@@ -108,31 +110,31 @@ impl NumberedPlace {
                 simm32,
                 trap,
             } => {
-                numbers.has_index = true;
-                numbers.base = Number::value_of(*base);
-                numbers.index = Number::value_of(*index.as_ref());
-                numbers.scale = *scale;
-                numbers.displacement.simm32 = *simm32;
-                numbers.trap = *trap;
+                self.has_index = true;
+                self.base = Number::value_of(*base);
+                self.index = Number::value_of(*index.as_ref());
+                self.scale = *scale;
+                self.displacement.simm32 = *simm32;
+                self.trap = *trap;
             }
-            Amode::RipRelative { target } => numbers.relative = Some(*target),
+            Amode::RipRelative { target } => self.relative = Some(*target),
         }
-        numbers
+        self
     }
 
-    /// The numbers of an address, 255 of a register that it can't hold.
+    /// The numbers of an address, 255 of a register that it can't hold, where nothing stands yet.
     #[inline(always)]
-    pub(crate) fn marked<M: AsReg>(amode: &Amode<M>) -> NumberedPlace
+    pub(crate) fn marked<M: AsReg>(mut self, amode: &Amode<M>) -> NumberedPlace
+        requires { self ≡ no_place }
         ensures { result ≡ marked_amode (numbering M.settled M.enc) amode.now }
     {
-        let mut numbers = NumberedPlace::none();
-        numbers.stands = true;
+        self.stands = true;
         match amode {
             Amode::ImmReg { base, simm32, trap } => {
-                numbers.base = Number::marked_value_of(*base);
-                numbers.index = gpr::enc::RSP;
-                numbers.displacement = *simm32;
-                numbers.trap = *trap;
+                self.base = Number::marked_value_of(*base);
+                self.index = gpr::enc::RSP;
+                self.displacement = *simm32;
+                self.trap = *trap;
             }
             Amode::ImmRegRegShift {
                 base,
@@ -141,16 +143,16 @@ impl NumberedPlace {
                 simm32,
                 trap,
             } => {
-                numbers.has_index = true;
-                numbers.base = Number::marked_value_of(*base);
-                numbers.index = Number::marked_index_of(*index.as_ref());
-                numbers.scale = *scale;
-                numbers.displacement.simm32 = *simm32;
-                numbers.trap = *trap;
+                self.has_index = true;
+                self.base = Number::marked_value_of(*base);
+                self.index = Number::marked_index_of(*index.as_ref());
+                self.scale = *scale;
+                self.displacement.simm32 = *simm32;
+                self.trap = *trap;
             }
-            Amode::RipRelative { target } => numbers.relative = Some(*target),
+            Amode::RipRelative { target } => self.relative = Some(*target),
         }
-        numbers
+        self
     }
 
     /// How many notices an instruction with this place has: of a trap, or of a target.
@@ -192,6 +194,8 @@ impl NumberedForm {
     pub(crate) fn add<R: Registers>(&mut self, operand: &Operand<R>)
         ensures { self.new ≡ with_role ⟦<R as RegisterFamily>⟧.family.read_gpr (role_of ⟦<R as RegisterFamily>⟧.family operand.now) self.old }
     {
+        // Made once, since a function that grows too large isn't inlined.
+        let nothing = NumberedPlace::none();
         match operand {
             Operand::ReadGpr(reg, _) => self.add_register(Number::value_of(*reg)),
             Operand::ReadWriteGpr(reg, _) => self.add_register(Number::value_of(*reg)),
@@ -205,19 +209,19 @@ impl NumberedForm {
             Operand::ReadWriteXmm(reg) => self.add_register(Number::value_of(*reg)),
             Operand::WriteXmm(reg) => self.add_register(Number::value_of(*reg)),
             Operand::ReadGprMem(GprMem::Gpr(reg), _) => {
-                self.place = NumberedPlace::of_register(Number::value_of(*reg));
+                self.place = nothing.with_number(Number::value_of(*reg));
             }
             Operand::ReadWriteGprMem(GprMem::Gpr(reg), _) => {
-                self.place = NumberedPlace::of_register(Number::value_of(*reg));
+                self.place = nothing.with_number(Number::value_of(*reg));
             }
             Operand::ReadXmmMem(XmmMem::Xmm(reg)) => {
-                self.place = NumberedPlace::of_register(Number::value_of(*reg));
+                self.place = nothing.with_number(Number::value_of(*reg));
             }
             Operand::ReadAmode(amode)
             | Operand::ReadGprMem(GprMem::Mem(amode), _)
             | Operand::ReadWriteGprMem(GprMem::Mem(amode), _)
             | Operand::ReadXmmMem(XmmMem::Mem(amode)) => {
-                self.place = NumberedPlace::of_amode(amode);
+                self.place = nothing.with_amode(amode);
             }
             Operand::Imm(imm) => self.imm = word_of(imm.bytes()),
         }

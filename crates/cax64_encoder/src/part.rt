@@ -33,6 +33,8 @@ impl Part {
     pub(crate) fn of<R: Registers>(operand: &Operand<R>) -> Part
         ensures { result ≡ part_of ⟦<R as RegisterFamily>⟧.family.read_gpr (role_of ⟦<R as RegisterFamily>⟧.family operand.now) }
     {
+        // Made once, since a function that grows too large isn't inlined.
+        let nothing = NumberedPlace::none();
         match operand {
             Operand::ReadGpr(reg, _) => Part::Register(Number::marked_value_of(*reg)),
             Operand::ReadWriteGpr(reg, _) => Part::Register(Number::marked_value_of(*reg)),
@@ -52,20 +54,18 @@ impl Part {
             Operand::ReadWriteXmm(reg) => Part::Register(Number::marked_value_of(*reg)),
             Operand::WriteXmm(reg) => Part::Register(Number::marked_value_of(*reg)),
             Operand::ReadGprMem(GprMem::Gpr(reg), _) => {
-                Part::Place(NumberedPlace::of_register(Number::marked_value_of(*reg)))
+                Part::Place(nothing.with_number(Number::marked_value_of(*reg)))
             }
             Operand::ReadWriteGprMem(GprMem::Gpr(reg), _) => {
-                Part::Place(NumberedPlace::of_register(Number::marked_value_of(*reg)))
+                Part::Place(nothing.with_number(Number::marked_value_of(*reg)))
             }
             Operand::ReadXmmMem(XmmMem::Xmm(reg)) => {
-                Part::Place(NumberedPlace::of_register(Number::marked_value_of(*reg)))
+                Part::Place(nothing.with_number(Number::marked_value_of(*reg)))
             }
             Operand::ReadAmode(amode)
             | Operand::ReadGprMem(GprMem::Mem(amode), _)
             | Operand::ReadWriteGprMem(GprMem::Mem(amode), _)
-            | Operand::ReadXmmMem(XmmMem::Mem(amode)) => {
-                Part::Place(NumberedPlace::marked(amode))
-            }
+            | Operand::ReadXmmMem(XmmMem::Mem(amode)) => { Part::Place(nothing.marked(amode)) }
             Operand::Imm(imm) => Part::Imm(word_of(imm.bytes())),
         }
     }
