@@ -1,10 +1,13 @@
-"""What the reader of the core holds: its lines as values, and an index of them by opcode and digit."""
+"""What the reader of the core holds: its lines as values, and an index of them by opcode, digit, prefixes and W."""
 
-from formatting import filled
+from index import MAP_COUNT, NO_ROW, PREFIX_COUNT, map_lines, places_of, slots_of
 from rows import PLACE_MEMORY, PLACE_REGISTER_8, TAIL_NONE, TAIL_REGISTER_8, place_field, tail_field
 
 LINES = "crates/x64_core_reader/src/lines.rt"
 INDEX = "crates/x64_core_reader/src/index.rt"
+
+# The number that stands where no line does.
+NO_LINE = 65535
 
 # The bits of a set of legacy prefixes, in the order of the struct.
 BITS = ("F0", "66", "F2", "F3")
@@ -47,55 +50,39 @@ def lines_table(lines):
             *(f"    {line_value(line)}, // {line.name}" for line in lines), "];"]
 
 
-def opcode_of(line):
-    """Its half of the opcodes, and its byte. VEX has no half of its own."""
-    return int(line.code.escape), line.code.opcode
+def prefixes_of(lines):
+    """The sets of legacy prefixes, or pp, that lines have, by their numbers."""
+    return sorted({line.code.prefix_number for line in lines})
 
 
-def slots_of(lines):
-    """The numbers of the lines of each opcode and digit. A line without a digit stands with each."""
-    found = {}
-    for number, line in enumerate(lines):
-        digits = found.setdefault(opcode_of(line), [[] for _ in range(8)])
-        for digit in range(8) if line.code.digit is None else [line.code.digit]:
-            digits[digit].append(number)
-    return dict(sorted(found.items()))
+def places_table(prefixes):
+    """The place in a slot of each set of prefixes, the last one where no line has it."""
+    places = [prefixes.index(number) if number in prefixes else len(prefixes) for number in range(PREFIX_COUNT)]
+    return [f"static PLACES: [u8; {PREFIX_COUNT}] = [{', '.join(map(str, places))}];"]
 
 
-def half(slots, escape):
-    """The place of each opcode byte among the spans, 0 where no line has it."""
-    places = {opcode: place for place, opcode in enumerate(slots, 1)}
-    return ["    [", *filled((str(places.get((escape, byte), 0)) for byte in range(256)), "        "), "    ],"]
+def place_value(lines, numbers):
+    """The numbers of the lines in a place, without W and with it."""
+    return f"[{', '.join(str(numbers[line.name] if line else NO_LINE) for line in lines)}]"
 
 
-def opcode_name(opcode):
-    escape, byte = opcode
-    return f"0F {byte:02X}" if escape else f"{byte:02X}"
-
-
-def index(lines):
-    """The places of opcodes, their spans by digit, and what stands in these."""
-    slots = slots_of(lines)
-    firsts, candidates, spans = {}, [], ["    [span!(0, 0); 8], // no line"]
-    for opcode, digits in slots.items():
-        for numbers in map(tuple, digits):
-            if numbers not in firsts:
-                firsts[numbers] = len(candidates) if numbers else 0
-                candidates += numbers
-        cells = [f"span!({firsts[tuple(numbers)]}, {len(numbers)})" for numbers in digits]
-        text = f"[{cells[0]}; 8]" if len(set(cells)) == 1 else f"[{', '.join(cells)}]"
-        spans.append(f"    {text}, // {opcode_name(opcode)}")
-    return (
-        ["static SLOTS: [[u8; 256]; 2] = [", *half(slots, 0), *half(slots, 1), "];"],
-        ["#[rattlefmt::skip]", f"static SPANS: [[Span; 8]; {len(spans)}] = [", *spans, "];"],
-        [f"static CANDIDATES: [u16; {len(candidates)}] = [", *filled(map(str, candidates), "    "), "];"],
-    )
+def index_table(slots, prefixes, numbers):
+    """The lines in each slot, which has a place for each set of prefixes, and one where no line stands."""
+    named = [("no opcode", []), *slots]
+    found = ["#[rattlefmt::skip]", f"static INDEX: [[[u16; 2]; {len(prefixes) + 1}]; {len(named)}] = ["]
+    for name, lines in named:
+        places = places_of(lines)
+        values = [place_value(lines, numbers) for lines in [*(places[number] for number in prefixes), NO_ROW]]
+        found.append(f"    [{', '.join(values)}], // {name}")
+    return [*found, "];"]
 
 
 def write(table, core, sources):
     lines = [*table.rows, *core.lines]
     sources.part(LINES, "lines", lines_table(lines))
-    slots, spans, candidates = index(lines)
-    sources.part(INDEX, "slots", slots)
-    sources.part(INDEX, "spans", spans)
-    sources.part(INDEX, "candidates", candidates)
+    entries, slots = slots_of(lines)
+    prefixes, numbers = prefixes_of(lines), {line.name: number for number, line in enumerate(lines)}
+    maps = [line for number in range(MAP_COUNT) for line in map_lines(entries, number)]
+    sources.part(INDEX, "slots", [f"static SLOTS: [[u16; 256]; {MAP_COUNT}] = [", *maps, "];"])
+    sources.part(INDEX, "places", places_table(prefixes))
+    sources.part(INDEX, "index", index_table(slots, prefixes, numbers))

@@ -32,7 +32,7 @@ fn is_set(set: &LegacySet, number: u8) -> bool
 
 /// Whether a line lets vvvv be this number.
 #[inline]
-fn is_vvvv(field: VvvvField, vvvv: u8) -> bool
+pub fn is_vvvv(field: VvvvField, vvvv: u8) -> bool
     ensures { result ≡ vvvv_matches field vvvv }
 {
     match field {

@@ -1,5 +1,5 @@
 pub mod Table
-pub mod Stands
+pub mod Keys
 pub mod Found
 pub mod Distinct
 pub mod Taken

@@ -1,28 +1,38 @@
-use Rattle.std.specs.Prelude.{ℕ, Bool, List, [], ◌∷◌, Option, drop, option_map, slice_index_or, take}
+use Rattle.std.specs.Prelude.{ℕ, ◌+◌, ◌-◌, ◌*◌, ◌/◌, ◌%◌, ◌<◌, ◌≤◌, Bool, List, [], ◌∷◌, length, slice_index, slice_index_or}
 use Rattle.std.specs.Int.{from_bool}
 use Rattle.cax64_machine_code.specs.Fields.{reg_of}
 use Rattle.cax64_machine_code.specs.declared.line.Opcode.{Opcode}
-use Rattle.cax64_table.specs.Matching.{front_opcode}
-use Rattle.x64_core_reader.specs.declared.index.Span.{Span}
-use Rattle.x64_core_reader.specs.declared.index.TheConstants.{CANDIDATES, SLOTS, SPANS}
+use Rattle.cax64_table.specs.Slot.{slot_with}
+use Rattle.x64_core_reader.specs.declared.index.TheConstants.{INDEX, PLACES, SLOTS}
 
--- Which lines are tried where an opcode and a digit stand.
+-- Which line is tried where an opcode and a digit stand behind a prefix.
 
-abbrev pub slot_of : Bool → ℕ → ℕ
-slot_of escape byte = slice_index_or (slice_index_or SLOTS (from_bool escape) []) byte 0
+-- what the table holds for an opcode in a map, of which the first is that without VEX
+abbrev pub entry_in : ℕ → Opcode → ℕ
+entry_in map opcode = slice_index (slice_index_or SLOTS (2 * map + from_bool opcode.escape) []) opcode.byte
 
-abbrev pub span_of : ℕ → ℕ → Span
-span_of slot digit = slice_index_or (slice_index_or SPANS slot []) digit (record { first = 0; count = 0 })
+-- what it holds for an opcode behind a prefix by low: its set of legacy prefixes, or pp and sixteen times its map
+abbrev pub entry_for : ℕ → Opcode → ℕ
+entry_for low opcode = entry_in (low / 16 % 4) opcode
 
--- the numbers of lines that may have this opcode, and this digit if they have one
-abbrev pub candidates_of : Opcode → ℕ → List ℕ
-candidates_of opcode digit = take (span_of (slot_of opcode.escape opcode.byte) digit).count (drop (span_of (slot_of opcode.escape opcode.byte) digit).first CANDIDATES)
+-- the slots of an entry are in the index
+pub record Fits (entry : ℕ) : Type 0 where
+  pub alone : entry < 32768 → entry < length INDEX
+  pub by_digit : 32768 ≤ entry → entry - 32768 + 7 < length INDEX
+
+-- the place of a set of legacy prefixes, or of pp
+abbrev pub place_of : ℕ → ℕ
+place_of low = slice_index PLACES (low % 16)
+
+-- the number in a slot, by its place and W
+abbrev pub number_in : ℕ → ℕ → Bool → ℕ
+number_in slot place w = slice_index_or (slice_index_or (slice_index_or INDEX slot []) place []) (from_bool w) 0
 
 -- the digit that follows an opcode, 0 where nothing does
 abbrev pub digit_behind : List ℕ → ℕ
 digit_behind [] = 0
 digit_behind (modrm ∷ bytes) = reg_of modrm
 
--- those of the opcode at the front
-abbrev pub candidates_in : List ℕ → Option (List ℕ)
-candidates_in bytes = option_map (λ o. candidates_of o.0 (digit_behind o.1)) (front_opcode bytes)
+-- the number of a key: low, W, an opcode and a digit
+abbrev pub number_of_key : ℕ → Bool → Opcode → ℕ → ℕ
+number_of_key low w opcode digit = number_in (slot_with (entry_for low opcode) digit) (place_of low) w

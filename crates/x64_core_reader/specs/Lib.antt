@@ -3,3 +3,4 @@ pub mod Reading
 pub mod OfReading
 -- Steps of the proofs.
 pub mod Index
+pub mod Others

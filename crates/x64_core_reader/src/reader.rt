@@ -1,6 +1,7 @@
 //! One instruction of the core at the front of some bytes.
 
-ghost use Rattle.std.specs.Prelude.{◌≡◌, ◌≤◌, ◌<◌, ◌+◌, ℕ, All, IfNone, IfSome, Some, None, option_map, length, true};
+ghost use Rattle.std.specs.Prelude.{◌≡◌, ◌≤◌, ◌<◌, ◌+◌, ℕ, IfNone, IfSome, Some, None, option_map, length, true, false};
+ghost use Rattle.cax64_machine_code.specs.Reading.{operands_of};
 ghost use Rattle.cax64_machine_code.specs.ReadLine.{find_line, read_line, read_of};
 ghost use Rattle.cax64_reader.specs.ByLine.{found_behind};
 ghost use Rattle.cax64_reader.specs.Found.{found_of};
@@ -9,44 +10,60 @@ ghost use Rattle.cax64_reader.specs.Range.{in_range};
 ghost use Rattle.x64_core.specs.Line.{core_line};
 ghost use Rattle.x64_core.specs.Lines.{core_lines};
 ghost use Rattle.x64_core.specs.declared.lines.TheConstants.{COUNT};
+ghost use Rattle.x64_core_reader.specs.Index.{digit_behind, number_of_key};
 ghost use Rattle.x64_core_reader.specs.OfReading.{is_taken};
+ghost use Rattle.x64_core_reader.specs.Others.{FindsAlone, others_match};
 ghost use Rattle.x64_core_reader.specs.Reading.{line_reading};
 
-use crate::index::candidates_at;
+use crate::index::{digit, number_of_key};
 use crate::lines::line;
 use crate::reading::CoreReading;
-use cax64_machine_code::line::Line;
-use cax64_reader::by_line::operands_by_line;
+use cax64_machine_code::line::{Line, Opcode, PrefixField};
+use cax64_reader::by_line::is_vvvv;
 use cax64_reader::front::Front;
-use cax64_reader::operands::Found;
+use cax64_reader::operands::{Found, operands};
 use cax64_reader::prefix::read_front;
+use cax64_table::lookup::opcode_at;
 use x64_core::Op;
 
-/// The operands of the line of this number, where it is this line that stands there.
+/// Whether what the key leaves open of the bytes before the opcode is as a line asks for it: REX, or L and vvvv.
 #[inline]
-fn try_line<'a>(number: u16, front: &Front, bytes: &'a [u8]) -> Option<(Op, Found<'a, Line>)>
-    ensures found { IfSome result (λ f. found_behind (core_line f.0.number) (prefix_of front.now) bytes.now ≡ Some (found_of f.1)) }
-    ensures range { IfSome result (λ f. in_range (core_line f.0.number).imm f.1.imm ≡ true) }
-    ensures none { IfNone result (number < COUNT → found_behind (core_line number) (prefix_of front.now) bytes.now ≡ None) }
+fn others_match(field: &PrefixField, front: &Front) -> bool
+    ensures { result ≡ others_match field.now front.now.numbers front.now.has_rex front.now.vvvv }
 {
-    let op = Op::from_number(number)?;
-    let found = operands_by_line(line(op), front, bytes)?;
-    Some((op, found))
-}
-
-/// The line among these that stands there, and its operands.
-#[inline]
-fn first_of<'a>(candidates: &[u16], front: &Front, bytes: &'a [u8]) -> Option<(Op, Found<'a, Line>)>
-    ensures found { IfSome result (λ f. found_behind (core_line f.0.number) (prefix_of front.now) bytes.now ≡ Some (found_of f.1)) }
-    ensures range { IfSome result (λ f. in_range (core_line f.0.number).imm f.1.imm ≡ true) }
-    ensures none { IfNone result (All (λ n. n < COUNT → found_behind (core_line n) (prefix_of front.now) bytes.now ≡ None) candidates.now) }
-{
-    for number in candidates {
-        if let Some(found) = try_line(*number, front, bytes) {
-            return Some(found);
+    match field {
+        PrefixField::LegacyField(_, rex) => *rex | !front.has_rex,
+        PrefixField::VexField(_, _, l, vvvv) => {
+            front.numbers.high() == Some(*l) && is_vvvv(*vvvv, front.vvvv)
         }
     }
-    None
+}
+
+/// The line whose key these are, where all that it asks for before its opcode stands there.
+#[inline]
+fn line_of_key(front: &Front, opcode: Opcode, rest: &[u8]) -> Option<Op>
+    ensures found { IfSome result (λ op. (op.number ≡ number_of_key front.now.numbers.low front.now.numbers.w opcode (digit_behind rest.now)) × (others_match (core_line op.number).prefix front.now.numbers front.now.has_rex front.now.vvvv ≡ true)) }
+    ensures none { IfNone result (number_of_key front.now.numbers.low front.now.numbers.w opcode (digit_behind rest.now) < COUNT → others_match (core_line (number_of_key front.now.numbers.low front.now.numbers.w opcode (digit_behind rest.now))).prefix front.now.numbers front.now.has_rex front.now.vvvv ≡ false) }
+    ensures byte { opcode.byte < 256 }
+{
+    let number = number_of_key(front.numbers.low(), front.numbers.w(), opcode, digit(rest));
+    let op = Op::from_number(number)?;
+    if others_match(&line(op).prefix, front) {
+        Some(op)
+    } else {
+        None
+    }
+}
+
+/// The line that stands behind the prefix, and what follows its opcode.
+#[inline]
+fn line_behind<'a>(front: &Front, bytes: &'a [u8]) -> Option<(Op, &'a [u8])>
+    ensures finds { IfSome result (λ f. found_behind (core_line f.0.number) (prefix_of front.now) bytes.now ≡ operands_of (core_line f.0.number).tail (core_line f.0.number) (core_line f.0.number) (prefix_of front.now) f.1.now) }
+    ensures alone { FindsAlone (prefix_of front.now) bytes.now (option_map (λ f. f.0.number) result) }
+{
+    let (opcode, rest) = opcode_at(bytes)?;
+    let op = line_of_key(front, opcode, rest)?;
+    Some((op, rest))
 }
 
 /// The line that stands at the front, and its operands.
@@ -57,8 +74,11 @@ fn find(bytes: &[u8]) -> Option<(Op, Found<'_, Line>)>
     ensures none { IfNone result ((n : ℕ) → n < COUNT → find_line (core_line n) bytes.now ≡ None) }
     ensures length { IfSome result (λ f. (1 + length f.1.rest.now ≤ length bytes.now) × (length bytes.now ≤ 13 + length f.1.rest.now)) }
 {
-    let (front, rest) = read_front(bytes)?;
-    first_of(candidates_at(rest)?, &front, rest)
+    let (front, behind) = read_front(bytes)?;
+    let (op, rest) = line_behind(&front, behind)?;
+    let line = line(op);
+    let found = operands(*line, line, &front, rest)?;
+    Some((op, found))
 }
 
 /// Reads the instruction at the front, of which all lines of the core are known; what follows it is not read.
