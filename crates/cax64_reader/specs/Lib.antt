@@ -6,3 +6,4 @@ pub mod ByLine
 pub mod Range
 -- Steps of the proofs.
 pub mod PrefixWith
+pub mod Field

@@ -4,6 +4,7 @@ ghost use Rattle.std.specs.Prelude.{◌≡◌, ◌<◌, ◌≤◌, ◌^◌, ◌*
 ghost use Rattle.cax64_machine_code.specs.Fields.{signed_of};
 ghost use Rattle.cax64_machine_code.specs.Reading.{view_of, reg_view, reg_place, place_at, vvvv_at, imm_at, bare_operands, tail_operands, operands_of};
 ghost use Rattle.cax64_table.specs.Cursor.{behind};
+ghost use Rattle.cax64_reader.specs.Field.{is_register_8};
 ghost use Rattle.cax64_reader.specs.Lengths.{HasSize};
 ghost use Rattle.cax64_reader.specs.Range.{in_range, signed_below};
 ghost use Rattle.cax64_reader.specs.Found.{found_of};
@@ -40,17 +41,29 @@ fn view(eight: bool, rex: bool, number: u8) -> RegView
     RegView::Low(number)
 }
 
-/// The register in the reg field, if the row has one.
+/// Whether the reg field holds an 8-bit register.
+#[inline(always)]
+fn is_eight(field: &RegField) -> bool
+    ensures { result ≡ is_register_8 field.now }
+{
+    match field {
+        RegField::Register8 => true,
+        RegField::Digit(_) | RegField::Register => false,
+    }
+}
+
+/// The register in the reg field, if the row has one. It's made before it's known whether the row has one, so that the
+/// compiler chooses without a branch.
 #[inline(always)]
 fn register(field: &RegField, front: &Front, reg: u8) -> Option<RegView>
     requires { reg < 8 }
     ensures { result ≡ reg_view field.now (prefix_of front.now) reg }
 {
     let number = reg + 8 * u8::from(front.r);
+    let view = view(is_eight(field), front.has_rex, number);
     match field {
         RegField::Digit(_) => None,
-        RegField::Register8 => Some(view(true, front.has_rex, number)),
-        RegField::Register => Some(view(false, front.has_rex, number)),
+        RegField::Register8 | RegField::Register => Some(view),
     }
 }
 
