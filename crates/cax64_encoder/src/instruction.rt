@@ -186,7 +186,8 @@ impl<I: RowAndOperands> Instruction for I {
     fn encode_checked<S: CodeSink>(&self, sink: &mut S) -> Result<(), EncodeError> {
         match self.hand_to::<Tested, S>(sink) {
             Outcome::Put => Ok(()),
-            Outcome::Refused(error) => Err(EncodeError::Sink(error)),
+            Outcome::NoMemory => Err(EncodeError::Sink(SinkError::NoMemory)),
+            Outcome::Full => Err(EncodeError::Sink(SinkError::Full)),
             Outcome::NotEncodable => {
                 Err(EncodeError::Fault(listed_fault(self, &*sink).unwrap()))
             }

@@ -1,7 +1,7 @@
 //! Registers by their hardware numbers.
 
 ghost use Rattle.std.specs.Prelude.{◌≡◌};
-ghost use Rattle.cax64_encoder.specs.Marked.{marked_index, marked_value};
+ghost use Rattle.cax64_encoder.specs.Marked.{marked_value};
 ghost use Rattle.cax64_encoder.specs.Number.{number_of, number_value, is_real_number, is_number, is_index_number};
 
 use cax64_register::{AsReg, gpr};
@@ -53,15 +53,6 @@ impl Number {
         } else {
             false
         }
-    }
-
-    /// The number of an index, or 255 of a register that can't be one.
-    #[inline(always)]
-    pub(crate) fn marked_index_of<R: AsReg>(reg: R) -> u8
-        ensures { result ≡ marked_index (number_of R.settled R.enc reg) }
-    {
-        let number = Number::marked_value_of(reg);
-        if number == gpr::enc::RSP { 255 } else { number }
     }
 
     /// Whether an instruction can hold the register.

@@ -2,7 +2,7 @@
 
 ghost use Rattle.std.specs.Prelude.{◌≡◌};
 ghost use Rattle.cax64_encoder.specs.Numbered.{no_place, register_place, numbered_amode, no_form, with_register, with_role, notice_count};
-ghost use Rattle.cax64_encoder.specs.Marked.{marked_amode};
+ghost use Rattle.cax64_encoder.specs.Marked.{amode_mark, marked_amode};
 ghost use Rattle.cax64_encoder.specs.Role.{role_of};
 ghost use Rattle.cax64_operand.specs.Family.{numbering};
 
@@ -122,18 +122,22 @@ impl NumberedPlace {
         self
     }
 
-    /// The numbers of an address, 255 of a register that it can't hold, where nothing stands yet.
+    /// The numbers of an address, 255 of a virtual register, where nothing stands yet, and 16 where more has to hold than that
+    /// they are below 16: of a late offset, or of an index that is the stack pointer's.
     #[inline(always)]
-    pub(crate) fn marked<M: AsReg>(mut self, amode: &Amode<M>) -> NumberedPlace
+    pub(crate) fn marked<M: AsReg>(mut self, amode: &Amode<M>) -> (NumberedPlace, u8)
         requires { self ≡ no_place }
-        ensures { result ≡ marked_amode (numbering M.settled M.enc) amode.now }
+        ensures place { result.0 ≡ marked_amode (numbering M.settled M.enc) amode.now }
+        ensures mark { result.1 ≡ amode_mark (numbering M.settled M.enc) amode.now }
     {
         self.stands = true;
+        let mut mark = 0;
         match amode {
             Amode::ImmReg { base, simm32, trap } => {
                 self.base = Number::marked_value_of(*base);
                 self.index = gpr::enc::RSP;
                 self.displacement = *simm32;
+                mark = 16 * u8::from(simm32.offset.is_some());
                 self.trap = *trap;
             }
             Amode::ImmRegRegShift {
@@ -145,14 +149,15 @@ impl NumberedPlace {
             } => {
                 self.has_index = true;
                 self.base = Number::marked_value_of(*base);
-                self.index = Number::marked_index_of(*index.as_ref());
+                self.index = Number::marked_value_of(*index.as_ref());
+                mark = 16 * u8::from(self.index == gpr::enc::RSP);
                 self.scale = *scale;
                 self.displacement.simm32 = *simm32;
                 self.trap = *trap;
             }
             Amode::RipRelative { target } => self.relative = Some(*target),
         }
-        self
+        (self, mark)
     }
 
     /// How many notices an instruction with this place has: of a trap, or of a target.

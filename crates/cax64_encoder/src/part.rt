@@ -21,8 +21,9 @@ pub enum Part {
     /// A register that isn't in the bytes: whether it is as it has to be.
     Fixed(bool),
     /// A register or an address in the rest of the tail. It's one part, since which of them stands there is known only at run
-    /// time, and asked once.
-    Place(NumberedPlace),
+    /// time, and asked once. Its mark is 16 where more has to hold than that the numbers are below 16, and else 0: a late
+    /// offset has to fit, and the stack pointer can't be an index.
+    Place(NumberedPlace, u8),
     /// The bytes of an immediate as one word.
     Imm(u32),
 }
@@ -54,18 +55,21 @@ impl Part {
             Operand::ReadWriteXmm(reg) => Part::Register(Number::marked_value_of(*reg)),
             Operand::WriteXmm(reg) => Part::Register(Number::marked_value_of(*reg)),
             Operand::ReadGprMem(GprMem::Gpr(reg), _) => {
-                Part::Place(nothing.with_number(Number::marked_value_of(*reg)))
+                Part::Place(nothing.with_number(Number::marked_value_of(*reg)), 0)
             }
             Operand::ReadWriteGprMem(GprMem::Gpr(reg), _) => {
-                Part::Place(nothing.with_number(Number::marked_value_of(*reg)))
+                Part::Place(nothing.with_number(Number::marked_value_of(*reg)), 0)
             }
             Operand::ReadXmmMem(XmmMem::Xmm(reg)) => {
-                Part::Place(nothing.with_number(Number::marked_value_of(*reg)))
+                Part::Place(nothing.with_number(Number::marked_value_of(*reg)), 0)
             }
             Operand::ReadAmode(amode)
             | Operand::ReadGprMem(GprMem::Mem(amode), _)
             | Operand::ReadWriteGprMem(GprMem::Mem(amode), _)
-            | Operand::ReadXmmMem(XmmMem::Mem(amode)) => { Part::Place(nothing.marked(amode)) }
+            | Operand::ReadXmmMem(XmmMem::Mem(amode)) => {
+                let (place, mark) = nothing.marked(amode);
+                Part::Place(place, mark)
+            }
             Operand::Imm(imm) => Part::Imm(word_of(imm.bytes())),
         }
     }

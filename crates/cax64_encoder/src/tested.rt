@@ -1,12 +1,13 @@
 //! Test and encoding as one task, which is handed an instruction once.
 
-ghost use Rattle.std.specs.Prelude.{◌≡◌, false, IsTrue};
+ghost use Rattle.std.specs.Prelude.{◌≡◌, ◌&&◌, false, nat_lt, IsTrue};
 ghost use Rattle.cax64_encoder.specs.Task.{Answered, Asked};
-ghost use Rattle.cax64_encoder.specs.Tested.{ByOutcome, can_be_put, none_tested, nop_tested, with_part, with_tested};
+ghost use Rattle.cax64_encoder.specs.Tested.{ByOutcome, can_be_put, index_met, late_fits, none_tested, nop_tested, with_part, with_tested};
 ghost use Rattle.cax64_encoder.specs.declared.tested.Outcome.TheVariants.{NotEncodable};
 
 use crate::content::Content;
 use crate::part::Part;
+use cax64_address::offset::AmodeOffsetPlusKnownOffset;
 use cax64_machine_code::row::Row;
 use cax64_operand::{FromOperands, Nop, Operand, RegisterFamily, Task};
 use cax64_register::Registers;
@@ -16,17 +17,22 @@ use cax64_sink::{CodeSink, SinkError};
 /// so each register is asked once for both.
 #[derive(Clone, Copy)]
 pub struct Tested {
-    /// Whether each register is as it has to be.
+    /// Whether each register is as it has to be, but for what is marked.
     pub met: bool,
+    /// 16 where a late offset has to fit, or the stack pointer stands as an index, and else 0: a number, so that it's asked
+    /// together with the others.
+    pub mark: u8,
     pub content: Content,
 }
 
-/// What comes of an instruction that is tested and put. It holds one thing at most, as what `encode` answers does: an option
-/// of that would hold two.
+/// What comes of an instruction that is tested and put. It holds nothing, so that it's one number.
 #[derive(Clone, Copy)]
 pub enum Outcome {
     Put,
-    Refused(SinkError),
+    /// The sink refused it: a growth was refused.
+    NoMemory,
+    /// The sink refused it: it's full.
+    Full,
     /// It can't be encoded for the sink, which is as before.
     NotEncodable,
 }
@@ -44,6 +50,7 @@ impl<R: Registers> FromOperands<R> for Tested {
     {
         Tested {
             met: true,
+            mark: 0,
             content: <Content as FromOperands<R>>::none(),
         }
     }
@@ -62,6 +69,7 @@ impl<R: Registers> FromOperands<R> for Tested {
     {
         Tested {
             met: true,
+            mark: 0,
             content: <Content as FromOperands<R>>::nop(nop),
         }
     }
@@ -84,11 +92,13 @@ impl Tested {
                 (first < 16) & is_second_met
             }
             Part::Fixed(is_met) => is_met,
-            Part::Place(place) => {
+            Part::Place(place, mark) => {
                 let base = place.base;
                 let index = place.index;
+                let is_met = self.index_met();
                 self.content.form.place = place;
-                (base < 16) & (index < 16)
+                self.mark = mark;
+                (base < 16) & (index < 16) & is_met
             }
             Part::Imm(word) => {
                 self.content.form.imm = word;
@@ -98,13 +108,47 @@ impl Tested {
         self.met = is_met & self.met;
     }
 
-    /// Whether the operands can be encoded for this sink.
+    /// Whether an index, if one stands, isn't the stack pointer's.
+    #[inline(always)]
+    fn index_met(&self) -> bool
+        ensures { result ≡ index_met self.now }
+    {
+        self.content.form.place.displacement.offset.is_some() | (self.mark < 16)
+    }
+
+    /// Whether the operands can be encoded for this sink. What is marked is asked together with the base.
     #[inline(always)]
     fn can_be_put<S: CodeSink>(&self, sink: &S) -> bool
         ensures { result ≡ can_be_put (S.state sink.now).offsets self.now }
     {
-        self.met & self.content.form.place.displacement.fits(sink)
+        let place = &self.content.form.place;
+        let mark = if late_fits(place.displacement, sink) {
+            0
+        } else {
+            self.mark
+        };
+        self.met & are_below_16(place.base, mark)
     }
+}
+
+/// Whether there is a late offset, and its sum fits.
+#[inline(always)]
+fn late_fits<S: CodeSink>(displacement: AmodeOffsetPlusKnownOffset, sink: &S) -> bool
+    ensures { result ≡ late_fits (S.state sink.now).offsets displacement }
+{
+    match displacement.offset {
+        Some(_) => displacement.fits(sink),
+        None => false,
+    }
+}
+
+/// Whether both numbers are below 16, which is asked once.
+#[tactic(auto, using(crate::proofs::Below::or_below))]
+#[inline(always)]
+fn are_below_16(a: u8, b: u8) -> bool
+    ensures { result ≡ (nat_lt a 16 && nat_lt b 16) }
+{
+    (a | b) < 16
 }
 
 /// What comes of an instruction that can't be encoded. It is marked as seldom run, so that the compiler takes what puts the
@@ -134,7 +178,8 @@ impl<R: Registers, S: CodeSink> Task<R, S> for Tested {
         }
         match <Content as Task<R, S>>::take(self.content, row, sink) {
             Ok(()) => Outcome::Put,
-            Err(error) => Outcome::Refused(error),
+            Err(SinkError::NoMemory) => Outcome::NoMemory,
+            Err(SinkError::Full) => Outcome::Full,
         }
     }
 }

@@ -5,7 +5,7 @@ ghost use Rattle.cranelift_assembler_x64.specs.Instruction.{can_encode_in};
 ghost use Rattle.cranelift_assembler_x64.specs.Text.{nameable};
 ghost use Rattle.cranelift_assembler_x64.specs.Vec.{vec_state};
 
-use cranelift_assembler_x64::reader::read_inst;
+use cranelift_assembler_x64::reader::{Reading, read_inst};
 use cranelift_assembler_x64::{
     Instruction, InstructionText, all_encodable, encode_each, encode_each_checked,
 };
@@ -27,6 +27,7 @@ pub(crate) enum Call {
     EncodedLen,
     ToString,
     ReadInst,
+    ReadInstKept,
 }
 
 /// What is timed of each type of instruction, in an order in which there is code before it is measured.
@@ -51,6 +52,7 @@ impl Call {
             Call::EncodedLen => "encoded_len",
             Call::ToString => "to_string",
             Call::ReadInst => "read_inst",
+            Call::ReadInstKept => "read_inst_kept",
         }
     }
 }
@@ -229,6 +231,35 @@ fn time_read_inst(rt: &HostRuntime, code: &[u8], count: usize) -> io::Result<Dur
     time_if(rt, start, is_done)
 }
 
+/// Reads the first instruction, and leaves all that is read with the caller: inlined, it would leave what the caller uses.
+#[inline(never)]
+fn read_to(code: &[u8], kept: &mut Option<Reading>) {
+    *kept = read_inst(code);
+}
+
+/// Whether the code is that of so many instructions, each of whose readings is kept until the next one.
+fn reads_as_kept(code: &[u8], count: usize) -> bool {
+    let mut rest = code;
+    let mut kept = None;
+    for _ in 0..count {
+        read_to(rest, &mut kept);
+        let Some(reading) = kept else {
+            return false;
+        };
+        let Some(behind) = rest.get(usize::from(reading.length)..) else {
+            return false;
+        };
+        rest = behind;
+    }
+    rest.is_empty()
+}
+
+fn time_read_inst_kept(rt: &HostRuntime, code: &[u8], count: usize) -> io::Result<Duration> {
+    let start = Instant::now(rt)?;
+    let is_done = reads_as_kept(code, count);
+    time_if(rt, start, is_done)
+}
+
 /// The time of one round. `code` is what the last call that encodes made.
 fn time_of<I: Instruction + InstructionText>(
     rt: &HostRuntime,
@@ -245,6 +276,7 @@ fn time_of<I: Instruction + InstructionText>(
         Call::EncodedLen => time_encoded_len(rt, insts, &*code),
         Call::ToString => time_to_string(rt, insts),
         Call::ReadInst => time_read_inst(rt, code.as_slice(), insts.len()),
+        Call::ReadInstKept => time_read_inst_kept(rt, code.as_slice(), insts.len()),
     }
 }
 

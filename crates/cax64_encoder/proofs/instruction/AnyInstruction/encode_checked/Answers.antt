@@ -1,5 +1,6 @@
 use Rattle.std.proofs.Common.{Ok, Err}
 use Rattle.cax64_operand.specs.Family.{family_of, numbering}
+use Rattle.cax64_sink.specs.declared.SinkError.TheVariants as sink_error
 use Rattle.cax64_encoder.proofs.Passed.{can_none, has_fault, tested_asked, tested_put}
 use Rattle.cax64_encoder.proofs.Relatives.{meant_relative}
 use Rattle.cax64_encoder.proofs.instruction.AnyInstruction.encode_checked.Goals as goal
@@ -43,14 +44,38 @@ returns-in-Put g c =
       relative = meant_relative _ _ _ _ c.hand_to.ensures.signature;
     }
 
-pub returns-in-Refused : goal.returns-in-Refused
-returns-in-Refused g c =
+pub returns-in-NoMemory : goal.returns-in-NoMemory
+returns-in-NoMemory g c =
     let f = family_of (numbering g.I.Family.ReadGpr.AsReg.settled g.I.Family.ReadGpr.AsReg.enc) (numbering g.I.Family.ReadWriteGpr.AsReg.settled g.I.Family.ReadWriteGpr.AsReg.enc) (numbering g.I.Family.WriteGpr.AsReg.settled g.I.Family.WriteGpr.AsReg.enc) (numbering g.I.Family.ReadXmm.AsReg.settled g.I.Family.ReadXmm.AsReg.enc) (numbering g.I.Family.ReadWriteXmm.AsReg.settled g.I.Family.ReadWriteXmm.AsReg.enc) (numbering g.I.Family.WriteXmm.AsReg.settled g.I.Family.WriteXmm.AsReg.enc) g.I.Family.WriteGpr.PartialEq.eq in
     let row = g.I.RowAndOperands.row_of c.args.self.now in
     let o = g.I.RowAndOperands.operands_of c.args.self.now in
     let s = g.S.CodeSink.state c.args.sink.now in
-    let a = c.in-Refused.ensures.answers in
-    let put = tested_put f row o s (g.S.CodeSink.state c.hand_to.new.to) (Err c.in-Refused.error) c.hand_to.ensures.signature a.0 a.1.0 in
+    let a = c.in-NoMemory.ensures.answers in
+    let put = tested_put f row o s (g.S.CodeSink.state c.hand_to.new.to) (Err sink_error.NoMemory) c.hand_to.ensures.signature a.0 a.1.0 in
+    record {
+      fault = can_none f row o s.offsets a.0;
+      unchanged = tt;
+      adds = tt;
+      leaves = put.leaves;
+      front = put.front;
+      error = put.error;
+      keeps = put.keeps;
+      beside = a.1.1;
+      enough = λ bytes notices. cc (put.enough bytes notices);
+      room = λ bytes notices. cc (put.room bytes notices);
+      byte_room = put.byte_room;
+      notice_room = put.notice_room;
+      relative = tt;
+    }
+
+pub returns-in-Full : goal.returns-in-Full
+returns-in-Full g c =
+    let f = family_of (numbering g.I.Family.ReadGpr.AsReg.settled g.I.Family.ReadGpr.AsReg.enc) (numbering g.I.Family.ReadWriteGpr.AsReg.settled g.I.Family.ReadWriteGpr.AsReg.enc) (numbering g.I.Family.WriteGpr.AsReg.settled g.I.Family.WriteGpr.AsReg.enc) (numbering g.I.Family.ReadXmm.AsReg.settled g.I.Family.ReadXmm.AsReg.enc) (numbering g.I.Family.ReadWriteXmm.AsReg.settled g.I.Family.ReadWriteXmm.AsReg.enc) (numbering g.I.Family.WriteXmm.AsReg.settled g.I.Family.WriteXmm.AsReg.enc) g.I.Family.WriteGpr.PartialEq.eq in
+    let row = g.I.RowAndOperands.row_of c.args.self.now in
+    let o = g.I.RowAndOperands.operands_of c.args.self.now in
+    let s = g.S.CodeSink.state c.args.sink.now in
+    let a = c.in-Full.ensures.answers in
+    let put = tested_put f row o s (g.S.CodeSink.state c.hand_to.new.to) (Err sink_error.Full) c.hand_to.ensures.signature a.0 a.1.0 in
     record {
       fault = can_none f row o s.offsets a.0;
       unchanged = tt;
