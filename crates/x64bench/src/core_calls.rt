@@ -7,7 +7,7 @@ use std::io;
 use std::time::{Duration, Instant};
 use x64_core::{Core, CorePlace};
 use x64_core_data::{core_of_data, data_of_core};
-use x64_core_reader::read_core;
+use x64_core_reader::{CoreReading, read_core};
 use x64_core_text::CoreText;
 
 /// What is timed of the core.
@@ -130,11 +130,19 @@ fn put_all_checked(insts: &[Core], code: &mut Vec<u8>) -> bool {
     true
 }
 
-/// Whether the code is that of so many instructions.
+/// Reads the first instruction, and leaves all that is read with the caller.
+#[inline(never)]
+fn read_to(code: &[u8], kept: &mut Option<CoreReading>) {
+    *kept = read_core(code);
+}
+
+/// Whether the code is that of so many instructions. Each reading is kept until the next one.
 fn reads_as(code: &[u8], count: usize) -> bool {
     let mut rest = code;
+    let mut kept = None;
     for _ in 0..count {
-        let Some(reading) = read_core(rest) else {
+        read_to(rest, &mut kept);
+        let Some(reading) = kept else {
             return false;
         };
         let Some(behind) = rest.get(usize::from(reading.length)..) else {

@@ -113,10 +113,8 @@ fn time_list<I: RowAndOperands<Family = Numbers>>(
         return refuse(rt, Refusal { number, fault });
     }
     time_calls(rt, "", insts, &mut code)?;
-    for call in [Call::ReadInst, Call::ReadInstKept] {
-        let best = best_time(rt, call, insts, &mut code)?;
-        print_time(rt, "", call.name(), best, count)?;
-    }
+    let best = best_time(rt, Call::ReadInst, insts, &mut code)?;
+    print_time(rt, "", Call::ReadInst.name(), best, count)?;
     let mut data = Vec::new(rt.alloc());
     let best = best_time_of_taking(rt, insts, &mut data)?;
     print_time(rt, "data_", "of", best, count)?;

@@ -27,7 +27,6 @@ pub(crate) enum Call {
     EncodedLen,
     ToString,
     ReadInst,
-    ReadInstKept,
 }
 
 /// What is timed of each type of instruction, in an order in which there is code before it is measured.
@@ -52,7 +51,6 @@ impl Call {
             Call::EncodedLen => "encoded_len",
             Call::ToString => "to_string",
             Call::ReadInst => "read_inst",
-            Call::ReadInstKept => "read_inst_kept",
         }
     }
 }
@@ -210,35 +208,15 @@ fn time_to_string<I: InstructionText>(rt: &HostRuntime, insts: &[I]) -> io::Resu
     time_if(rt, start, length != 0)
 }
 
-/// Whether the code is that of so many instructions.
-fn reads_as(code: &[u8], count: usize) -> bool {
-    let mut rest = code;
-    for _ in 0..count {
-        let Some(reading) = read_inst(rest) else {
-            return false;
-        };
-        let Some(behind) = rest.get(usize::from(reading.length)..) else {
-            return false;
-        };
-        rest = behind;
-    }
-    rest.is_empty()
-}
-
-fn time_read_inst(rt: &HostRuntime, code: &[u8], count: usize) -> io::Result<Duration> {
-    let start = Instant::now(rt)?;
-    let is_done = reads_as(code, count);
-    time_if(rt, start, is_done)
-}
-
-/// Reads the first instruction, and leaves all that is read with the caller: inlined, it would leave what the caller uses.
+/// Reads the first instruction, and leaves all that is read with the caller. Inlined, it would read what the caller uses, and
+/// no more.
 #[inline(never)]
 fn read_to(code: &[u8], kept: &mut Option<Reading>) {
     *kept = read_inst(code);
 }
 
-/// Whether the code is that of so many instructions, each of whose readings is kept until the next one.
-fn reads_as_kept(code: &[u8], count: usize) -> bool {
+/// Whether the code is that of so many instructions. Each reading is kept until the next one.
+fn reads_as(code: &[u8], count: usize) -> bool {
     let mut rest = code;
     let mut kept = None;
     for _ in 0..count {
@@ -254,9 +232,9 @@ fn reads_as_kept(code: &[u8], count: usize) -> bool {
     rest.is_empty()
 }
 
-fn time_read_inst_kept(rt: &HostRuntime, code: &[u8], count: usize) -> io::Result<Duration> {
+fn time_read_inst(rt: &HostRuntime, code: &[u8], count: usize) -> io::Result<Duration> {
     let start = Instant::now(rt)?;
-    let is_done = reads_as_kept(code, count);
+    let is_done = reads_as(code, count);
     time_if(rt, start, is_done)
 }
 
@@ -276,7 +254,6 @@ fn time_of<I: Instruction + InstructionText>(
         Call::EncodedLen => time_encoded_len(rt, insts, &*code),
         Call::ToString => time_to_string(rt, insts),
         Call::ReadInst => time_read_inst(rt, code.as_slice(), insts.len()),
-        Call::ReadInstKept => time_read_inst_kept(rt, code.as_slice(), insts.len()),
     }
 }
 
