@@ -124,14 +124,16 @@ fn time_is_encodable_and_encode<I: Instruction>(
     time_if(rt, start, is_done)
 }
 
-/// Encodes each instruction by the call that tests it first.
-fn encode_checked<I: Instruction>(insts: &[I], code: &mut Vec<u8>) -> bool {
-    for inst in insts {
+/// Encodes each instruction by the call that tests it first. How many are put is counted, and the loop isn't inlined, as with
+/// the calls for a list.
+#[inline(never)]
+fn encode_checked<I: Instruction>(insts: &[I], code: &mut Vec<u8>) -> usize {
+    for (whole, inst) in insts.iter().enumerate() {
         if inst.encode_checked(code).is_err() {
-            return false;
+            return whole;
         }
     }
-    true
+    insts.len()
 }
 
 fn time_encode_checked<I: Instruction>(
@@ -141,7 +143,7 @@ fn time_encode_checked<I: Instruction>(
 ) -> io::Result<Duration> {
     code.clear();
     let start = Instant::now(rt)?;
-    let is_done = encode_checked(insts, code);
+    let is_done = encode_checked(insts, code) == insts.len();
     time_if(rt, start, is_done)
 }
 
