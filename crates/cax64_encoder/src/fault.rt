@@ -1,6 +1,6 @@
 //! Why an instruction can't be encoded.
 
-ghost use Rattle.std.specs.Prelude.{◌≡◌, [], ◌∷◌};
+ghost use Rattle.std.specs.Prelude.{◌≡◌, IsSome, Some, [], ◌∷◌};
 ghost use Rattle.cax64_encoder.specs.Fault.{is_met, fault_of, first_unmet, sum_fault, late_fault, first_fault};
 ghost use Rattle.cax64_encoder.specs.Meant.{place_in};
 ghost use Rattle.cax64_encoder.specs.Place.{memory_in};
@@ -240,4 +240,17 @@ pub(crate) fn listed_fault<I: RowAndOperands, S: CodeSink>(inst: &I, sink: &S) -
         result ≡ first_fault (S.state sink.now).offsets (visits_of ⟦<I::Family as RegisterFamily>⟧.family.read_gpr roles) (memory_in (place_in roles)) }
 {
     first_fault(&operands_of(inst), sink)
+}
+
+/// The fault of an instruction that has one. Two numbers are answered, where an `Option` would be a place in memory, which
+/// who tests and puts would clear for each instruction, with a fault or without.
+#[cold]
+#[inline(never)]
+pub(crate) fn fault_of_unencodable<I: RowAndOperands, S: CodeSink>(inst: &I, sink: &S) -> Fault
+    requires { let roles = roles_of ⟦<I::Family as RegisterFamily>⟧.family (list_of (I.operands_of inst.now)) in
+        IsSome (first_fault (S.state sink.now).offsets (visits_of ⟦<I::Family as RegisterFamily>⟧.family.read_gpr roles) (memory_in (place_in roles))) }
+    ensures { let roles = roles_of ⟦<I::Family as RegisterFamily>⟧.family (list_of (I.operands_of inst.now)) in
+        Some result ≡ first_fault (S.state sink.now).offsets (visits_of ⟦<I::Family as RegisterFamily>⟧.family.read_gpr roles) (memory_in (place_in roles)) }
+{
+    first_fault(&operands_of(inst), sink).unwrap()
 }

@@ -18,7 +18,7 @@ ghost use Rattle.cax64_sink.specs.Room.{HasRoom, FallsBy};
 use crate::checked::Checked;
 use crate::content::Content;
 use crate::error::EncodeError;
-use crate::fault::{Fault, listed_fault};
+use crate::fault::{Fault, fault_of_unencodable, listed_fault};
 use crate::room::{Counting, Measuring, RoomNeeded};
 use crate::tested::{Outcome, Tested};
 use cax64_machine_code::row::Row;
@@ -188,9 +188,7 @@ impl<I: RowAndOperands> Instruction for I {
             Outcome::Put => Ok(()),
             Outcome::NoMemory => Err(EncodeError::Sink(SinkError::NoMemory)),
             Outcome::Full => Err(EncodeError::Sink(SinkError::Full)),
-            Outcome::NotEncodable => {
-                Err(EncodeError::Fault(listed_fault(self, &*sink).unwrap()))
-            }
+            Outcome::NotEncodable => Err(EncodeError::Fault(fault_of_unencodable(self, &*sink))),
         }
     }
 }

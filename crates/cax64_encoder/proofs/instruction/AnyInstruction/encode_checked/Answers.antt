@@ -1,4 +1,4 @@
-use Rattle.std.proofs.Common.{Ok, Err}
+use Rattle.std.proofs.Common.{Ok, Err, refl}
 use Rattle.cax64_operand.specs.Family.{family_of, numbering}
 use Rattle.cax64_sink.specs.declared.SinkError.TheVariants as sink_error
 use Rattle.cax64_encoder.proofs.Passed.{can_none, has_fault, tested_asked, tested_put}
@@ -12,13 +12,13 @@ hand_to-requires g c signature can =
     let o = g.I.RowAndOperands.operands_of c.args.self.now in
     tested_asked f row o (g.S.CodeSink.state c.args.sink.now).offsets signature can
 
-pub unwrap-requires : goal.unwrap-requires
-unwrap-requires g c =
+pub fault_of_unencodable-requires : goal.fault_of_unencodable-requires
+fault_of_unencodable-requires g c =
     let f = family_of (numbering g.I.Family.ReadGpr.AsReg.settled g.I.Family.ReadGpr.AsReg.enc) (numbering g.I.Family.ReadWriteGpr.AsReg.settled g.I.Family.ReadWriteGpr.AsReg.enc) (numbering g.I.Family.WriteGpr.AsReg.settled g.I.Family.WriteGpr.AsReg.enc) (numbering g.I.Family.ReadXmm.AsReg.settled g.I.Family.ReadXmm.AsReg.enc) (numbering g.I.Family.ReadWriteXmm.AsReg.settled g.I.Family.ReadWriteXmm.AsReg.enc) (numbering g.I.Family.WriteXmm.AsReg.settled g.I.Family.WriteXmm.AsReg.enc) g.I.Family.WriteGpr.PartialEq.eq in
     let row = g.I.RowAndOperands.row_of c.args.self.now in
     let o = g.I.RowAndOperands.operands_of c.args.self.now in
     let a = c.in-NotEncodable.ensures.answers in
-    has_fault f row o (g.S.CodeSink.state c.hand_to.new.to).offsets c.listed_fault.result c.listed_fault.ensures (rw a.1 a.0)
+    has_fault f row o (g.S.CodeSink.state c.hand_to.new.to).offsets _ refl (rw a.1 a.0)
 
 pub returns-in-Put : goal.returns-in-Put
 returns-in-Put g c =
