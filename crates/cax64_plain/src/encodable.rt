@@ -291,7 +291,7 @@ impl HqInst {
         ensures is { plain (core_view result) ≡ self.now }
         ensures encodable { IsTrue (is_encodable (λ _. None) (core_view result)) }
     {
-        let op = Op::from_number(self.line).unwrap();
+        let op = Op::of_number(self.line);
         let kind = kind_of(self.place).unwrap();
         let word = imm_part(op.shape().imm, self.imm);
         let place = self.settled_place().whole_numbers(kind);

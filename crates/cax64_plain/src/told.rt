@@ -79,18 +79,18 @@ impl HqUse {
         ensures is { result ≡ told_at (place_of inst.now) behind }
         ensures near { result.at ≤ 255 }
     {
-        if inst.place >= HQ_PLACE_LABEL {
-            HqUse {
-                at: u32::from(behind),
-                kind: u32::from(inst.place) - 2,
-                number: inst.target,
-            }
-        } else {
-            HqUse {
-                at: 0,
-                kind: u32::from(inst.trap != 0),
-                number: u32::from(inst.trap),
-            }
+        // Both are read first, so that nothing is chosen by a branch, which is often guessed wrong.
+        let target = inst.target;
+        let trap = u32::from(inst.trap);
+        let is_target = inst.place >= HQ_PLACE_LABEL;
+        HqUse {
+            at: if is_target { u32::from(behind) } else { 0 },
+            kind: if is_target {
+                u32::from(inst.place) - 2
+            } else {
+                u32::from(trap != 0)
+            },
+            number: if is_target { target } else { trap },
         }
     }
 }

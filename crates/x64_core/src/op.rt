@@ -32,6 +32,18 @@ impl Op {
         }
     }
 
+    /// The line of this number.
+    ///
+    /// It has to be below [`COUNT`], as [`from_number`](Self::from_number) tests. Where it isn't, a build that wasn't proved may make
+    /// a line that there isn't, or abort.
+    #[inline(always)]
+    pub fn of_number(number: u16) -> Op
+        requires { number < COUNT }
+        ensures { result.number ≡ number }
+    {
+        Op { number }
+    }
+
     /// Its number, below [`COUNT`].
     pub fn number(self) -> u16
         ensures is { result ≡ self.number }
