@@ -2,25 +2,16 @@
  * encodes it, and reads it, each time at the end of a page behind which no page is, and compares with the wanted bytes. Tells how
  * many are as wanted; the status is 0 where all are. */
 #define _GNU_SOURCE
+#include "guard.h"
 #include "huqmeris.h"
 #include <stdio.h>
 #include <stdlib.h>
 #include <string.h>
-#include <sys/mman.h>
-#include <unistd.h>
 
 static uint8_t *guard; /* the first byte that can't be touched */
 
 /* So many bytes right before it, filled with 0xA5. */
-static uint8_t *before(size_t n) { return memset(guard - n, 0xA5, n); }
-
-static int is_filled(const uint8_t *p, size_t n)
-{
-    for (size_t i = 0; i < n; i++)
-        if (p[i] != 0xA5)
-            return 0;
-    return 1;
-}
+static uint8_t *before(size_t n) { return filled_before(guard, n); }
 
 static int place_of(char *text, hq_place *out)
 {
@@ -179,11 +170,9 @@ int main(int argc, char **argv)
     FILE *file = argc == 2 ? fopen(argv[1], "r") : NULL;
     char text[512];
     unsigned number = 0, lines = 0, equal = 0;
-    long page = sysconf(_SC_PAGESIZE);
-    uint8_t *at = mmap(NULL, 2 * (size_t)page, PROT_READ | PROT_WRITE, MAP_PRIVATE | MAP_ANONYMOUS, -1, 0);
-    if (!file || at == MAP_FAILED || mprotect(at + page, (size_t)page, PROT_NONE) || hq_version() != HQ_VERSION)
+    guard = guarded(1);
+    if (!file || !guard || hq_version() != HQ_VERSION)
         return 2;
-    guard = at + page;
     if (!is_patched() || !tells())
         return 3;
     while (fgets(text, sizeof text, file)) {

@@ -1,50 +1,11 @@
 /* Three functions of a program's own in the place of those of heap.c: each growth is refused in turn, and then each call answers
  * HQ_NO_MEMORY, what it could write is as before but for what it tells of items, and all memory is given back. The status is 0 where
  * that is so. */
+#include "filled.h"
 #include "huqmeris.h"
+#include "own_heap.h"
 #include <stdio.h>
-#include <stdlib.h>
 #include <string.h>
-
-typedef struct {
-    size_t is_some;
-    void *at;
-} rattle_block;
-
-rattle_block rattle_alloc(size_t size, size_t align);
-rattle_block rattle_realloc(void *old, size_t old_size, size_t size, size_t align);
-void rattle_dealloc(void *at);
-
-static size_t asked, refused_at, held; /* how often memory was asked for, which of these is refused, how many blocks there are */
-static char nothing;
-
-static rattle_block block_of(void *at)
-{
-    rattle_block block = {at != NULL, at ? at : &nothing};
-    return block;
-}
-
-rattle_block rattle_alloc(size_t size, size_t align)
-{
-    if (++asked == refused_at)
-        return block_of(NULL);
-    held++;
-    return block_of(malloc(size ? size : align));
-}
-
-rattle_block rattle_realloc(void *old, size_t old_size, size_t size, size_t align)
-{
-    (void)old_size;
-    if (++asked == refused_at)
-        return block_of(NULL);
-    return block_of(realloc(old, size ? size : align));
-}
-
-void rattle_dealloc(void *at)
-{
-    held--;
-    free(at);
-}
 
 enum { LABELS = 40, CONSTANTS = 40, MOST = 3 * LABELS + 3 * CONSTANTS + 2, ROOM = 4096 };
 
@@ -65,14 +26,6 @@ static int add_constants(hq_item *items, size_t *count)
         items[(*count)++] = hq_item_bytes(bytes, sizeof bytes);
     }
     items[(*count)++] = hq_item_at(HQ_ITEM_ALIGN, 6);
-    return 1;
-}
-
-static int is_filled(const void *what, size_t n)
-{
-    for (size_t i = 0; i < n; i++)
-        if (((const uint8_t *)what)[i] != 0xA5)
-            return 0;
     return 1;
 }
 

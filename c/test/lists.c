@@ -3,12 +3,11 @@
  * bytes; each instruction's text with the wanted one; and lists with labels, jumps, data and traps. The status is 0 where all is as
  * wanted. */
 #define _GNU_SOURCE
+#include "guard.h"
 #include "huqmeris_names.h"
 #include <stdio.h>
 #include <stdlib.h>
 #include <string.h>
-#include <sys/mman.h>
-#include <unistd.h>
 
 enum { ROOM = 1 << 18, MOST = 9000 };
 
@@ -20,18 +19,10 @@ static uint8_t want[ROOM];
 static size_t starts[MOST]; /* where each case begins in it */
 static size_t count, size;
 
-static uint8_t *before(size_t n) { return memset(guard - n, 0xA5, n); }
+static uint8_t *before(size_t n) { return filled_before(guard, n); }
 
 /* So many places right before what can't be touched; null where it's none. */
-static hq_use *uses_before(size_t n) { return n ? memset(uses_guard - n, 0xA5, n * sizeof(hq_use)) : NULL; }
-
-static int is_filled(const uint8_t *p, size_t n)
-{
-    for (size_t i = 0; i < n; i++)
-        if (p[i] != 0xA5)
-            return 0;
-    return 1;
-}
+static hq_use *uses_before(size_t n) { return n ? filled_before(uses_guard, n * sizeof(hq_use)) : NULL; }
 
 static int are_filled(const hq_use *uses, size_t n) { return is_filled((const uint8_t *)uses, n * sizeof *uses); }
 
@@ -500,19 +491,11 @@ static int are_named(void)
     return hq_extension(HQ_LINE_POPCNTQ_RM, text, 6, &len) == HQ_OK && len == 6 && memcmp(text, "popcnt", 6) == 0 && hq_extension(HQ_LINE_ADDQ_RM, NULL, 0, &len) == HQ_OK && len == 0;
 }
 
-/* The end of so much room, where a page begins that can't be touched; null where there is none. */
-static uint8_t *guarded(void)
-{
-    size_t page = (size_t)sysconf(_SC_PAGESIZE);
-    uint8_t *at = mmap(NULL, ROOM + page, PROT_READ | PROT_WRITE, MAP_PRIVATE | MAP_ANONYMOUS, -1, 0);
-    return at == MAP_FAILED || mprotect(at + ROOM, page, PROT_NONE) ? NULL : at + ROOM;
-}
-
 int main(int argc, char **argv)
 {
     FILE *file = argc == 2 ? fopen(argv[1], "r") : NULL;
-    guard = guarded();
-    uses_guard = (hq_use *)(void *)guarded();
+    guard = guarded(ROOM);
+    uses_guard = (hq_use *)(void *)guarded(ROOM);
     if (!file || !guard || !uses_guard)
         return 2;
     if (!read_cases(file) || !are_encoded() || !are_assembled() || !are_all_told() || !are_told() || !are_linked() || !are_least() || !is_loaded()

@@ -1,22 +1,14 @@
 /* Hands the library structs of random integers, most of them near an instruction, and random bytes, and prints a number of all
  * answers: two archives that answer alike print the same. Tests besides that a refusal leaves all as it was, and that what is encoded
  * is read again as the same instruction. The status is 0 where that is so. */
-#include "huqmeris.h"
+#include "random.h"
 #include <inttypes.h>
 #include <stdio.h>
 #include <string.h>
 
 enum { ROUNDS = 400000 };
 
-static uint64_t state = 88172645463325252u, sum = 14695981039346656037u;
-
-static uint32_t next(void)
-{
-    state ^= state << 13;
-    state ^= state >> 7;
-    state ^= state << 17;
-    return (uint32_t)(state >> 32);
-}
+static uint64_t sum = 14695981039346656037u; /* of all answers */
 
 static void add(const void *what, size_t n)
 {

@@ -3,16 +3,15 @@
  * behind which no page is. The arguments are the paths of the three, in this order. Tells how many are as wanted; the status is 0
  * where all are. */
 #define _GNU_SOURCE
+#include "guard.h"
 #include "operands.h"
 #include <stdio.h>
 #include <stdlib.h>
 #include <string.h>
-#include <sys/mman.h>
-#include <unistd.h>
 
 static uint8_t *guard; /* the first byte that can't be touched */
 
-static uint8_t *before(size_t n) { return memset(guard - n, 0xA5, n); }
+static uint8_t *before(size_t n) { return filled_before(guard, n); }
 
 static size_t bytes_of(const char *hex, uint8_t *out)
 {
@@ -37,14 +36,6 @@ static int is_told(const char *text, const hq_use *told)
     if (has(text, "const:", &number))
         return told->kind == HQ_TOLD_CONSTANT && told->number == (uint32_t)number && told->at == (uint32_t)at;
     return told->kind == HQ_TOLD_PLACE && told->at == (uint32_t)at;
-}
-
-static int is_filled(const uint8_t *p, size_t n)
-{
-    for (size_t i = 0; i < n; i++)
-        if (p[i] != 0xA5)
-            return 0;
-    return 1;
 }
 
 /* NULL where an instruction is as wanted, or why not. Of three rows the port puts a prefix that nothing asks for: the second bytes of
@@ -177,10 +168,8 @@ static int run(const char *path, const char *(*outcome)(char **, int *), int col
 
 int main(int argc, char **argv)
 {
-    long page = sysconf(_SC_PAGESIZE);
-    uint8_t *at = mmap(NULL, 2 * (size_t)page, PROT_READ | PROT_WRITE, MAP_PRIVATE | MAP_ANONYMOUS, -1, 0);
-    if (argc != 4 || at == MAP_FAILED || mprotect(at + page, (size_t)page, PROT_NONE))
+    guard = guarded(1);
+    if (argc != 4 || !guard)
         return 2;
-    guard = at + page;
     return run(argv[1], instruction, 10) | run(argv[2], fault, 4) | run(argv[3], reading, 9);
 }
