@@ -21,6 +21,7 @@ HERE = Path(__file__).resolve().parent
 ROOT = HERE.parent
 NAME = "huqmeris_c"
 FOLDER = ROOT / "crates" / NAME
+OUT = HERE / "out"
 ROW = re.compile(r"^([\w-]+)(?: +staticlib)? *:([\w\s-]*)$")
 
 
@@ -29,52 +30,80 @@ def kit():
     return Path(found).resolve().parent.parent if found else None
 
 
-def below():
-    """The crates that this one stands on, each behind those that it stands on."""
+def used():
+    """Which crates each crate stands on."""
     rows = (ROW.match(line) for line in (ROOT / "crates.txt").read_text(encoding="utf-8").splitlines())
-    uses = {row[1]: row[2].split() for row in rows if row}
-    found = []
+    return {row[1]: row[2].split() for row in rows if row}
+
+
+def below(direct):
+    """These crates and those that they stand on, each behind those that it stands on."""
+    uses, found = used(), []
 
     def add(name):
-        for used in uses[name]:
-            if used not in found:
-                add(used)
-                found.append(used)
+        for lower in uses[name]:
+            add(lower)
+        if name not in found:
+            found.append(name)
 
-    add(NAME)
-    return uses[NAME], found
+    for name in direct:
+        add(name)
+    return found
 
 
 def library(name):
     return ROOT / "crates" / name / "out/rlib" / f"{name}.rlib"
 
 
-def words_for(at, direct, all_below):
-    """What `rt` gives to rattle for this crate."""
-    words = ["--crate-name", NAME, "src/lib.rt", "--extern", f"std={at}/rlibs/std.rlib", "-L", f"dependency={at}/rlibs"]
+def words_for(at, crate, direct):
+    """What `rt` gives to rattle for a static library over these crates."""
+    words = ["--crate-name", crate, "src/lib.rt", "--extern", f"std={at}/rlibs/std.rlib", "-L", f"dependency={at}/rlibs"]
     for name in direct:
         words += ["--extern", f"{name}={library(name)}"]
-    for name in all_below:
+    for name in below(direct):
         words += ["-L", f"dependency={library(name).parent}"]
-    words += ["--antt-project", f"{at}/rattle/logic/antt-project.json", "--links", f"{NAME}=", "--crate-type", "staticlib"]
-    return words
+    return [*words, "--antt-project", f"{at}/rattle/logic/antt-project.json", "--links", f"{crate}=", "--crate-type", "staticlib"]
 
 
-def run(at, verb, words):
-    ran = subprocess.run([at / "bin/rattle", verb, *words], cwd=FOLDER, stdout=subprocess.PIPE, stderr=subprocess.STDOUT, text=True, errors="replace", check=False)
+def run(at, verb, words, folder):
+    ran = subprocess.run([at / "bin/rattle", verb, *words], cwd=folder, stdout=subprocess.PIPE, stderr=subprocess.STDOUT, text=True, errors="replace", check=False)
     last = ran.stdout.strip().splitlines()[-1:] or [""]
-    print(f"build.py: {verb}: {last[0]}" if not ran.returncode else ran.stdout)
+    print(f"{Path(sys.argv[0]).name}: {verb}: {last[0]}" if not ran.returncode else ran.stdout)
     return ran.returncode
 
 
-def with_heap(at, archives, room):
+def build(crate, folder, direct, archives):
+    """Proves the static library in a folder over these crates, and compiles what was proved by each of some compilers."""
+    at, script = kit(), Path(sys.argv[0]).name
+    if not at:
+        print(f"{script}: there is no rt in PATH", file=sys.stderr)
+        return 2
+    lacking = [name for name in below(direct) if not library(name).exists()]
+    if lacking:
+        print(f"{script}: {lacking[0]} isn't built: run rt ci, or rt lib in crates/{NAME}", file=sys.stderr)
+        return 2
+    words = words_for(at, crate, direct)
+    with tempfile.TemporaryDirectory() as room:
+        checked = os.path.join(room, "checked")
+        if run(at, "check", [*words, "--logic-built", f"{at}/logic_built", "--jobs", "1", "-o", checked], folder):
+            return 1
+        for backend, archive in archives:
+            if run(at, "build", [*words, "--crate-checked", checked, "--toolchain", f"{at}/toolchain", "--backend", backend, "-o", archive], folder):
+                return 1
+    return 0
+
+
+def with_heap(archives):
     """Adds heap.c to archives, as a member of its own."""
-    heap = os.path.join(room, "heap.o")
-    compiler = os.environ.get("CC", "cc")
-    if subprocess.run([compiler, "-std=c99", "-O2", "-fPIC", "-c", HERE / "heap.c", "-o", heap], check=False).returncode:
-        return 1
-    words = [[f"{at}/toolchain/bin/llvm-ar", "rs", archive, heap] for archive in archives]
-    return max(subprocess.run(word, stdout=subprocess.DEVNULL, stderr=subprocess.DEVNULL, check=False).returncode for word in words)
+    compiler, status = os.environ.get("CC", "cc"), 0
+    with tempfile.TemporaryDirectory() as room:
+        heap = os.path.join(room, "heap.o")
+        if subprocess.run([compiler, "-std=c99", "-O2", "-fPIC", "-c", HERE / "heap.c", "-o", heap], check=False).returncode:
+            return 1
+        for archive in archives:
+            word = [f"{kit()}/toolchain/bin/llvm-ar", "rs", archive, heap]
+            status |= subprocess.run(word, stdout=subprocess.DEVNULL, stderr=subprocess.DEVNULL, check=False).returncode
+    return status
 
 
 def write_pc(out):
@@ -85,29 +114,15 @@ def write_pc(out):
 
 
 def main():
-    at = kit()
-    if not at:
-        print("build.py: there is no rt in PATH", file=sys.stderr)
-        return 2
-    direct, all_below = below()
-    lacking = [name for name in all_below if not library(name).exists()]
-    if lacking:
-        print(f"build.py: {lacking[0]} isn't built: run rt ci, or rt lib in crates/{NAME}", file=sys.stderr)
-        return 2
-    words = words_for(at, direct, all_below)
-    out = HERE / "out"
-    out.mkdir(exist_ok=True)
-    with tempfile.TemporaryDirectory() as room:
-        checked = os.path.join(room, "checked")
-        if run(at, "check", [*words, "--logic-built", f"{at}/logic_built", "--jobs", "1", "-o", checked]):
-            return 1
-        for backend, name in (("llvm", "libhuqmeris.a"), ("rattle", "libhuqmeris_rattle.a")):
-            if run(at, "build", [*words, "--crate-checked", checked, "--toolchain", f"{at}/toolchain", "--backend", backend, "-o", str(out / name)]):
-                return 1
-        if with_heap(at, [str(out / "libhuqmeris.a"), str(out / "libhuqmeris_rattle.a")], room):
-            print("build.py: heap.c isn't added", file=sys.stderr)
-            return 1
-    write_pc(out)
+    OUT.mkdir(exist_ok=True)
+    archives = [str(OUT / "libhuqmeris.a"), str(OUT / "libhuqmeris_rattle.a")]
+    status = build(NAME, FOLDER, used()[NAME], zip(("llvm", "rattle"), archives))
+    if status:
+        return status
+    if with_heap(archives):
+        print("build.py: heap.c isn't added", file=sys.stderr)
+        return 1
+    write_pc(OUT)
     return 0
 
 
