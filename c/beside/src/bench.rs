@@ -156,8 +156,8 @@ pub fn run(list: Vec<Entry>) -> Result<String, String> {
     for (number, (name, _)) in JOBS.iter().enumerate() {
         text += &format!("\n{name:22}");
         for order in [&random, &grouped] {
-            for kind in 0..2 {
-                text += &format!("{:7.1}{:7.2}", order[number][kind], order[number][kind] / order[0][kind]);
+            for (took, public) in order[number].iter().zip(&order[0]) {
+                text += &format!("{took:7.1}{:7.2}", took / public);
             }
         }
     }
