@@ -38,7 +38,10 @@ extern "C" {
 #define HQ_BAD_READING 8
 /* The sum isn't of 32 bits. */
 #define HQ_OUT_OF_RANGE 9
-/* A register isn't below 16. The detail is its place in the order reg, vvvv, base, index, from 0. */
+/*
+ * A register isn't below 16. The detail is its place, from 0, among those that the instruction has, in the order reg, vvvv, base,
+ * index.
+ */
 #define HQ_FAULT_REGISTER 16
 /* The index is the stack pointer. The detail is its place, as above. */
 #define HQ_FAULT_INDEX 17

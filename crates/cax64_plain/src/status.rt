@@ -37,7 +37,8 @@ pub const HQ_BAD_READING: i32 = 8;
 /// The sum isn't of 32 bits.
 pub const HQ_OUT_OF_RANGE: i32 = 9;
 
-/// A register isn't below 16. The detail is its place in the order reg, vvvv, base, index, from 0.
+/// A register isn't below 16. The detail is its place, from 0, among those that the instruction has, in the order reg, vvvv, base,
+/// index.
 pub const HQ_FAULT_REGISTER: i32 = 16;
 
 /// The index is the stack pointer. The detail is its place, as above.
