@@ -92,10 +92,15 @@ static double best(void (*run)(void))
     return least;
 }
 
-static int by_line(const void *one, const void *other)
+/* The instructions of each line one behind the other, in the order in which they stood. */
+static void group(void)
 {
-    const hq_inst *a = one, *b = other;
-    return a->line != b->line ? (a->line > b->line) - (a->line < b->line) : memcmp(a, b, sizeof *a);
+    size_t count = 0;
+    memcpy(scratch, insts, sizeof insts);
+    for (unsigned line = 0; line < HQ_LINE_COUNT; line++)
+        for (size_t i = 0; i < COUNT; i++)
+            if (scratch[i].line == line)
+                insts[count++] = scratch[i];
 }
 
 /* The order of a list, mixed. */
@@ -147,7 +152,7 @@ int main(int argc, char **argv)
         homes[i] = (uint8_t)i;
     for (int order = 0; order < 2; order++) {
         if (order)
-            qsort(insts, COUNT, sizeof *insts, by_line);
+            group();
         else
             mix();
         memcpy(scratch, insts, sizeof insts);
