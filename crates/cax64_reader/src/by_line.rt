@@ -145,5 +145,5 @@ pub fn operands_by_line<'a>(line: &Line, front: &Front, bytes: &'a [u8]) -> Opti
     ensures range { IfSome result (λ f. in_range line.now.imm f.imm ≡ true) }
 {
     let rest = matched(line, front, bytes)?;
-    operands(*line, line, front, rest)
+    operands::<Line, true>(*line, line, front, rest)
 }

@@ -52,18 +52,26 @@ fn is_eight(field: &RegField) -> bool
     }
 }
 
-/// The register in the reg field, if the row has one. It's made before it's known whether the row has one, so that the
-/// compiler chooses without a branch.
+/// The register in the reg field, if the row has one. Where `CHOSEN`, it's made before it's known whether the row has one,
+/// so that the compiler chooses without a branch: that pays where a reading is put into memory, and not where a caller
+/// branches on it.
 #[inline(always)]
-fn register(field: &RegField, front: &Front, reg: u8) -> Option<RegView>
+fn register<const CHOSEN: bool>(field: &RegField, front: &Front, reg: u8) -> Option<RegView>
     requires { reg < 8 }
     ensures { result ≡ reg_view field.now (prefix_of front.now) reg }
 {
     let number = reg + 8 * u8::from(front.r);
-    let view = view(is_eight(field), front.has_rex, number);
+    if CHOSEN {
+        let view = view(is_eight(field), front.has_rex, number);
+        return match field {
+            RegField::Digit(_) => None,
+            RegField::Register8 | RegField::Register => Some(view),
+        };
+    }
     match field {
         RegField::Digit(_) => None,
-        RegField::Register8 | RegField::Register => Some(view),
+        RegField::Register8 => Some(view(true, front.has_rex, number)),
+        RegField::Register => Some(view(false, front.has_rex, number)),
     }
 }
 
@@ -168,7 +176,7 @@ fn bare_operands<'a, K: Copy>(
 
 /// The operands of a line with a tail of these fields.
 #[inline(always)]
-fn tail_operands<'a, K: Copy>(
+fn tail_operands<'a, K: Copy, const CHOSEN: bool>(
     key: K,
     line: &Line,
     reg: &RegField,
@@ -185,7 +193,7 @@ fn tail_operands<'a, K: Copy>(
     let (imm, rest) = imm(&line.imm, tail.rest)?;
     Some(Found {
         key,
-        reg: register(reg, front, tail.reg),
+        reg: register::<CHOSEN>(reg, front, tail.reg),
         vvvv: vvvv(&line.prefix, front),
         place: Some(place),
         imm,
@@ -196,7 +204,7 @@ fn tail_operands<'a, K: Copy>(
 
 /// The operands behind the opcode of a line, which is of whatever table and is named there by this.
 #[inline(always)]
-pub fn operands<'a, K: Copy>(
+pub fn operands<'a, K: Copy, const CHOSEN: bool>(
     key: K,
     line: &Line,
     front: &Front,
@@ -208,6 +216,8 @@ pub fn operands<'a, K: Copy>(
 {
     match &line.tail {
         TailField::NoTail => bare_operands(key, line, front, bytes),
-        TailField::Modrm(reg, field) => tail_operands(key, line, reg, field, front, bytes),
+        TailField::Modrm(reg, field) => tail_operands::<K, CHOSEN>(
+            key, line, reg, field, front, bytes,
+        ),
     }
 }

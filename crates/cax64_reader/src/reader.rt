@@ -18,7 +18,7 @@ fn find(bytes: &[u8]) -> Option<Found<'_, Row>>
 {
     let (front, rest) = read_front(bytes)?;
     let (row, rest) = row_for(front.numbers, rest)?;
-    operands(row, &line(row), &front, rest)
+    operands::<Row, false>(row, &line(row), &front, rest)
 }
 
 /// Reads the instruction at the front, of which all rows of the table are known; what follows it is not read.

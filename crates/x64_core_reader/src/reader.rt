@@ -77,7 +77,7 @@ fn find(bytes: &[u8]) -> Option<(Op, Found<'_, Line>)>
     let (front, behind) = read_front(bytes)?;
     let (op, rest) = line_behind(&front, behind)?;
     let line = line(op);
-    let found = operands(*line, line, &front, rest)?;
+    let found = operands::<Line, true>(*line, line, &front, rest)?;
     Some((op, found))
 }
 
