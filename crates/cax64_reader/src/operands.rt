@@ -52,9 +52,8 @@ fn is_eight(field: &RegField) -> bool
     }
 }
 
-/// The register in the reg field, if the row has one. Where `CHOSEN`, it's made before it's known whether the row has one,
-/// so that the compiler chooses without a branch: that pays where a reading is put into memory, and not where a caller
-/// branches on it.
+/// The register in the reg field, if the line has one. Where `CHOSEN`, it's made before it's known whether the line has one,
+/// so that the compiler chooses without a branch. Which of the two takes less time depends on the table and on the caller.
 #[inline(always)]
 fn register<const CHOSEN: bool>(field: &RegField, front: &Front, reg: u8) -> Option<RegView>
     requires { reg < 8 }
