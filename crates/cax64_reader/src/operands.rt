@@ -201,7 +201,8 @@ fn tail_operands<'a, K: Copy, const CHOSEN: bool>(
     })
 }
 
-/// The operands behind the opcode of a line, which is of whatever table and is named there by this.
+/// The operands behind the opcode of a line, which is of whatever table and is named there by this. What is answered doesn't
+/// depend on `CHOSEN`: it tells how the register is made.
 #[inline(always)]
 pub fn operands<'a, K: Copy, const CHOSEN: bool>(
     key: K,
