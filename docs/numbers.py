@@ -91,6 +91,30 @@ def core_cases():
     return int(re.search(r"(\d+) equal", (ROOT / "crates/core_vectors/stdout").read_text(encoding="utf-8"))[1])
 
 
+def near_text(name):
+    return (ROOT / "crates/core_vectors/data" / name).read_text(encoding="utf-8")
+
+
+def near_strings():
+    """How many strings near the core's lines are read as they have to be, all."""
+    return int(re.search(r"near: \d+ lines, (\d+) equal", (ROOT / "crates/core_vectors/stdout").read_text(encoding="utf-8"))[1])
+
+
+def near_least():
+    """The fewest that a line has."""
+    return min(text.count("\n") for text in near_text("near.tsv").rstrip("\n").split("\n#")[1:])
+
+
+def near_of(reason):
+    """The strings for which the file has a word, or the number of a line."""
+    return lambda: len(re.findall(rf"^{reason}\t", near_text("near.tsv"), re.M))
+
+
+def near_differing():
+    """The strings of which the disassemblers don't say the same."""
+    return sum(map(int, re.findall(r"^ *(\d+) [\w ]+: objdump", near_text("near.txt"), re.M)))
+
+
 def executed():
     """The cases of instructions, those of the core, and the readings that are no `none`."""
     text = (ROOT / "crates/vectors/data/reader.tsv").read_text(encoding="utf-8")
@@ -117,6 +141,18 @@ SENTENCES = (
     (rf"{NUMBER} cases from outside", all_cases),
     (rf"{NUMBER} cases are executed", executed),
     (rf"{NUMBER} cases of the core", core_cases),
+    (rf"{NUMBER} strings near (?:those|the core's lines)", near_strings),
+    (rf"at least {NUMBER} of each", near_least),
+    (rf"These are {NUMBER} strings\.", near_of(r"\d+")),
+    (rf"\| a segment prefix \| {NUMBER} \|", near_of("segment")),
+    (rf"\| 66, F2, F3 or F0 that changes nothing \| {NUMBER} \|", near_of("prefix")),
+    (rf"\| no instruction \| {NUMBER} \|", near_of("undefined")),
+    (rf"\| an address-size prefix \| {NUMBER} \|", near_of("address")),
+    (rf"\| REX before another prefix, or before a line that takes none \| {NUMBER} \|", near_of("rex")),
+    (rf"\| an instruction, or a form of one, that the core hasn't \| {NUMBER} \|", near_of("no line")),
+    (rf"\| a digit that processors take for the line's, as 6 for 4 in shifts \| {NUMBER} \|", near_of("digit")),
+    (rf"\| W or L of VEX that counts for nothing \| {NUMBER} \|", near_of("vex")),
+    (rf"Of {NUMBER} strings the three don't say the same", near_differing),
     (rf"all {NUMBER} (?:structs|kinds|variants|instructions)", structs),
     (rf"{NUMBER} tails, {NUMBER} relative places, {NUMBER} displacements", of("tails"), of("relative"), of("disp")),
     (rf"{NUMBER} prefixes of the four forms, {NUMBER} immediates", prefixes, of("immediates")),
