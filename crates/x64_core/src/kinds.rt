@@ -57,7 +57,8 @@ pub enum Access {
 /// - A write of 8 or 16 bits leaves the others.
 /// - A write of 32 bits makes the upper half of a general register 0. Where a line may leave the register as it was, the upper
 ///   half may stay too: `eax` of `cmpxchgl`, and the register of `bsfl` and `bsrl`.
-/// - A vector register has 128 bits. What a processor has above them a line with VEX makes 0, and another line leaves.
+/// - Of a vector register that is written the operand is all 128 bits, whatever part of them changes. What a processor has above
+///   these a line with VEX makes 0, and another line leaves.
 ///
 /// A `bt` with a register reads beside its memory too, as far as the register's number of bits goes.
 #[derive(Clone, Copy, Debug, PartialEq)]
