@@ -8,6 +8,7 @@
 pub mod encode;
 pub mod extension;
 mod faults;
+pub mod flags;
 mod heads;
 pub mod immediate;
 pub mod instruction;
