@@ -12,6 +12,7 @@ from pathlib import Path
 ROOT = Path(__file__).resolve().parent.parent
 sys.path.insert(0, str(ROOT / "table"))
 
+import effects  # noqa: E402
 import write  # noqa: E402  (the table's script, which lies beside what it writes)
 
 NUMBER = r"(\d[\d,]*)"
@@ -119,6 +120,21 @@ def near_differing():
     return sum(map(int, re.findall(r"^ *(\d+) [\w ]+: objdump", near_text("near.txt"), re.M)))
 
 
+def uses():
+    return effects.uses_of_lines(ROOT)
+
+
+def said_uses():
+    """The reads and writes that are said of lines, of operands and of flags."""
+    accesses = [use.access for line in uses() for use in line.uses if use.home != "Imm"]
+    flags = sum(len(line.read) + len(line.written) for line in uses())
+    return sum("Read" in access for access in accesses) + sum("Write" in access for access in accesses) + flags
+
+
+def undefined_flags():
+    return sum(len(line.undefined) for line in uses())
+
+
 def executed():
     """The cases of instructions, those of the core, and the readings that are no `none`."""
     text = (ROOT / "crates/vectors/data/reader.tsv").read_text(encoding="utf-8")
@@ -155,6 +171,8 @@ SENTENCES = (
     (rf"\| REX before another prefix, or before a line that takes none \| {NUMBER} \|", near_of("rex")),
     (rf"\| an instruction, or a form of one, that the core hasn't \| {NUMBER} \|", near_of("no line")),
     (rf"\| a digit that processors take for the line's, as 6 for 4 in shifts \| {NUMBER} \|", near_of("digit")),
+    (rf"Each of the {NUMBER} reads and writes", said_uses),
+    (rf"{NUMBER} undefined flags", undefined_flags),
     (rf"\| W or L of VEX that counts for nothing \| {NUMBER} \|", near_of("vex")),
     (rf"Of {NUMBER} strings the three don't say the same", near_differing),
     (rf"all {NUMBER} (?:structs|kinds|variants|instructions)", structs),
