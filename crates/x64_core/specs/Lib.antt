@@ -14,4 +14,5 @@ pub mod Kinds
 pub mod Extension
 pub mod Value
 -- Steps of the proofs.
+pub mod ByLine
 pub mod Form

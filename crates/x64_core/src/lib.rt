@@ -5,6 +5,7 @@
 //! constants of [`ops`], each of which takes what its line takes, or by [`Core::new`] of any [`Op`].
 #![tactic(auto)]
 
+mod by_line;
 pub mod encode;
 pub mod extension;
 mod faults;
