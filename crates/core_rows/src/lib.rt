@@ -12,4 +12,6 @@ mod renamed;
 #[cfg(test)]
 mod rows;
 #[cfg(test)]
+mod uses;
+#[cfg(test)]
 mod words;

@@ -13,6 +13,7 @@ mod encode;
 mod encode_all;
 mod item;
 mod jump;
+mod line_use;
 mod list;
 #[cfg(test)]
 mod list_rows;

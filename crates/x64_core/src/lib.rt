@@ -9,6 +9,7 @@ mod by_line;
 pub mod encode;
 pub mod extension;
 mod faults;
+pub mod flags;
 mod heads;
 pub mod immediate;
 pub mod instruction;
