@@ -1095,6 +1095,9 @@ int32_t hq_format(const hq_inst *inst, uint8_t *HQ_RESTRICT text, size_t text_le
  */
 int32_t hq_inst_of_reading(const hq_reading *reading, hq_inst *HQ_RESTRICT out);
 
+/* Whether what stands in this archive was proved: 1 where it was, 0 where it was only compiled. */
+uint32_t hq_is_proved(void);
+
 /* The number of bytes that `hq_encode` writes, 1 to 13. */
 int32_t hq_length(const hq_inst *inst, uint32_t *HQ_RESTRICT len);
 

@@ -994,6 +994,8 @@ unsafe extern "C" {
     /// `HQ_NO_INST` where there is none, as of a high byte, of a place relative to the end and of memory without a base;
     /// `HQ_BAD_READING` where the integers are no reading. The length isn't looked at.
     pub unsafe fn hq_inst_of_reading(reading: *const hq_reading, out: *mut hq_inst) -> i32;
+    /// Whether what stands in this archive was proved: 1 where it was, 0 where it was only compiled.
+    pub safe fn hq_is_proved() -> u32;
     /// The number of bytes that `hq_encode` writes, 1 to 13.
     pub unsafe fn hq_length(inst: *const hq_inst, len: *mut u32) -> i32;
     /// The flags that a line reads, writes and leaves undefined. `HQ_BAD_LINE` where no line has the number.

@@ -11,6 +11,7 @@ mod decode;
 mod decode_all;
 mod encode;
 mod encode_all;
+mod is_proved;
 mod item;
 mod jump;
 mod line_use;
