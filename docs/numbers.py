@@ -158,6 +158,7 @@ SENTENCES = (
     (rf"a table of {NUMBER} lines", all_lines),
     (rf"{NUMBER} lines of `Rows` are names", name_lines),
     (rf"(?:of|how many of the) {NUMBER} lines (?:these|one)", all_lines),
+    (rf"The {NUMBER} constants, one for each line", all_lines),
     (rf"the core's {NUMBER} lines, the {NUMBER} that", all_lines, core_lines),
     (rf"(?:its own|would be) {NUMBER} lines", core_lines),
     (rf"rows'?,? and {NUMBER} more", core_lines),
