@@ -44,10 +44,8 @@ CRATES = (
     ("The core", "x64_core"),
     ("The core from bytes", "x64_core_reader"),
     ("Texts of the core", "x64_core_text"),
-    ("The core in a code buffer", "x64_core_buffer"),
     ("The core of data, and back", "x64_core_data"),
     ("Lists in their least layout", "x64_assemble"),
-    ("Lists of the core in their least layout", "x64_core_assemble"),
     ("The least layout", "x64_layout"),
 )
 # Modules of constants alone, of which there is a table.
@@ -64,7 +62,7 @@ SILENT = tuple("""
     evex::EvexPrefix::new evex::EvexPrefix::two_op evex::EvexPrefix::three_op
     evex::EvexPrefix::legacy evex::EvexPrefix::legacy_two_op evex::EvexPrefix::legacy_three_op
     CodeBuffer::align
-    x64_assemble::PutBy::len x64_assemble::PutBy::put x64_layout::least_layout
+    x64_layout::least_layout
 """.split())
 
 
