@@ -82,9 +82,7 @@ fn mixed(buffer: &mut CodeBuffer<Global>) -> Option<()> {
     let label = buffer.new_label().ok()?;
     buffer.push_checked(&LEAQ_RM.mem(RAX, at(FIRST))).ok()?;
     buffer.push_checked(&call).ok()?;
-    buffer
-        .push_checked(&ADDQ_MI_SXB.mem(at(POOL), 1))
-        .ok()?;
+    buffer.push_checked(&ADDQ_MI_SXB.mem(at(POOL), 1)).ok()?;
     buffer.bind(label).ok()?;
     buffer.push_checked(&RETQ_ZO.bare()).ok()?;
     buffer.bind_constant(Constant(7)).ok()

@@ -27,10 +27,11 @@ pub mod ops;
 pub mod place;
 pub mod refused;
 pub mod rename;
+mod rows;
 pub mod shapes;
 mod value;
 
-pub use extension::Extension;
+pub use extension::{Extension, Extensions};
 pub use instruction::Core;
 pub use op::Op;
 pub use place::CorePlace;

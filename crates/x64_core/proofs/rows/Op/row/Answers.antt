@@ -4,8 +4,8 @@ use Rattle.cax64_machine_code.specs.declared.row.Row.{Row}
 use Rattle.cax64_machine_code.specs.declared.row.Row.TheVariants.{lock_addb_mi}
 use Rattle.cax64_table.specs.Packed.{number_of}
 use Rattle.x64_core.specs.Line.{core_line}
-use Rattle.x64_core_data.proofs.Rows.{row_line, row_there, so_many}
-use Rattle.x64_core_data.proofs.row.row_of_op.Goals as goal
+use Rattle.x64_core.proofs.Rows.{row_line, row_there, so_many}
+use Rattle.x64_core.proofs.rows.Op.row.Goals as goal
 
 so_long : (rows : List Row) → rows ≡ all_rows → length rows ≡ 158
 so_long rows e = ap (λ (l : List Row). length l) e ∙ so_many
@@ -20,10 +20,10 @@ found_line : (row : Row) (n : ℕ) → number_of row ≡ n → line_of row ≡ c
 found_line row n h = sym (row_line row) ∙ ap (λ (m : ℕ). core_line m) h
 
 pub returns-then-number-rows-clause-row : goal.returns-then-number-rows-clause-row
-returns-then-number-rows-clause-row c = found c.all-rows.result.now c.from-number.result c.args.op.number c.all-rows.ensures (c.from-number.ensures ∙ c.number.ensures.is) c.if-number-rows.true
+returns-then-number-rows-clause-row c = found c.all-rows.result.now c.from-number.result c.args.self.number c.all-rows.ensures (c.from-number.ensures ∙ c.number.ensures.is) c.if-number-rows.true
 
 pub returns-then-number-rows-clause-line : goal.returns-then-number-rows-clause-line
-returns-then-number-rows-clause-line c = found_line _ c.args.op.number (found c.all-rows.result.now c.from-number.result c.args.op.number c.all-rows.ensures (c.from-number.ensures ∙ c.number.ensures.is) c.if-number-rows.true)
+returns-then-number-rows-clause-line c = found_line _ c.args.self.number (found c.all-rows.result.now c.from-number.result c.args.self.number c.all-rows.ensures (c.from-number.ensures ∙ c.number.ensures.is) c.if-number-rows.true)
 
 pub returns-else-number-rows-clause-none : goal.returns-else-number-rows-clause-none
 returns-else-number-rows-clause-none c =

@@ -1,7 +1,7 @@
 use Rattle.std.proofs.Common.{refl}
 use Rattle.cax64_table.specs.Packed.{number_of}
 use Rattle.cax64_table.proofs.Table.{number_below}
-use Rattle.x64_core_data.proofs.row.number.Goals as goal
+use Rattle.x64_core.proofs.rows.number.Goals as goal
 
 pub returns : goal.returns
 unfolding number_of
