@@ -3,8 +3,8 @@ use Rattle.std.specs.Prelude.{IfSome}
 use Rattle.cax64_table.specs.Packed.{number_of}
 use Rattle.x64_core.specs.Line.{core_line}
 use Rattle.x64_core.specs.declared.op.Op.{Op}
-use Rattle.x64_core.proofs.Rows.{row_line}
-use Rattle.x64_core.proofs.rows.Op.of_row.Goals as goal
+use Rattle.x64_core.proofs.RowLines.{row_line}
+use Rattle.x64_core.proofs.op.Op.of_row.Goals as goal
 
 found_number : (found : Option Op) (op : Op) (n : ℕ) → IfSome found (λ op. op.number ≡ n) → found ≡ Some op → op.number ≡ n
 found_number found op n h e = rw e at h

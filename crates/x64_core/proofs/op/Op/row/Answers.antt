@@ -4,8 +4,8 @@ use Rattle.cax64_machine_code.specs.declared.row.Row.{Row}
 use Rattle.cax64_machine_code.specs.declared.row.Row.TheVariants.{lock_addb_mi}
 use Rattle.cax64_table.specs.Packed.{number_of}
 use Rattle.x64_core.specs.Line.{core_line}
-use Rattle.x64_core.proofs.Rows.{row_line, row_there, so_many}
-use Rattle.x64_core.proofs.rows.Op.row.Goals as goal
+use Rattle.x64_core.proofs.RowLines.{row_line, row_there, so_many}
+use Rattle.x64_core.proofs.op.Op.row.Goals as goal
 
 so_long : (rows : List Row) → rows ≡ all_rows → length rows ≡ 158
 so_long rows e = ap (λ (l : List Row). length l) e ∙ so_many
