@@ -170,6 +170,7 @@ SENTENCES = (
     (rf"(?:save|So) {NUMBER} (?:cases of the core\.|of its cases)", not_executed),
     (rf"and {NUMBER} cases of the core", core_cases),
     (rf"all {NUMBER} (?:structs|kinds|variants|instructions)", structs),
+    (rf"(?:each of the|[Tt]he) {NUMBER} (?:structs:|instructions (?:have|ask)|variants)", structs),
     (rf"{NUMBER} tails, {NUMBER} relative places, {NUMBER} displacements", of("tails"), of("relative"), of("disp")),
     (rf"{NUMBER} prefixes of the four forms, {NUMBER} immediates", prefixes, of("immediates")),
     (rf"{NUMBER} addresses as text, {NUMBER} instructions", of("addresses"), of("instructions")),

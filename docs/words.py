@@ -158,6 +158,15 @@ def closure(roots):
     return found
 
 
+def block(text, start):
+    """What stands between a brace, behind which it begins, and the one that closes it."""
+    depth, end = 1, start
+    while depth:
+        depth += {"{": 1, "}": -1}.get(text[end], 0)
+        end += 1
+    return text[start:end - 1]
+
+
 class Source:
     """A source file: its lines, and its names as of a file of words without definitions."""
 
@@ -182,8 +191,8 @@ class Source:
 
     def ghosts(self, texts):
         """What the ghost members are that some texts name."""
-        found = re.findall(r"(?m)^ *ghost (\w+)(?::| =) (\{.*\})[;,]?$", self.text)
-        return [said for name, said in found if any(re.search(rf"\b{name}\b", text) for text in texts)]
+        found = re.finditer(r"(?m)^ *ghost (\w+)(?::| =) \{", self.text)
+        return [block(self.text, match.end()) for match in found if any(re.search(rf"\b{match[1]}\b", text) for text in texts)]
 
 
 def roots(file, name, wanted):
