@@ -74,6 +74,14 @@ class Words(Pages):
         self.change("docs/words.py", r'"hq_decode", ""', '"hq_undecode", ""')
         self.refuses("has 0 functions hq_undecode with clauses", 2, "words", "--check")
 
+    def test_a_promise_that_is_not_followed(self):
+        self.change("README.md", r"\| `read_inst`: `is` \|", "| `read_outst`: `is` |")
+        self.refuses("README.md promises something of `read_outst`, which docs/words.py doesn't follow", 1, "words", "--check")
+
+    def test_a_clause_of_the_first_page_that_is_not_there(self):
+        self.change("README.md", r"\| `read_inst`: `is` \|", "| `read_inst`: `isnt` |")
+        self.refuses("read_inst of cax64_reader/src/reader.rt has no clause isnt", 2, "words", "--check")
+
     def test_a_page_without_a_mark(self):
         self.change("docs/TRUSTED.md", r"^<!-- docs/words.py: types -->\n", "")
         self.refuses("has no part <!-- docs/words.py: types -->", 2, "words", "--check")

@@ -7,8 +7,9 @@ which the definitions stand, with their lines, the types that they name, and the
 lines of what stands by hand between a caller in C or Rust and the exports.
 
 Run at the top: python3 docs/words.py [--check]. The status is 0 where the page is as the sources have it, or was written; 1
-where --check finds a difference, or a definition stands behind those that `Lib.antt` says have to be believed; and 2 where a
-promise, a clause or a definition isn't found, or the page lacks a mark. Then a sentence says which.
+where --check finds a difference, where a definition stands behind those that `Lib.antt` says have to be believed, or where
+README's table promises something of a call that isn't followed; and 2 where a promise, a clause or a definition isn't found, or
+the page lacks a mark. Then a sentence says which.
 """
 import re
 import sys
@@ -32,7 +33,9 @@ PROMISES = (
     ("`encode_all`", "cax64_encode_all/src/lib.rt", "encode_all", "adds"),
     ("`emit_modrm_sib_disp`", "cax64_address/src/tail.rt", "emit_modrm_sib_disp", "adds address"),
     ("`whole_instruction_is_shortest`", "cax64_shortest/src/laws.rt", "whole_instruction_is_shortest", ""),
+    ("`is_encodable`", "cax64_encoder/src/instruction.rt", "is_encodable", ""),
     ("`first_fault`", "cax64_encoder/src/instruction.rt", "first_fault", "fault none"),
+    ("`encode_checked`", "cax64_encoder/src/instruction.rt", "encode_checked", "fault unchanged adds"),
     ("`read_inst`", "cax64_reader/src/reader.rt", "read_inst", "is"),
     ("`encode_entry`", "cax64_encoder/src/encoder.rt", "encode_entry", "adds"),
     ("`rename`", "cax64_renaming/src/lib.rt", "rename", "renamed"),
@@ -64,9 +67,10 @@ class Word(NamedTuple):
 
 
 class Closure(NamedTuple):
-    """What some clauses cite: files of words, types, and constants of sources."""
+    """What some clauses cite: files of words, their definitions, types, and constants of sources."""
 
     files: set
+    definitions: set
     types: set
     constants: set
 
@@ -134,7 +138,7 @@ def cited(text, words):
 
 def closure(roots):
     """All that follows from some definitions."""
-    found, seen, left = Closure(set(), set(), set()), set(), list(roots)
+    found, seen, left = Closure(set(), set(), set(), set()), set(), list(roots)
     while left:
         word = left.pop()
         if word in seen:
@@ -152,6 +156,7 @@ def closure(roots):
         if not name:
             raise Missing(f"{word.module} of {word.crate} has no definition of {word.name}")
         found.files.add((word.crate, word.module))
+        found.definitions.add((word.crate, word.module, name))
         for line in words.texts[name]:
             left += cited(line, words)
             left += (Word(word.crate, word.module, other) for other in re.findall(NAME, line) if words.definition(other))
@@ -229,6 +234,12 @@ def lines_of(label):
     return sum(lines(path_of(*file)) for file in promised(label).files)
 
 
+def needed_of(label):
+    """The lines of the definitions alone, without empty ones and comments."""
+    return sum(bool(line.strip()) for crate, module, name in promised(label).definitions
+               for line in words_of(crate, module).texts[name])
+
+
 @cache
 def entries(crate, module, name):
     """How many entries a constant has that is a table, and None for one that is a single value."""
@@ -295,7 +306,8 @@ def sums():
     for label, _, _, wanted in PROMISES:
         found = promised(label)
         clauses = ", ".join(f"`{clause}`" for clause in wanted.split()) or "all"
-        yield [label, clauses, str(files_of(label)), f"{lines_of(label):,}", str(len(found.types)), tables_of(found)]
+        yield [label, clauses, str(files_of(label)), f"{lines_of(label):,}", f"{needed_of(label):,}", str(len(found.types)),
+               tables_of(found)]
 
 
 def inline_functions():
@@ -318,7 +330,7 @@ def beside():
 
 
 PARTS = {
-    "sums": lambda: table(["Promise", "Clauses", "Files", "Lines", "Types", "Constants"], sums()),
+    "sums": lambda: table(["Promise", "Clauses", "Files", "Lines", "Needed", "Types", "Constants"], sums()),
     "files": matrix,
     "types": named_types,
     "beside": beside,
@@ -355,19 +367,34 @@ def strangers():
                 yield f"{label} is said in words of {path_of(crate, module)}, which Lib.antt has behind those to be believed"
 
 
+def unknown():
+    """Calls of README's table of promises that aren't among these, and clauses that they don't have."""
+    rows = re.findall(r"(?m)^\| [^|]* \| (`[^|]*) \| [^|]* \|$", (ROOT / "README.md").read_text(encoding="utf-8"))
+    for part in (part for row in rows for part in row.split(";")):
+        calls, _, clauses = part.partition(":")
+        for call in map(str.strip, calls.split(",")):
+            label = re.sub(r" of `\w+_\w+`$", "", call)
+            found = [promise for promise in PROMISES if promise[0] == label]
+            if found:
+                _, file, name, _ = found[0]
+                Source(file).clauses(name, " ".join(re.findall(r"`(\w+)`", clauses)))
+            else:
+                yield f"README.md promises something of {call}, which docs/words.py doesn't follow"
+
+
 def main(given):
     if given not in ([], ["--check"]):
         print(__doc__, file=sys.stderr)
         return 2
     try:
         stands = PAGE.read_text(encoding="utf-8")
-        told = sorted(set(strangers()))
+        told = sorted({*strangers(), *unknown()})
         text = written(stands) if not told else stands
     except Missing as lost:
         print(f"words: {lost}", file=sys.stderr)
         return 2
     if told:
-        print("\n".join([*told, f"words: {len(told)} aren't to be believed by Lib.antt"]))
+        print("\n".join([*told, f"words: {len(told)} differ"]))
         return 1
     if given:
         print(f"words: docs/TRUSTED.md is {'as the sources have it' if stands == text else 'not as the sources have it'}")
