@@ -320,13 +320,16 @@ def inline_functions():
 def beside():
     header, count = inline_functions()
     unsafe = len(re.findall(r"\bunsafe \{", (ROOT / "c/rust/src/lib.rs").read_text(encoding="utf-8")))
-    return table(["File", "Lines", "What it is", "By whom it's written"], (
-        ["`c/huqmeris.h`", f"{lines('c/huqmeris.h'):,}", "structs, numbers and prototypes", "`c/write.py`, of the sources"],
-        ["within it", str(header), f"{count} functions (`static inline`), which make places and items", "by hand in `c/write.py`, tested"],
-        ["`c/heap.c`", str(lines("c/heap.c")), "the three functions of memory, over `malloc`, `realloc` and `free`", "by hand, tested"],
-        ["`c/rust/src/sys.rs`", str(lines("c/rust/src/sys.rs")), "the same structs, numbers and prototypes for Rust", "`c/write.py`, of the sources"],
-        ["`c/rust/src/lib.rs`", str(lines("c/rust/src/lib.rs")), f"the crate over these, with {unsafe} `unsafe` blocks", "by hand, tested"],
-    ))
+    rows = (
+        ("c/huqmeris.h", "structs, numbers and prototypes", "`c/write.py`, of the sources"),
+        ("c/heap.c", "the three functions of memory, over `malloc`, `realloc` and `free`", "by hand, tested"),
+        ("c/rust/src/sys.rs", "the same structs, numbers and prototypes for Rust", "`c/write.py`, of the sources"),
+        ("c/rust/src/lib.rs", f"the crate over these, with {unsafe} `unsafe` blocks", "by hand, tested"),
+    )
+    shown = [[f"`{path}`", f"{lines(path):,}", what, by] for path, what, by in rows]
+    shown.insert(1, ["within it", str(header), f"{count} functions (`static inline`), which make places and items",
+                     "by hand in `c/write.py`, tested"])
+    return table(["File", "Lines", "What it is", "By whom it's written"], shown)
 
 
 PARTS = {
@@ -369,7 +372,7 @@ def strangers():
 
 def unknown():
     """Calls of README's table of promises that aren't among these, and clauses that they don't have."""
-    rows = re.findall(r"(?m)^\| [^|]* \| (`[^|]*) \| [^|]* \|$", (ROOT / "README.md").read_text(encoding="utf-8"))
+    rows = re.findall(r"(?m)^\| [^|]* \| (`[^|]*) \|[^|]*\|$", (ROOT / "README.md").read_text(encoding="utf-8"))
     for part in (part for row in rows for part in row.split(";")):
         calls, _, clauses = part.partition(":")
         for call in map(str.strip, calls.split(",")):
