@@ -45,10 +45,9 @@ CRATES = (
     ("The core", "x64_core"),
     ("The core from bytes", "x64_core_reader"),
     ("Texts of the core", "x64_core_text"),
-    ("The core in a code buffer", "x64_core_buffer"),
     ("The core of data, and back", "x64_core_data"),
+    ("What is encoded by a line", "x64_encode"),
     ("Lists in their least layout", "x64_assemble"),
-    ("Lists of the core in their least layout", "x64_core_assemble"),
     ("The least layout", "x64_layout"),
 )
 # Modules of constants alone, of which there is a table.

@@ -59,9 +59,13 @@ def core():
     return write.core_of((ROOT / write.CORE).read_text(encoding="utf-8"), table().rows)[0]
 
 
+def uses():
+    return write.uses_of((ROOT / write.EFFECTS).read_text(encoding="utf-8"), [*table().rows, *core().lines])[0]
+
+
 def written_lines():
     """Lines of written files, and of written parts of others between their marks."""
-    sources = write.sources_of(table(), core())
+    sources = write.sources_of(table(), core(), uses())
     parts = sum(len(text) for found in sources.parts.values() for text in found.values())
     return parts + sum(text.count("\n") for text in sources.files.values())
 

@@ -46,14 +46,17 @@ PROMISES = (
     ("`read_core`", "x64_core_reader/src/reader.rt", "read_core", "is none"),
     ("`to_string` of `CoreText`", "x64_core_text/src/text.rt", "to_string", ""),
     ("`kinds` of `Op`", "x64_core/src/kinds.rt", "kinds", ""),
+    ("`flags` of `Op`", "x64_core/src/flags.rt", "flags", ""),
     ("`extension` of `Op`", "x64_core/src/extension.rt", "extension", ""),
     ("`hq_decode`", "huqmeris_c/src/decode.rt", "hq_decode", ""),
     ("`hq_format`", "huqmeris_c/src/text.rt", "hq_format", ""),
+    ("`hq_line_operand`", "huqmeris_c/src/line_use.rt", "hq_line_operand", ""),
+    ("`hq_line_flags`", "huqmeris_c/src/line_use.rt", "hq_line_flags", ""),
 )
 COLUMNS = 5
 
 # The ghost members of traits that clauses of other crates name, and where the trait says what they are.
-GHOSTS = {"meant": "cax64_encoder/src/instruction.rt"}
+GHOSTS = {"meant": "cax64_encoder/src/instruction.rt", "line_meant": "x64_encode/src/encode.rt"}
 
 NAME = r"[^\s(){}\[\],;:.]+"
 
@@ -132,7 +135,8 @@ def cited(text, words):
     for name in re.findall(rf"{NAME}(?:\.{NAME})*", text):
         found = words.resolved(name.split("."))
         match = found and re.match(r"Rattle\.(\w+)\.specs\.(.*)$", found[0])
-        if match and match[1] != "std":
+        # a module's name alone is that of a variable
+        if match and match[1] != "std" and found[1]:
             yield Word(match[1], match[2], found[1])
 
 
@@ -205,9 +209,10 @@ def roots(file, name, wanted):
     source = Source(file)
     texts = source.clauses(name, wanted)
     cites = [(source, text) for text in texts + source.ghosts(texts)]
-    for ghost, trait in GHOSTS.items():
-        if trait != file and any(re.search(rf"\.{ghost}\b", text) for text in texts):
-            other = Source(trait)
+    left = {ghost: trait for ghost, trait in GHOSTS.items() if trait != file}
+    while found := [ghost for ghost in left if any(re.search(rf"\.{ghost}\b", text) for _, text in cites)]:
+        for ghost in found:
+            other = Source(left.pop(ghost))
             cites += [(other, text) for text in other.ghosts([ghost])]
     return [word for place, text in cites for word in cited(text, place)]
 

@@ -20,7 +20,6 @@ use std::alloc::Global;
 use x64_assemble::{Item, Layout, LayoutError};
 use x64_code_buffer::{BindError, CodeBuffer};
 use x64_core::Core;
-use x64_core_assemble::ByCore;
 use x64_layout::MOST_SPANS;
 
 /// What is told of a list that can't be put.
@@ -66,7 +65,7 @@ fn put_code(
     ensures refused { (code : List HqItem) → MakesEach code list.now → length code ≤ 165191049 → IfErr result (λ refused. (refused.status ≡ pos 11) ⊎ FirstRefused (CantBePut (label_count buffer.old)) code refused.number refused.status) }
     ensures labels { label_count buffer.new ≡ label_count buffer.old }
 {
-    match Layout::new(alloc).assemble_by::<ByCore, Core, Global>(list, buffer) {
+    match Layout::new(alloc).assemble(list, buffer) {
         Ok(()) => Ok(()),
         Err(error) => Err(told_of(&error)),
     }

@@ -3,9 +3,7 @@ use Rattle.std.proofs.lemmas.Int.{ints, to_z-of_z}
 use Rattle.std.specs.Int.{w8, w32, w64}
 use Rattle.std.specs.Prelude.{IfSome, IsSome, IsTrue, OnOk, unwrap_or, slice_index}
 use Rattle.cax64_encoder.proofs.Faults.{no_fault, none_is}
-use Rattle.cax64_encoder.specs.Fault.{fault_of_meant, is_encodable}
-use Rattle.cax64_encoder.specs.Instruction.{AddsInstruction}
-use Rattle.cax64_encoder.specs.Meant.{Meant, len}
+use Rattle.cax64_encoder.specs.Fault.{can_encode, first_fault}
 use Rattle.cax64_machine_code.specs.Len.{len_of, line_len}
 use Rattle.cax64_machine_code.specs.ReadLine.{LineReading, parts_as}
 use Rattle.cax64_machine_code.specs.Reading.{PartsOf}
@@ -22,6 +20,7 @@ use Rattle.cax64_sink.specs.declared.Notice.{Notice}
 use Rattle.x64_code_buffer.proofs.Jumped.{len_same, of_some}
 use Rattle.x64_code_buffer.proofs.Jumping.{short_len}
 use Rattle.x64_code_buffer.specs.Binding.{SamePlaces}
+use Rattle.x64_encode.specs.Encode.{AddsMeant, LineMeant}
 use Rattle.x64_code_buffer.specs.Jump.{AddsAt, AddsJump, AddsNear, jump_parts, long_row, short_row}
 use Rattle.x64_code_buffer.specs.Laid.{Laid, LaidOn, Piece, open_jump, parts_in, whole}
 use Rattle.x64_code_buffer.specs.declared.jump.Condition.TheVariants as cond
@@ -51,14 +50,13 @@ got_from kind meant reads tells size told s t old new added as_meant bytes len p
   notice_room = falls_more s.notice_room t.notice_room told 1 one notices;
 }
 
-pub got_inst : {M : Type 0} (m : Meant M) (n told : ℕ) (s t : State) (old new : DeferredTarget → Option ℕ) → n ≡ len m → s.records ≡ true → AddsInstruction m s t → SamePlaces old new → Keeps s t → FallsBy s.byte_room t.byte_room (len m) → FallsBy s.notice_room t.notice_room told → told ≤ 1 → ((pieces : List Piece) → Laid pieces (length s.bytes) s old → LaidOn whole (parts_as (line_of m.parts.row) m.parts) pieces t new) → GotEntry (WholeReads (parts_as (line_of m.parts.row) m.parts)) (inst_told m.memory) n s t old new
-got_inst m n told s t old new size records adds places keeps room notices one laid =
-    subst (λ (k : ℕ). GotEntry (WholeReads (parts_as (line_of m.parts.row) m.parts)) (inst_told m.memory) k s t old new) (sym size)
-    (got_from whole (parts_as (line_of m.parts.row) m.parts) (WholeReads (parts_as (line_of m.parts.row) m.parts)) (inst_told m.memory) (len m) told s t old new adds.added (λ r e. e) adds.bytes adds.length places keeps room notices one laid (tells_inst m s t old new records adds))
+pub got_inst : {M : Type 0} (m : LineMeant M) (told : ℕ) (s t : State) (old new : DeferredTarget → Option ℕ) → s.records ≡ true → AddsMeant m s t → SamePlaces old new → Keeps s t → FallsBy s.byte_room t.byte_room m.len → FallsBy s.notice_room t.notice_room told → told ≤ 1 → ((pieces : List Piece) → Laid pieces (length s.bytes) s old → LaidOn whole m.parts pieces t new) → GotEntry (WholeReads m.parts) (inst_told m.memory) m.len s t old new
+got_inst m told s t old new records adds places keeps room notices one laid =
+    got_from whole m.parts (WholeReads m.parts) (inst_told m.memory) m.len told s t old new adds.added (λ r e. e) adds.bytes adds.length places keeps room notices one laid (tells_inst m s t old new records adds)
 
--- an instruction of a row without a fault can be encoded
-pub row_fits : {M : Type 0} (offsets : ℕ → Option ℤ) (m : Meant M) → fault_of_meant offsets m ≡ None → IsTrue (is_encodable offsets m)
-row_fits offsets m h = (none_is (fault_of_meant offsets m) _ (no_fault offsets m.visited m.memory)).0 h
+-- an instruction without a fault can be encoded
+pub line_fits : {M : Type 0} (offsets : ℕ → Option ℤ) (m : LineMeant M) → first_fault offsets m.visited m.memory ≡ None → IsTrue (can_encode offsets m.visited m.memory)
+line_fits offsets m h = (none_is (first_fault offsets m.visited m.memory) _ (no_fault offsets m.visited m.memory)).0 h
 
 -- how many bytes a longer form has
 long_line_len : (jump : Jump) (z : ℤ) → line_len (line_of (long_row jump)) (jump_parts (line_of (long_row jump)) z) ≡ long_len jump

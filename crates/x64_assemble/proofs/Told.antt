@@ -4,9 +4,7 @@ use Rattle.std.proofs.Math.Seq.{take-length}
 use Rattle.std.proofs.lemmas.List.{append_cancel_left, length-drop}
 use Rattle.cax64_address.specs.declared.amode.Amode.{Amode}
 use Rattle.cax64_address.specs.declared.amode.Amode.TheVariants.{ImmReg, ImmRegRegShift, RipRelative}
-use Rattle.cax64_encoder.specs.Instruction.{AddsInstruction}
-use Rattle.cax64_encoder.specs.Meant.{Meant}
-use Rattle.cax64_encoder.specs.Notices.{notices_of}
+use Rattle.cax64_encoder.specs.EncodesLine.{line_notices_of}
 use Rattle.cax64_sink.specs.Sink.{State}
 use Rattle.cax64_sink.specs.declared.DeferredTarget.{DeferredTarget}
 use Rattle.cax64_sink.specs.declared.Label.{Label}
@@ -16,6 +14,7 @@ use Rattle.x64_code_buffer.proofs.Laying.{uses_more}
 use Rattle.x64_code_buffer.specs.Filled.{places_told}
 use Rattle.x64_code_buffer.specs.Laid.{Laid, LinesRead, Piece, piece_field, piece_fields, reading_in, readings_in}
 use Rattle.x64_code_buffer.specs.Use.{uses_of}
+use Rattle.x64_encode.specs.Encode.{AddsMeant, LineMeant}
 use Rattle.x64_assemble.specs.Assembled.{EachReads, all_told, jump_told, spot_of}
 use Rattle.x64_assemble.specs.Listed.{Listed, inst_told, use_told}
 use Rattle.x64_assemble.specs.declared.item.Item.{Item}
@@ -71,10 +70,10 @@ tells_use x goes_to s t old new notices ps p h k = notices ∙ ap (λ (z : List 
 pub tells_nothing : (s t : State) → t.notices ≡ s.notices → t.notices ≡ s.notices ++ []
 tells_nothing s t notices = notices ∙ sym (append-nil s.notices)
 
-pub tells_inst : {M : Type 0} (m : Meant M) (s t : State) (old new : DeferredTarget → Option ℕ) → s.records ≡ true → AddsInstruction m s t → (ps : List Piece) (p : Piece) → Laid ps (length s.bytes) s old → Laid (ps ++ p ∷ []) (length t.bytes) t new → t.notices ≡ s.notices ++ inst_told m.memory (length s.bytes) p
-tells_inst {M = M} m s t old new records adds ps p h k = by_memory m.memory (adds.notices ∙ ap (λ (z : Bool). if z then s.notices ++ notices_of m.memory (length s.bytes) adds.reads.reading else s.notices) records)
+pub tells_inst : {M : Type 0} (m : LineMeant M) (s t : State) (old new : DeferredTarget → Option ℕ) → s.records ≡ true → AddsMeant m s t → (ps : List Piece) (p : Piece) → Laid ps (length s.bytes) s old → Laid (ps ++ p ∷ []) (length t.bytes) t new → t.notices ≡ s.notices ++ inst_told m.memory (length s.bytes) p
+tells_inst {M = M} m s t old new records adds ps p h k = by_memory m.memory (adds.notices ∙ ap (λ (z : Bool). if z then s.notices ++ line_notices_of m.memory (length s.bytes) adds.reads.reading else s.notices) records)
   where
-    by_memory : (o : Option (Amode M)) → t.notices ≡ s.notices ++ notices_of o (length s.bytes) adds.reads.reading → t.notices ≡ s.notices ++ inst_told o (length s.bytes) p
+    by_memory : (o : Option (Amode M)) → t.notices ≡ s.notices ++ line_notices_of o (length s.bytes) adds.reads.reading → t.notices ≡ s.notices ++ inst_told o (length s.bytes) p
     by_memory None e = e
     by_memory (Some (ImmReg base simm32 trap)) e = e
     by_memory (Some (ImmRegRegShift base index scale simm32 trap)) e = e
