@@ -3,7 +3,8 @@
 
 Each item of the facade, of the code buffer, of the core and of the layouts has its path, its documentation, its signature and
 the clauses of its contract, by name. An item that requires something says in its documentation what a build that wasn't proved
-does where that doesn't hold. Those of SILENT don't say it yet: no item comes to them, and one that says it goes.
+does where that doesn't hold. Those of docs/silent.txt don't say it yet: no item comes to them, and one that says it is taken
+away, so they only get fewer.
 
 Run at the top: python3 docs/api.py [--check]. The status is 0 where the page is as the sources have it, or was written, and
 each such item says so; and else 1, with a sentence for each.
@@ -45,25 +46,15 @@ CRATES = (
     ("The core from bytes", "x64_core_reader"),
     ("Texts of the core", "x64_core_text"),
     ("The core of data, and back", "x64_core_data"),
+    ("What is encoded by a line", "x64_encode"),
     ("Lists in their least layout", "x64_assemble"),
     ("The least layout", "x64_layout"),
 )
 # Modules of constants alone, of which there is a table.
 CONSTANTS = "ops::"
 
-# Items with a condition that don't say what a build that wasn't proved does where it doesn't hold.
-SILENT = tuple("""
-    AsReg::new AsReg::enc AsReg::to_string AsReg::push_to Fixed::expected
-    Scale::new rex::Disp::new
-    CodeSink::put_low_bytes CodeSink::put_rest CodeSink::known_offset
-    RowAndOperands::hand_to Task::take
-    rex::RexPrefix::of_registers rex::RexPrefix::one_op rex::RexPrefix::two_op rex::RexPrefix::mem_op rex::RexPrefix::with_digit
-    rex::RexPrefix::three_op vex::VexPrefix::three_op vex::VexPrefix::two_op
-    evex::EvexPrefix::new evex::EvexPrefix::two_op evex::EvexPrefix::three_op
-    evex::EvexPrefix::legacy evex::EvexPrefix::legacy_two_op evex::EvexPrefix::legacy_three_op
-    CodeBuffer::align
-    x64_layout::least_layout
-""".split())
+# Items with a condition that don't say yet what a build that wasn't proved does where it doesn't hold, a name a line.
+SILENT = ROOT / "docs/silent.txt"
 
 
 def read(path):
@@ -235,20 +226,28 @@ class Conditions:
 
     def __init__(self):
         self.said = {}
+        self.silent = [line for line in SILENT.read_text(encoding="utf-8").splitlines() if line and line[0] != "#"]
 
     def see(self, path, item):
         if any(kind == "requires" for kind, _, _ in item.clauses):
             self.said[path] = "that wasn't proved" in " ".join(item.doc)
 
-    def differences(self):
+    def new(self):
+        """Items that don't say it, and aren't among those of before."""
         for path, is_said in self.said.items():
-            if not is_said and path not in SILENT:
+            if not is_said and path not in self.silent:
                 yield f"{path} doesn't say what a build that wasn't proved does where its condition doesn't hold"
-        for path in SILENT:
-            if path not in self.said:
-                yield f"{path} of SILENT has no condition, or isn't there"
-            elif self.said[path]:
-                yield f"{path} says what a build that wasn't proved does: it goes from SILENT"
+
+    def gone(self):
+        """Those of before that say it now, or have no condition any more."""
+        return [path for path in self.silent if self.said.get(path, True)]
+
+    def take_away(self):
+        """Leaves those out that are gone."""
+        gone = self.gone()
+        kept = [line for line in SILENT.read_text(encoding="utf-8").splitlines() if line not in gone]
+        SILENT.write_text("\n".join(kept) + "\n", encoding="utf-8")
+        self.silent = [path for path in self.silent if path not in gone]
 
 
 CONDITIONS = Conditions()
@@ -422,15 +421,16 @@ def main(words):
         return 2
     text = re.sub(r"\n{3,}", "\n\n", "\n".join(page()).rstrip("\n") + "\n")
     stands = PAGE.read_text(encoding="utf-8") if PAGE.exists() else ""
-    told = list(CONDITIONS.differences())
-    told.append(f"api: of {len(CONDITIONS.said)} items with a condition {len(SILENT)} don't say yet what follows without it")
-    if words:
-        told.append(f"api: docs/API.md is {'as the sources have it' if stands == text else 'not as the sources have it'}")
-    else:
+    if not words:
+        CONDITIONS.take_away()
         PAGE.write_text(text, encoding="utf-8")
-        told.append(f"api: {len(text.splitlines())} lines")
+    told = [*CONDITIONS.new(), *(f"{path} is to be taken from docs/silent.txt" for path in CONDITIONS.gone())]
+    count = len(told)
+    told.append(f"api: of {len(CONDITIONS.said)} items with a condition {len(CONDITIONS.silent)} don't say yet what follows without it")
+    is_same = not words or stands == text
+    told.append(f"api: docs/API.md is {'as the sources have it' if is_same else 'not as the sources have it'}")
     print("\n".join(told))
-    return 0 if len(told) == 2 and (not words or stands == text) else 1
+    return 0 if is_same and not count else 1
 
 
 if __name__ == "__main__":

@@ -63,6 +63,13 @@ def uses():
     return write.uses_of((ROOT / write.EFFECTS).read_text(encoding="utf-8"), [*table().rows, *core().lines])[0]
 
 
+def written_lines():
+    """Lines of written files, and of written parts of others between their marks."""
+    sources = write.sources_of(table(), core(), uses())
+    parts = sum(len(text) for found in sources.parts.values() for text in found.values())
+    return parts + sum(text.count("\n") for text in sources.files.values())
+
+
 def core_lines():
     """The lines of the core that are its own, and no row's."""
     return len(core().lines)
@@ -78,20 +85,8 @@ def name_lines():
     return sum(line.startswith(("name_of ", "abbrev pub name_of ")) for line in text.splitlines())
 
 
-@cache
-def written_lines():
-    """Lines of written files, and of written parts of others between their marks."""
-    sources = write.sources_of(table(), core(), uses())
-    parts = sum(len(text) for found in sources.parts.values() for text in found.values())
-    return parts + sum(text.count("\n") for text in sources.files.values())
-
-
 def table_lines():
-    return lines(write.TABLE)
-
-
-def core_table_lines():
-    return lines(write.CORE)
+    return sum(lines(path) for path in ROOT.glob("table/*.txt"))
 
 
 def script_lines():
@@ -158,7 +153,7 @@ SENTENCES = (
     (rf"There are {NUMBER} crates and {NUMBER} must-fail edits", crates, edits),
     (rf"{NUMBER} files of {NUMBER} lines", headline_files, headline),
     (rf"{NUMBER} lines are written by the script", written_lines),
-    (rf"tables of {NUMBER} and {NUMBER} lines, and scripts of {NUMBER}", table_lines, core_table_lines, script_lines),
+    (rf"tables of {NUMBER} lines, and scripts of {NUMBER}", table_lines, script_lines),
     (rf"a table of {NUMBER} lines", all_lines),
     (rf"{NUMBER} lines of `Rows` are names", name_lines),
     (rf"(?:of|how many of the) {NUMBER} lines (?:these|one)", all_lines),
@@ -176,9 +171,10 @@ SENTENCES = (
     (rf"`reader.tsv` \| {NUMBER} that have a reading, of all {NUMBER} rows \| 0 \| {NUMBER} ", run("reader.tsv"), rows, steps("reader.tsv")),
     (rf"`core.tsv` \| {NUMBER} of {NUMBER}, of all {NUMBER} lines that are the core's own \| 0 \| {NUMBER} ",
      run("core.tsv"), core_cases, core_lines, steps("core.tsv")),
-    (rf"(?:save|So) {NUMBER} of (?:the core, one|its cases)", not_executed),
-    (rf"{NUMBER} cases of the core", core_cases),
+    (rf"(?:save|So) {NUMBER} (?:cases of the core\.|of its cases)", not_executed),
+    (rf"and {NUMBER} cases of the core", core_cases),
     (rf"all {NUMBER} (?:structs|kinds|variants|instructions)", structs),
+    (rf"(?:each of the|[Tt]he) {NUMBER} (?:structs:|instructions (?:have|ask)|variants)", structs),
     (rf"{NUMBER} tails, {NUMBER} relative places, {NUMBER} displacements", of("tails"), of("relative"), of("disp")),
     (rf"{NUMBER} prefixes of the four forms, {NUMBER} immediates", prefixes, of("immediates")),
     (rf"{NUMBER} addresses as text, {NUMBER} instructions", of("addresses"), of("instructions")),

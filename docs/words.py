@@ -7,8 +7,9 @@ which the definitions stand, with their lines, the types that they name, and the
 lines of what stands by hand between a caller in C or Rust and the exports.
 
 Run at the top: python3 docs/words.py [--check]. The status is 0 where the page is as the sources have it, or was written; 1
-where --check finds a difference, or a definition stands behind those that `Lib.antt` says have to be believed; and 2 where a
-promise, a clause or a definition isn't found, or the page lacks a mark. Then a sentence says which.
+where --check finds a difference, where a definition stands behind those that `Lib.antt` says have to be believed, or where
+README's table promises something of a call that isn't followed; and 2 where a promise, a clause or a definition isn't found, or
+the page lacks a mark. Then a sentence says which.
 """
 import re
 import sys
@@ -32,7 +33,9 @@ PROMISES = (
     ("`encode_all`", "cax64_encode_all/src/lib.rt", "encode_all", "adds"),
     ("`emit_modrm_sib_disp`", "cax64_address/src/tail.rt", "emit_modrm_sib_disp", "adds address"),
     ("`whole_instruction_is_shortest`", "cax64_shortest/src/laws.rt", "whole_instruction_is_shortest", ""),
+    ("`is_encodable`", "cax64_encoder/src/instruction.rt", "is_encodable", ""),
     ("`first_fault`", "cax64_encoder/src/instruction.rt", "first_fault", "fault none"),
+    ("`encode_checked`", "cax64_encoder/src/instruction.rt", "encode_checked", "fault unchanged adds"),
     ("`read_inst`", "cax64_reader/src/reader.rt", "read_inst", "is"),
     ("`encode_entry`", "cax64_encoder/src/encoder.rt", "encode_entry", "adds"),
     ("`rename`", "cax64_renaming/src/lib.rt", "rename", "renamed"),
@@ -43,14 +46,17 @@ PROMISES = (
     ("`read_core`", "x64_core_reader/src/reader.rt", "read_core", "is none"),
     ("`to_string` of `CoreText`", "x64_core_text/src/text.rt", "to_string", ""),
     ("`kinds` of `Op`", "x64_core/src/kinds.rt", "kinds", ""),
+    ("`flags` of `Op`", "x64_core/src/flags.rt", "flags", ""),
     ("`extension` of `Op`", "x64_core/src/extension.rt", "extension", ""),
     ("`hq_decode`", "huqmeris_c/src/decode.rt", "hq_decode", ""),
     ("`hq_format`", "huqmeris_c/src/text.rt", "hq_format", ""),
+    ("`hq_line_operand`", "huqmeris_c/src/line_use.rt", "hq_line_operand", ""),
+    ("`hq_line_flags`", "huqmeris_c/src/line_use.rt", "hq_line_flags", ""),
 )
 COLUMNS = 5
 
 # The ghost members of traits that clauses of other crates name, and where the trait says what they are.
-GHOSTS = {"meant": "cax64_encoder/src/instruction.rt"}
+GHOSTS = {"meant": "cax64_encoder/src/instruction.rt", "line_meant": "x64_encode/src/encode.rt"}
 
 NAME = r"[^\s(){}\[\],;:.]+"
 
@@ -64,9 +70,10 @@ class Word(NamedTuple):
 
 
 class Closure(NamedTuple):
-    """What some clauses cite: files of words, types, and constants of sources."""
+    """What some clauses cite: files of words, their definitions, types, and constants of sources."""
 
     files: set
+    definitions: set
     types: set
     constants: set
 
@@ -128,13 +135,14 @@ def cited(text, words):
     for name in re.findall(rf"{NAME}(?:\.{NAME})*", text):
         found = words.resolved(name.split("."))
         match = found and re.match(r"Rattle\.(\w+)\.specs\.(.*)$", found[0])
-        if match and match[1] != "std":
+        # a module's name alone is that of a variable
+        if match and match[1] != "std" and found[1]:
             yield Word(match[1], match[2], found[1])
 
 
 def closure(roots):
     """All that follows from some definitions."""
-    found, seen, left = Closure(set(), set(), set()), set(), list(roots)
+    found, seen, left = Closure(set(), set(), set(), set()), set(), list(roots)
     while left:
         word = left.pop()
         if word in seen:
@@ -152,10 +160,20 @@ def closure(roots):
         if not name:
             raise Missing(f"{word.module} of {word.crate} has no definition of {word.name}")
         found.files.add((word.crate, word.module))
+        found.definitions.add((word.crate, word.module, name))
         for line in words.texts[name]:
             left += cited(line, words)
             left += (Word(word.crate, word.module, other) for other in re.findall(NAME, line) if words.definition(other))
     return found
+
+
+def block(text, start):
+    """What stands between a brace, behind which it begins, and the one that closes it."""
+    depth, end = 1, start
+    while depth:
+        depth += {"{": 1, "}": -1}.get(text[end], 0)
+        end += 1
+    return text[start:end - 1]
 
 
 class Source:
@@ -182,8 +200,8 @@ class Source:
 
     def ghosts(self, texts):
         """What the ghost members are that some texts name."""
-        found = re.findall(r"(?m)^ *ghost (\w+)(?::| =) (\{.*\})[;,]?$", self.text)
-        return [said for name, said in found if any(re.search(rf"\b{name}\b", text) for text in texts)]
+        found = re.finditer(r"(?m)^ *ghost (\w+)(?::| =) \{", self.text)
+        return [block(self.text, match.end()) for match in found if any(re.search(rf"\b{match[1]}\b", text) for text in texts)]
 
 
 def roots(file, name, wanted):
@@ -191,9 +209,10 @@ def roots(file, name, wanted):
     source = Source(file)
     texts = source.clauses(name, wanted)
     cites = [(source, text) for text in texts + source.ghosts(texts)]
-    for ghost, trait in GHOSTS.items():
-        if trait != file and any(re.search(rf"\.{ghost}\b", text) for text in texts):
-            other = Source(trait)
+    left = {ghost: trait for ghost, trait in GHOSTS.items() if trait != file}
+    while found := [ghost for ghost in left if any(re.search(rf"\.{ghost}\b", text) for _, text in cites)]:
+        for ghost in found:
+            other = Source(left.pop(ghost))
             cites += [(other, text) for text in other.ghosts([ghost])]
     return [word for place, text in cites for word in cited(text, place)]
 
@@ -218,6 +237,12 @@ def files_of(label):
 
 def lines_of(label):
     return sum(lines(path_of(*file)) for file in promised(label).files)
+
+
+def needed_of(label):
+    """The lines of the definitions alone, without empty ones and comments."""
+    return sum(bool(line.strip()) for crate, module, name in promised(label).definitions
+               for line in words_of(crate, module).texts[name])
 
 
 @cache
@@ -286,7 +311,8 @@ def sums():
     for label, _, _, wanted in PROMISES:
         found = promised(label)
         clauses = ", ".join(f"`{clause}`" for clause in wanted.split()) or "all"
-        yield [label, clauses, str(files_of(label)), f"{lines_of(label):,}", str(len(found.types)), tables_of(found)]
+        yield [label, clauses, str(files_of(label)), f"{lines_of(label):,}", f"{needed_of(label):,}", str(len(found.types)),
+               tables_of(found)]
 
 
 def inline_functions():
@@ -299,17 +325,20 @@ def inline_functions():
 def beside():
     header, count = inline_functions()
     unsafe = len(re.findall(r"\bunsafe \{", (ROOT / "c/rust/src/lib.rs").read_text(encoding="utf-8")))
-    return table(["File", "Lines", "What it is", "By whom it's written"], (
-        ["`c/huqmeris.h`", f"{lines('c/huqmeris.h'):,}", "structs, numbers and prototypes", "`c/write.py`, of the sources"],
-        ["within it", str(header), f"{count} functions (`static inline`), which make places and items", "by hand in `c/write.py`, tested"],
-        ["`c/heap.c`", str(lines("c/heap.c")), "the three functions of memory, over `malloc`, `realloc` and `free`", "by hand, tested"],
-        ["`c/rust/src/sys.rs`", str(lines("c/rust/src/sys.rs")), "the same structs, numbers and prototypes for Rust", "`c/write.py`, of the sources"],
-        ["`c/rust/src/lib.rs`", str(lines("c/rust/src/lib.rs")), f"the crate over these, with {unsafe} `unsafe` blocks", "by hand, tested"],
-    ))
+    rows = (
+        ("c/huqmeris.h", "structs, numbers and prototypes", "`c/write.py`, of the sources"),
+        ("c/heap.c", "the three functions of memory, over `malloc`, `realloc` and `free`", "by hand, tested"),
+        ("c/rust/src/sys.rs", "the same structs, numbers and prototypes for Rust", "`c/write.py`, of the sources"),
+        ("c/rust/src/lib.rs", f"the crate over these, with {unsafe} `unsafe` blocks", "by hand, tested"),
+    )
+    shown = [[f"`{path}`", f"{lines(path):,}", what, by] for path, what, by in rows]
+    shown.insert(1, ["within it", str(header), f"{count} functions (`static inline`), which make places and items",
+                     "by hand in `c/write.py`, tested"])
+    return table(["File", "Lines", "What it is", "By whom it's written"], shown)
 
 
 PARTS = {
-    "sums": lambda: table(["Promise", "Clauses", "Files", "Lines", "Types", "Constants"], sums()),
+    "sums": lambda: table(["Promise", "Clauses", "Files", "Lines", "Needed", "Types", "Constants"], sums()),
     "files": matrix,
     "types": named_types,
     "beside": beside,
@@ -346,19 +375,34 @@ def strangers():
                 yield f"{label} is said in words of {path_of(crate, module)}, which Lib.antt has behind those to be believed"
 
 
+def unknown():
+    """Calls of README's table of promises that aren't among these, and clauses that they don't have."""
+    rows = re.findall(r"(?m)^\| [^|]* \| (`[^|]*) \|[^|]*\|$", (ROOT / "README.md").read_text(encoding="utf-8"))
+    for part in (part for row in rows for part in row.split(";")):
+        calls, _, clauses = part.partition(":")
+        for call in map(str.strip, calls.split(",")):
+            label = re.sub(r" of `\w+_\w+`$", "", call)
+            found = [promise for promise in PROMISES if promise[0] == label]
+            if found:
+                _, file, name, _ = found[0]
+                Source(file).clauses(name, " ".join(re.findall(r"`(\w+)`", clauses)))
+            else:
+                yield f"README.md promises something of {call}, which docs/words.py doesn't follow"
+
+
 def main(given):
     if given not in ([], ["--check"]):
         print(__doc__, file=sys.stderr)
         return 2
     try:
         stands = PAGE.read_text(encoding="utf-8")
-        told = sorted(set(strangers()))
+        told = sorted({*strangers(), *unknown()})
         text = written(stands) if not told else stands
     except Missing as lost:
         print(f"words: {lost}", file=sys.stderr)
         return 2
     if told:
-        print("\n".join([*told, f"words: {len(told)} aren't to be believed by Lib.antt"]))
+        print("\n".join([*told, f"words: {len(told)} differ"]))
         return 1
     if given:
         print(f"words: docs/TRUSTED.md is {'as the sources have it' if stands == text else 'not as the sources have it'}")
