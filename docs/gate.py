@@ -11,6 +11,7 @@ The status is 0 where the page is written, and 2 where something is refused: the
 import re
 import subprocess
 import sys
+import textwrap
 from pathlib import Path
 from typing import NamedTuple
 
@@ -22,8 +23,14 @@ MACHINE = re.compile(r"^gate: machine (.*)$", re.MULTILINE)
 STEP = re.compile(r"^gate: ended: (.*): status 0, (\d+) passed, ([\d.]+) s by the clock, ([\d.]+) s of processor time$", re.MULTILINE)
 CRATE = re.compile(r"^gate: crate (\w+): proof (\S+) s to (\S+) min, tests (\S+) s to (\S+) min, edits (\S+) s, memory (\S+) GB(, kept)?$", re.MULTILINE)
 ALL = re.compile(r"^gate: all: ([\d.]+) s by the clock, ([\d.]+) s of processor time$", re.MULTILINE)
+REFUSED = re.compile(r"; must-fail edits: (\d+) refused")
 LAST = re.compile(r"^(\d+) passed, 0 failed$")
 NOTHING = ("-", "0", "0.0")
+OF_CRATES = (
+    "Of `rt ci`, in seconds of the processor: the proof of each crate and, for a program, its compilation; its tests; its edits, with their "
+    "number. *Memory* is the most at once, and the last two columns are minutes by the clock, from its beginning. `-` is nothing, or what "
+    "the log doesn't tell; a column of which it tells nothing is left out."
+)
 
 
 class Refused(Exception):
@@ -68,6 +75,10 @@ def minutes(seconds):
     return f"{float(seconds) / 60:,.0f}"
 
 
+def filled(text):
+    return textwrap.fill(text, 130, break_long_words=False, break_on_hyphens=False)
+
+
 def shown(word):
     return "-" if word in NOTHING else f"{float(word):,.0f}"
 
@@ -77,6 +88,9 @@ def after(word):
 
 
 def table(head, rows):
+    """A table of the columns of which something is told."""
+    kept = [number for number in range(len(head)) if any(row[number] != "-" for row in rows)]
+    head, rows = [head[number] for number in kept], [[row[number] for number in kept] for row in rows]
     return ["| " + " | ".join(head) + " |", "|" + "---|" * len(head), *("| " + " | ".join(row) + " |" for row in rows)]
 
 
@@ -90,7 +104,7 @@ def of_crates(crates):
     rows = []
     for crate in sorted(crates, key=lambda crate: (-crate.seconds(), float(crate.proved_at) if crate.proved_at != "-" else 0, crate.name)):
         count = edits_of(crate.name)
-        edits = f"{shown(crate.edits)} ({count})" if count else "-"
+        edits = f"{shown(crate.edits)} ({count})".removeprefix("- ") if count else "-"
         memory = "-" if crate.memory in NOTHING else f"{float(crate.memory):.1f} GB"
         proved = "kept" if crate.kept else after(crate.proved_at)
         all_seconds = shown(str(crate.seconds()))
@@ -109,13 +123,13 @@ def page_of(text):
         raise Refused("the log has no line of a crate")
     kept = sum(bool(crate.kept) for crate in crates)
     from_nothing = "Nothing was kept from earlier runs" if not kept else f"{kept} of the {len(crates)} crates were kept from earlier runs, so they took nothing"
-    lines = [f"A run of commit `{commit[:8]}`, on {machine}. It took {minutes(whole[1])} minutes by the clock and {minutes(whole[2])} of processor time, and ended",
-             f"with `{last[0]}`. {from_nothing}.", ""]
+    refused = REFUSED.search(text)
+    edits = f" {refused[1]} must-fail edits were refused." if refused else ""
+    lines = [filled(f"A run of commit `{commit[:8]}`, on {machine}. It took {minutes(whole[1])} minutes by the clock and {minutes(whole[2])} of processor "
+                    f"time, and ended with `{last[0]}`.{edits} {from_nothing}."), ""]
     lines += table(["Step", "Passed", "Seconds by the clock", "Seconds of the processor"],
                    [[f"`{name}`", count, f"{float(clock):,.0f}", f"{float(processor):,.0f}"] for name, count, clock, processor in steps])
-    lines += ["", "Of `rt ci`, in seconds of the processor: the proof of each crate and, for a program, its compilation; its tests; its edits, with their",
-              "number. *Memory* is the most at once, and the last two columns are minutes by the clock. A line `-` is nothing, or what the log",
-              "doesn't have.", ""]
+    lines += ["", filled(OF_CRATES), ""]
     return "\n".join([*lines, *of_crates(crates)])
 
 
