@@ -22,7 +22,7 @@ from typing import NamedTuple
 FILE = Path(__file__).resolve().parent / "packages.txt"
 WITHOUT = "HUQMERIS_WITHOUT"
 PTRACE = "ptrace"
-SECONDS = 300
+SECONDS = 200
 
 
 class Refused(Exception):
@@ -79,18 +79,28 @@ def need(who, names, known):
     return 1 if missing else 0
 
 
-def install(names):
-    """Installs packages as far as that works here."""
-    words = ["apt-get", "-o", "Acquire::Retries=0", "-o", "Acquire::http::Timeout=20", "-o", "DPkg::Lock::Timeout=60"]
-    for verb in (["update"], ["install", "-y", "--no-install-recommends", *names]):
-        try:
-            done = subprocess.run([*words, *verb], env={**os.environ, "DEBIAN_FRONTEND": "noninteractive"}, stdin=subprocess.DEVNULL,
-                                  stdout=subprocess.PIPE, stderr=subprocess.STDOUT, text=True, timeout=SECONDS, check=False)
-            said = done.stdout.strip().splitlines()[-1:] if done.returncode else []
-        except (OSError, subprocess.TimeoutExpired) as why:
-            said = [str(why)]
-        if said:
-            print(f"packages: apt-get {' '.join(verb)}: {said[0]}", file=sys.stderr)
+def apt_get(*words):
+    """Runs apt-get, and tells where it fails."""
+    fixed = ["apt-get", "-o", "Acquire::Retries=0", "-o", "Acquire::http::Timeout=20", "-o", "DPkg::Lock::Timeout=60"]
+    env = {**os.environ, "DEBIAN_FRONTEND": "noninteractive"}
+    try:
+        done = subprocess.run([*fixed, *words], env=env, stdin=subprocess.DEVNULL, stdout=subprocess.PIPE, stderr=subprocess.STDOUT, text=True,
+                              timeout=SECONDS, check=False)
+        why = (done.stdout.strip().splitlines() or ["it says nothing"])[-1] if done.returncode else None
+    except (OSError, subprocess.TimeoutExpired) as error:
+        why = str(error)
+    if why:
+        print(f"packages: apt-get {' '.join(words)}: {why}", file=sys.stderr)
+
+
+def install(missing):
+    """Installs packages as far as that works here, the required ones first."""
+    if missing:
+        apt_get("update")
+    for is_required in (True, False):
+        names = [it.name for it in missing if it.is_required == is_required]
+        if names:
+            apt_get("install", "-y", "--no-install-recommends", *names)
 
 
 def missing_of(known):
@@ -101,10 +111,7 @@ def missing_of(known):
 def look(known, installs):
     """Lists what is missing, after an attempt to install it where that is wanted."""
     if installs and os.geteuid() == 0 and os.environ.get("CI"):
-        for is_required in (True, False):
-            names = [it.name for it in missing_of(known) if it.is_required == is_required]
-            if names:
-                install(names)
+        install(missing_of(known))
     for name in left_out(known):
         print(f"not run: what needs {name}, which {WITHOUT} leaves out")
     missing = missing_of(known)
