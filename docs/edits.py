@@ -14,7 +14,6 @@ The status is 0 where all of it holds, 1 where it doesn't, and 2 where the call 
 """
 import re
 import sys
-from collections import Counter
 from pathlib import Path
 from typing import NamedTuple
 
@@ -261,7 +260,9 @@ def look(root, told, rows, is_written):
     methods, wrong, wanted, crates = methods_of(root), [], {}, {}
     for path in sorted(root.glob("crates/*/must-fail/*.edit")):
         edit, name = read_edit(path), path.parent.parent.name
-        crate = crates.setdefault(name, None) or crates.update({name: Crate(root, name)}) or crates[name]
+        if name not in crates:
+            crates[name] = Crate(root, name)
+        crate = crates[name]
         problem = problem_of_line(edit, crate, methods)
         clause, seen = " ".join(edit.clause) if edit.clause else "", rows.get(edit.name, ("", ""))[1]
         if not problem and edit.name in told:
@@ -276,8 +277,15 @@ def look(root, told, rows, is_written):
 
 
 def differences(rows, wanted):
-    return [f"{PAGE}: {name} stands there otherwise: python3 docs/edits.py --write LOG" for name in sorted({*rows, *wanted})
-            if rows.get(name) != wanted.get(name)]
+    """What the page has otherwise than it is, and the goals alone that differ, which are no fault: a function's goals may be tried in another order."""
+    wrong, notes = [], []
+    for name in sorted({*rows, *wanted}):
+        old, new = rows.get(name, ("", "")), wanted.get(name, ("", ""))
+        if (old[0], old[1].split()[:1]) != (new[0], new[1].split()[:1]):
+            wrong.append(f"{PAGE}: {name} stands there otherwise: python3 docs/edits.py --write LOG")
+        elif old != new:
+            notes.append(f"note: {PAGE} has of {name} {old[1]}, and it's {new[1]}")
+    return wrong, notes
 
 
 def texts_of(names):
@@ -296,12 +304,14 @@ def main(words, root=Path(__file__).resolve().parent.parent):
     page = root / PAGE
     rows = page_lines(page.read_text(encoding="utf-8")) if page.exists() else {}
     wrong, wanted = look(root, tried_in(texts_of(names)), rows, is_written)
+    notes = []
     if is_written:
         page.write_text(page_of(wanted), encoding="utf-8")
     else:
-        wrong += differences(rows, wanted)
-    of = Counter(bool(seen) for _, seen in wanted.values())
-    print("\n".join([*wrong, f"{len(wanted)} edits, {of[True]} with what was seen, {len(wrong)} wrong"]))
+        moved, notes = differences(rows, wanted)
+        wrong += moved
+    seen = sum(bool(seen) for _, seen in wanted.values())
+    print("\n".join([*notes, *wrong, f"{len(wanted)} edits, {seen} with what was seen, {len(wrong)} wrong"]))
     return 1 if wrong else 0
 
 
