@@ -38,13 +38,14 @@ class Place(NamedTuple):
 
 
 class Function(NamedTuple):
-    """A function of a crate: its path, the file and lines of its text, the names of its `ensures`, and the trait that it is a method of."""
+    """A function of a crate: its path, the file and lines of its text, the names of its `ensures`, and the type and trait of a method."""
 
     path: str
     file: str
     first: int
     last: int
     clauses: tuple
+    of: str
     trait: str
 
 
@@ -59,7 +60,7 @@ class Edit(NamedTuple):
 # The functions of a crate.
 
 def names_of(kind, rest):
-    """The name of what a block is of (the type of an `impl`, a trait, or a module), and its trait's name."""
+    """The name of what a block is of (the type of an `impl`, a trait, or a module), and its trait's name; a module has none."""
     head = re.sub(r"\s*(?:\{|where\b).*", "", rest)
     while re.search(r"<[^<>]*>", head):
         head = re.sub(r"<[^<>]*>", "", head)
@@ -67,7 +68,7 @@ def names_of(kind, rest):
         *trait, of = [re.findall(r"\w+", it)[-1] for it in head.split(" for ")]
         return of, "".join(trait)
     name = re.search(r"\w+", head)[0]
-    return name, name if kind == "trait" else ""
+    return name, name if kind == "trait" else None
 
 
 def end_of(lines, at, indent):
@@ -105,11 +106,23 @@ def functions_in(file, module, text):
             last = end_of(lines, at, fn[1])
             within = [it for it in blocks if it[0] < indent]
             path = "::".join([*module, *[it[1] for it in within], fn[2]])
-            trait = within[-1][2] if within else ""
-            found.append(Function(path, file, at + 1, last + 1, clauses_of(lines, at, last), trait))
+            of, trait = within[-1][1:] if within and within[-1][2] is not None else ("", "")
+            found.append(Function(path, file, at + 1, last + 1, clauses_of(lines, at, last), of, trait))
         elif block and line.rstrip().endswith("{"):
             blocks.append((indent, *names_of(block[2], block[3])))
     return found
+
+
+def is_proof_of(folder, function):
+    """Whether the proof of a function stands in a folder below proofs/: a method's in one named by its type and trait."""
+    names = [it.lstrip("+") for it in folder]
+    if not function.of or len(names) < 2:
+        return "::".join(names) == function.path
+    if function.trait in ("", function.of):
+        is_of = names[-2] == function.of
+    else:
+        is_of = names[-2].startswith((function.of, "Any")) and function.trait in names[-2]
+    return is_of and function.path.split("::")[-1] == names[-1]
 
 
 class Crate:
@@ -141,8 +154,8 @@ class Crate:
             lines = []
         words = [re.match(r"(?:abbrev )?(?:pub )?([^\s:=]+) :", it) for it in lines]
         goal = next((it[1] for it in reversed(words) if it), "")
-        parts = Path(file).parts[1:-1]
-        return Place("::".join(parts), goal) if self.named("::".join(parts)) else Place(file, goal)
+        found = [it.path for it in self.functions if is_proof_of(Path(file).parts[1:-1], it)]
+        return Place(found[0] if found else file, goal)
 
     def place(self, said):
         """The place of the first error that rt tells, or None where it tells none."""

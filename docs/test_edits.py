@@ -54,6 +54,11 @@ helper : (a : N) -> a
 helper a = refl
 """
 
+PUT = """
+pub returns-clause-step : goal.returns-clause-step
+returns-clause-step c = search rules
+"""
+
 TOLD = "it is not proved that what the function ensures holds when it returns"
 REFUSED = "refused, as it must be"
 AT_REACHES, AT_ROUND = f"{REFUSED}: note: src/rounds.rt:4:1: {TOLD}", f"{REFUSED}: note: src/rounds.rt:17:5: {TOLD}"
@@ -74,8 +79,9 @@ CASES = {
     "an attribute's line": ("# clause: Buffer::put beside", f"{REFUSED}: note: src/rounds.rt:12:5: {TOLD} (`returns-clause-beside`)", ""),
     "a loop's invariant": ("# clause: Buffer::round grew", f"{REFUSED}: note: src/rounds.rt:20:9: the loop (`loop-n-preserved`)", ""),
     "what a call requires": ("# clause: reaches put-requires", f"{REFUSED}: note: src/rounds.rt:8:5: a call (`put-requires-else-end`)", ""),
-    "a stored proof's goal": ("# clause: Buffer::round grew", f"{REFUSED}: ./proofs/rounds/Buffer/round/Answers.antt:5:4: error: no", ""),
-    "a lemma beside it": ("# clause: Buffer::round grew", f"{REFUSED}: ./proofs/rounds/Buffer/round/Answers.antt:8:4: error: no", "it names Buffer::round grew, and"),
+    "a stored proof's goal": ("# clause: Buffer::round grew", f"{REFUSED}: ./proofs/rounds/BufferSink/round/Answers.antt:5:4: error: no", ""),
+    "a stored proof of a trait's method": ("# clause: Buffer::put step", f"{REFUSED}: ./proofs/rounds/BufferSink/put/Answers.antt:3:4: error", ""),
+    "a lemma beside it": ("# clause: Buffer::round grew", f"{REFUSED}: ./proofs/rounds/BufferSink/round/Answers.antt:8:4: error: no", "it names Buffer::round grew, and"),
     "a lemma's file": ("# clause: Buffer::round grew", f"{REFUSED}: proofs/Lemmas.antt:1:1: error: no", "it names Buffer::round grew, and"),
     "no place": ("# clause: reaches ensures", REFUSED, "rt tells no place"),
     "a name that is gone": ("# clause: reaches ensures", f"{REFUSED} ({LESS}): ./proofs/x/Answers.antt:1:1: e", "rt says less: only because a proof"),
@@ -155,7 +161,8 @@ def main():
     with tempfile.TemporaryDirectory() as folder:
         tests = Tests(Path(folder))
         tests.write("crates/x/src/rounds.rt", SOURCE)
-        tests.write("crates/x/proofs/rounds/Buffer/round/Answers.antt", ANSWERS)
+        tests.write("crates/x/proofs/rounds/BufferSink/round/Answers.antt", ANSWERS)
+        tests.write("crates/x/proofs/rounds/BufferSink/put/Answers.antt", PUT)
         tests.write("docs/none", "")
         tests.judges()
         tests.keeps_a_page()
