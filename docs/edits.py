@@ -19,22 +19,28 @@ from typing import NamedTuple
 
 PAGE = "docs/edits.txt"
 HEAD = """# Which clause each must-fail edit names, and where the prover's first error stands: the function and its goal. A goal ends with
-# the clause's name where it is proved clause by clause. Written by docs/edits.py of what rt printed.
+# the clause's name where it is proved clause by clause. Where a stored proof answers the goal, the error is that it doesn't any
+# more. Written by docs/edits.py of what rt printed.
 """
 TRIED = re.compile(r"(?:rt: )?must-fail (\w+)/([\w.-]+)\.edit: (.*)")
 PLACE = re.compile(r"(?:note: )?(?:\./)?((?:src|proofs)/\S+?):(\d+):\d+: (.*)")
 FN = re.compile(r'( *)(?:pub(?:\([\w ]+\))? |unsafe |const |final |ghost |extern "C" )*fn (\w+)')
 BLOCK = re.compile(r"( *)(?:pub(?:\([\w ]+\))? |unsafe )*(impl|trait|mod)\b(.*)")
 CLAUSE = re.compile(r" *(?:requires|ensures)\*? (?:(\w+) )?\{")
+STORED = ", as its stored proof has it"
 # The goals of a loop, which stand for the clauses of its function.
 OF_LOOP = re.compile(r"(?:invariant_of|.*-(?:init|preserved|smaller)\b)")
 
 
 class Place(NamedTuple):
-    """Where an error stands: a function (or a lemma's file) and a goal of it."""
+    """Where an error stands: a function (or a lemma's file) and a goal of it, which is answered in a file of proofs/ or is open."""
 
     function: str
     goal: str
+    is_stored: bool = False
+
+    def text(self):
+        return f"{self.function} {self.goal}{STORED if self.is_stored else ''}"
 
 
 class Function(NamedTuple):
@@ -155,7 +161,7 @@ class Crate:
         words = [re.match(r"(?:abbrev )?(?:pub )?([^\s:=]+) :", it) for it in lines]
         goal = next((it[1] for it in reversed(words) if it), "")
         found = [it.path for it in self.functions if is_proof_of(Path(file).parts[1:-1], it)]
-        return Place(found[0] if found else file, goal)
+        return Place(found[0] if found else file, goal, True)
 
     def place(self, said):
         """The place of the first error that rt tells, or None where it tells none."""
@@ -277,10 +283,10 @@ def look(root, told, rows, is_written):
             crates[name] = Crate(root, name)
         crate = crates[name]
         problem = problem_of_line(edit, crate, methods)
-        clause, seen = " ".join(edit.clause) if edit.clause else "", rows.get(edit.name, ("", ""))[1]
+        clause, seen = edit.clause.text() if edit.clause else "", rows.get(edit.name, ("", ""))[1]
         if not problem and edit.name in told:
             problem, place = problem_of_seen(edit, crate, methods, told[edit.name])
-            seen = " ".join(place) if place else seen
+            seen = place.text() if place else seen
         elif not problem and told and not is_written:
             problem = "no log has it"
         if problem:
@@ -323,8 +329,9 @@ def main(words, root=Path(__file__).resolve().parent.parent):
     else:
         moved, notes = differences(rows, wanted)
         wrong += moved
-    seen = sum(bool(seen) for _, seen in wanted.values())
-    print("\n".join([*notes, *wrong, f"{len(wanted)} edits, {seen} with what was seen, {len(wrong)} wrong"]))
+    seen = [it for _, it in wanted.values() if it]
+    stored = sum(it.endswith(STORED) for it in seen)
+    print("\n".join([*notes, *wrong, f"{len(wanted)} edits, {len(seen)} with what was seen, {stored} of these at a stored proof, {len(wrong)} wrong"]))
     return 1 if wrong else 0
 
 
