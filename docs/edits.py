@@ -1,9 +1,10 @@
 #!/usr/bin/env python3
 """Tells whether each must-fail edit is refused by the clause that it names.
 
-An edit (crates/*/must-fail/*.edit) begins with a line `# clause: FUNCTION CLAUSE`: the function whose contract has to refuse it, by
-as much of its path as tells it from others, and the name of its `ensures` (`ensures` where it has none, or the first word of the
-prover's goal, such as `overflow_add`). Where the first error stands elsewhere, a line `# seen: FUNCTION CLAUSE: REASON` says so.
+An edit (crates/*/must-fail/*.edit) begins with a line `# clause: FUNCTION CLAUSE`: the function whose contract has to refuse
+it, by as much of its path as tells it from others, and the name of its `ensures` (`ensures` where it has none, or the first
+word of the prover's goal, such as `overflow_add`). Where the first error stands elsewhere, a line
+`# seen: FUNCTION CLAUSE: REASON` says so.
 
 usage, at the top:
   python3 docs/edits.py              each edit has its line, the clause is there, and docs/edits.txt has the edit so
@@ -18,22 +19,24 @@ from pathlib import Path
 from typing import NamedTuple
 
 PAGE = "docs/edits.txt"
-HEAD = """# Which clause each must-fail edit names, and where the prover's first error stands: the function and its goal. A goal ends with
-# the clause's name where it is proved clause by clause. Where a stored proof answers the goal, the error is that it doesn't any
-# more. Written by docs/edits.py of what rt printed.
+HEAD = """# Which clause each must-fail edit names, and where the prover's first error stands: the function and its goal. A goal ends
+# with the clause's name where it is proved clause by clause. Where a stored proof answers the goal, the error is that it
+# doesn't any more. Written by docs/edits.py of what rt printed.
 """
 TRIED = re.compile(r"(?:rt: )?must-fail (\w+)/([\w.-]+)\.edit: (.*)")
 PLACE = re.compile(r"(?:note: )?(?:\./)?((?:src|proofs)/\S+?):(\d+):\d+: (.*)")
 FN = re.compile(r'( *)(?:pub(?:\([\w ]+\))? |unsafe |const |final |ghost |extern "C" )*fn (\w+)')
 BLOCK = re.compile(r"( *)(?:pub(?:\([\w ]+\))? |unsafe )*(impl|trait|mod)\b(.*)")
 CLAUSE = re.compile(r" *(?:requires|ensures)\*? (?:(\w+) )?\{")
-STORED = ", as its stored proof has it"
+UNSEEN, STORED = "not seen yet", ", as its stored proof has it"
 # The goals of a loop, which stand for the clauses of its function.
 OF_LOOP = re.compile(r"(?:invariant_of|.*-(?:init|preserved|smaller)\b)")
+# What an edit can name beside an `ensures`.
+OTHER_GOAL = re.compile(r"[\w:]+-requires|overflow_|nonzero_|bounds|slice_bounds|offset_bounds")
 
 
 class Place(NamedTuple):
-    """Where an error stands: a function (or a lemma's file) and a goal of it, which is answered in a file of proofs/ or is open."""
+    """Where an error stands: a function (or a lemma's file) and a goal of it, which is open, or answered in a file of proofs/."""
 
     function: str
     goal: str
@@ -44,7 +47,7 @@ class Place(NamedTuple):
 
 
 class Function(NamedTuple):
-    """A function of a crate: its path, the file and lines of its text, the names of its `ensures`, and the type and trait of a method."""
+    """A function of a crate: its path, its file and lines, the names of its `ensures`, and a method's type and trait."""
 
     path: str
     file: str
@@ -221,8 +224,7 @@ def problem_of_line(edit, crate, methods):
     if not crate.named(edit.clause.function):
         return f"there is no function {edit.clause.function}"
     clauses = clauses_at(crate, methods, edit.clause.function)
-    is_goal = re.match(r"[\w:]+-requires|overflow_|nonzero_|bounds|slice_bounds|invariant_of|\S+-(?:init|preserved|smaller)$", edit.clause.goal)
-    if edit.clause.goal not in clauses and not is_goal:
+    if edit.clause.goal not in clauses and not OTHER_GOAL.match(edit.clause.goal):
         return f"{edit.clause.function} has no clause {edit.clause.goal}"
     return None
 
@@ -238,7 +240,8 @@ def problem_of_seen(edit, crate, methods, said):
     if place is None:
         return "rt tells no place", None
     wanted = edit.seen or edit.clause
-    if not is_of(place.function, wanted.function) or not is_clause(place.goal, wanted.goal, clauses_at(crate, methods, wanted.function)):
+    clauses = clauses_at(crate, methods, wanted.function)
+    if not is_of(place.function, wanted.function) or not is_clause(place.goal, wanted.goal, clauses):
         return f"it names {wanted.function} {wanted.goal}, and the first error is at {place.function} {place.goal}", place
     return None, place
 
@@ -251,12 +254,12 @@ def page_lines(text):
     for line in text.split("\n"):
         match = re.match(r"(\S+): (\S+ \S+); (.*)$", line)
         if match:
-            found[match[1]] = (match[2], match[3])
+            found[match[1]] = (match[2], "" if match[3] == UNSEEN else match[3])
     return found
 
 
 def page_of(rows):
-    return HEAD + "".join(f"{name}: {clause}; {seen}\n" for name, (clause, seen) in sorted(rows.items()))
+    return HEAD + "".join(f"{name}: {clause}; {seen or UNSEEN}\n" for name, (clause, seen) in sorted(rows.items()))
 
 
 def tried_in(texts):
@@ -296,14 +299,15 @@ def look(root, told, rows, is_written):
 
 
 def differences(rows, wanted):
-    """What the page has otherwise than it is, and the goals alone that differ, which are no fault: a function's goals may be tried in another order."""
+    """What the page has otherwise than it is, and what is no fault: nothing seen yet, or another goal of the same function,
+    since the prover may try these in another order."""
     wrong, notes = [], []
     for name in sorted({*rows, *wanted}):
-        old, new = rows.get(name, ("", "")), wanted.get(name, ("", ""))
-        if (old[0], old[1].split()[:1]) != (new[0], new[1].split()[:1]):
+        old, new = rows.get(name), wanted.get(name)
+        if not old or not new or old[0] != new[0] or old[1] and old[1].split()[0] != new[1].split()[0]:
             wrong.append(f"{PAGE}: {name} stands there otherwise: python3 docs/edits.py --write LOG")
-        elif old != new:
-            notes.append(f"note: {PAGE} has of {name} {old[1]}, and it's {new[1]}")
+        elif old[1] != new[1]:
+            notes.append(f"note: {PAGE} has of {name} {old[1] or UNSEEN}, and it's {new[1]}")
     return wrong, notes
 
 
@@ -331,7 +335,8 @@ def main(words, root=Path(__file__).resolve().parent.parent):
         wrong += moved
     seen = [it for _, it in wanted.values() if it]
     stored = sum(it.endswith(STORED) for it in seen)
-    print("\n".join([*notes, *wrong, f"{len(wanted)} edits, {len(seen)} with what was seen, {stored} of these at a stored proof, {len(wrong)} wrong"]))
+    last = f"{len(wanted)} edits, {len(seen)} with what was seen, {stored} of these at a stored proof, {len(wrong)} wrong"
+    print("\n".join([*notes, *wrong, last]))
     return 1 if wrong else 0
 
 

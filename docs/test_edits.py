@@ -62,30 +62,56 @@ returns-clause-step c = search rules
 TOLD = "it is not proved that what the function ensures holds when it returns"
 REFUSED = "refused, as it must be"
 AT_REACHES, AT_ROUND = f"{REFUSED}: note: src/rounds.rt:4:1: {TOLD}", f"{REFUSED}: note: src/rounds.rt:17:5: {TOLD}"
-LESS = "only because a proof file names what the edit took away, so this says little of the contract: change a value and keep the names"
+LESS = "only because a proof file names what the edit took away, so this says little of the contract"
 
 # The edit's own lines, what rt says of it, and how edits.py's sentence begins, if it has one.
 CASES = {
     "a lone clause": ("# clause: reaches ensures", f"{AT_REACHES} (`returns`); the facts", ""),
     "a branch of it": ("# clause: rounds::reaches ensures", f"{AT_REACHES} (`returns-else-end`); the", ""),
     "a clause by name": ("# clause: Buffer::round settled", f"{AT_ROUND} (`returns-then-a-clause-settled`)", ""),
-    "another clause": ("# clause: Buffer::round settled", f"{AT_ROUND} (`returns-clause-grew`)", "it names Buffer::round settled, and"),
+    "another clause": (
+        "# clause: Buffer::round settled",
+        f"{AT_ROUND} (`returns-clause-grew`)", "it names Buffer::round settled, and"),
     "clauses proved together": ("# clause: Buffer::round grew", f"{AT_ROUND} (`returns`); `sea", ""),
     "a goal that is cut off": ("# clause: reaches ensures", f"{AT_REACHES} (`returns-else-en", ""),
     "another function": ("# clause: reaches ensures", f"{AT_ROUND} (`returns`)", "it names reaches ensures, and"),
-    "seen elsewhere, with a reason": ("# clause: Buffer::round grew\n# seen: reaches ensures: it is called first", f"{AT_REACHES} (`returns`)", ""),
-    "seen elsewhere, without one": ("# clause: Buffer::round grew\n# seen: reaches ensures:", f"{AT_REACHES} (`returns`)", "it names Buffer::round grew, and"),
-    "a clause of its trait": ("# clause: Buffer::put step", f"{REFUSED}: note: src/rounds.rt:13:5: {TOLD} (`returns-clause-step`)", ""),
-    "an attribute's line": ("# clause: Buffer::put beside", f"{REFUSED}: note: src/rounds.rt:12:5: {TOLD} (`returns-clause-beside`)", ""),
-    "a loop's invariant": ("# clause: Buffer::round grew", f"{REFUSED}: note: src/rounds.rt:20:9: the loop (`loop-n-preserved`)", ""),
-    "what a call requires": ("# clause: reaches put-requires", f"{REFUSED}: note: src/rounds.rt:8:5: a call (`put-requires-else-end`)", ""),
-    "a stored proof's goal": ("# clause: Buffer::round grew", f"{REFUSED}: ./proofs/rounds/BufferSink/round/Answers.antt:5:4: error: no", ""),
-    "a stored proof of a trait's method": ("# clause: Buffer::put step", f"{REFUSED}: ./proofs/rounds/BufferSink/put/Answers.antt:3:4: error", ""),
-    "a lemma beside it": ("# clause: Buffer::round grew", f"{REFUSED}: ./proofs/rounds/BufferSink/round/Answers.antt:8:4: error: no", "it names Buffer::round grew, and"),
-    "a lemma's file": ("# clause: Buffer::round grew", f"{REFUSED}: proofs/Lemmas.antt:1:1: error: no", "it names Buffer::round grew, and"),
+    "seen elsewhere, with a reason": (
+        "# clause: Buffer::round grew\n# seen: reaches ensures: it is called first",
+        f"{AT_REACHES} (`returns`)", ""),
+    "seen elsewhere, without one": (
+        "# clause: Buffer::round grew\n# seen: reaches ensures:",
+        f"{AT_REACHES} (`returns`)", "it names Buffer::round grew, and"),
+    "a clause of its trait": (
+        "# clause: Buffer::put step",
+        f"{REFUSED}: note: src/rounds.rt:13:5: {TOLD} (`returns-clause-step`)", ""),
+    "an attribute's line": (
+        "# clause: Buffer::put beside",
+        f"{REFUSED}: note: src/rounds.rt:12:5: {TOLD} (`returns-clause-beside`)", ""),
+    "a loop's invariant": (
+        "# clause: Buffer::round grew",
+        f"{REFUSED}: note: src/rounds.rt:20:9: the loop (`loop-n-preserved`)", ""),
+    "what a call requires": (
+        "# clause: reaches put-requires",
+        f"{REFUSED}: note: src/rounds.rt:8:5: a call (`put-requires-else-end`)", ""),
+    "a stored proof's goal": (
+        "# clause: Buffer::round grew",
+        f"{REFUSED}: ./proofs/rounds/BufferSink/round/Answers.antt:5:4: error: no", ""),
+    "a stored proof of a trait's method": (
+        "# clause: Buffer::put step",
+        f"{REFUSED}: ./proofs/rounds/BufferSink/put/Answers.antt:3:4: error", ""),
+    "a lemma beside it": (
+        "# clause: Buffer::round grew",
+        f"{REFUSED}: ./proofs/rounds/BufferSink/round/Answers.antt:8:4: error: no", "it names Buffer::round grew, and"),
+    "a lemma's file": (
+        "# clause: Buffer::round grew",
+        f"{REFUSED}: proofs/Lemmas.antt:1:1: error: no", "it names Buffer::round grew, and"),
     "no place": ("# clause: reaches ensures", REFUSED, "rt tells no place"),
-    "a name that is gone": ("# clause: reaches ensures", f"{REFUSED} ({LESS}): ./proofs/x/Answers.antt:1:1: e", "rt says less: only because a proof"),
-    "a limit": ("# clause: reaches ensures", f"{REFUSED} (only by a limit of the prover): src/rounds.rt:4:1: error", "rt says less: only by a limit"),
+    "a name that is gone": (
+        "# clause: reaches ensures",
+        f"{REFUSED} ({LESS}): ./proofs/x/Answers.antt:1:1: e", "rt says less: only because a proof"),
+    "a limit": (
+        "# clause: reaches ensures",
+        f"{REFUSED} (only by a limit of the prover): src/rounds.rt:4:1: error", "rt says less: only by a limit"),
     "an edit that is still proved": ("# clause: reaches ensures", "NOT REFUSED: the crate is still proved", "NOT REFUSED"),
     "a bad edit": ("# clause: reaches ensures", "BAD EDIT: it has no 'old:'", "BAD EDIT"),
     "no line": ("", f"{AT_REACHES} (`returns`)", "it has no line"),
@@ -120,6 +146,9 @@ class Tests:
                 status = ended.code
         return status, out.getvalue(), err.getvalue()
 
+    def page(self):
+        return (self.root / edits.PAGE).read_text(encoding="utf-8")
+
     def judges(self):
         """Each case alone: what is told of it."""
         for what, (lines, said, problem) in CASES.items():
@@ -138,8 +167,7 @@ class Tests:
         log = self.write("log", f"rt: must-fail x/one.edit: {AT_REACHES} (`returns`)\n")
         self.holds("a page that lacks an edit is told", self.run(log)[0] == 1, self.run(log))
         self.holds("the page is written", self.run("--write", log)[0] == 0)
-        page = (self.root / edits.PAGE).read_text(encoding="utf-8")
-        self.holds("it has what was seen", "\nx/one: reaches ensures; rounds::reaches returns\n" in page, page)
+        self.holds("it has what was seen", "\nx/one: reaches ensures; rounds::reaches returns\n" in self.page(), self.page())
         self.holds("then all holds", self.run(log)[0] == self.run()[0] == 0, self.run(log))
         other = self.write("other", f"rt: must-fail x/one.edit: {AT_REACHES} (`returns-else-end`)\n")
         status, out, _ = self.run(other)
@@ -147,7 +175,12 @@ class Tests:
         self.write("crates/x/must-fail/two.edit", "# clause: reaches ensures\nfile: src/rounds.rt\nold: a\nnew: b\n")
         self.holds("an edit that no log has is told", "x/two: no log has it" in self.run(log)[1])
         self.holds("an edit that the page lacks is told", "docs/edits.txt: x/two stands there otherwise" in self.run()[1])
+        self.run("--write", log)
+        is_so = self.run()[0] == 0 and "x/two: reaches ensures; not seen yet\n" in self.page()
+        self.holds("an edit that wasn't seen is kept so", is_so, self.page())
         (self.root / "crates/x/must-fail/two.edit").unlink()
+        self.holds("an edit that went is told", self.run(log)[0] == 1)
+        self.run("--write", log)
         self.write("crates/x/must-fail/one.edit", "# clause: reaches ensure\nfile: src/rounds.rt\nold: a\nnew: b\n")
         self.holds("a line that changed is told without a log", "has no clause ensure" in self.run()[1])
 
