@@ -1,9 +1,10 @@
 #!/usr/bin/env python3
 """Tells whether each must-fail edit is refused by the clause that it names.
 
-An edit (crates/*/must-fail/*.edit) begins with a line `# clause: FUNCTION CLAUSE`: the function whose contract has to refuse it, by
-as much of its path as tells it from others, and the name of its `ensures` (`ensures` where it has none, or the first word of the
-prover's goal, such as `overflow_add`). Where the first error stands elsewhere, a line `# seen: FUNCTION CLAUSE: REASON` says so.
+An edit (crates/*/must-fail/*.edit) begins with a line `# clause: FUNCTION CLAUSE`: the function whose contract has to refuse
+it, by as much of its path as tells it from others, and the name of its `ensures` (`ensures` where it has none, or the first
+word of the prover's goal, such as `overflow_add`). Where the first error stands elsewhere, a line
+`# seen: FUNCTION CLAUSE: REASON` says so.
 
 usage, at the top:
   python3 docs/edits.py              each edit has its line, the clause is there, and docs/edits.txt has the edit so
@@ -14,38 +15,46 @@ The status is 0 where all of it holds, 1 where it doesn't, and 2 where the call 
 """
 import re
 import sys
-from collections import Counter
 from pathlib import Path
 from typing import NamedTuple
 
 PAGE = "docs/edits.txt"
-HEAD = """# Which clause each must-fail edit names, and where the prover's first error stands: the function and its goal. A goal ends with
-# the clause's name where it is proved clause by clause. Written by docs/edits.py of what rt printed.
+HEAD = """# Which clause each must-fail edit names, and where the prover's first error stands: the function and its goal. A goal ends
+# with the clause's name where it is proved clause by clause. Where a stored proof answers the goal, the error is that it
+# doesn't any more. Written by docs/edits.py of what rt printed.
 """
 TRIED = re.compile(r"(?:rt: )?must-fail (\w+)/([\w.-]+)\.edit: (.*)")
 PLACE = re.compile(r"(?:note: )?(?:\./)?((?:src|proofs)/\S+?):(\d+):\d+: (.*)")
 FN = re.compile(r'( *)(?:pub(?:\([\w ]+\))? |unsafe |const |final |ghost |extern "C" )*fn (\w+)')
 BLOCK = re.compile(r"( *)(?:pub(?:\([\w ]+\))? |unsafe )*(impl|trait|mod)\b(.*)")
 CLAUSE = re.compile(r" *(?:requires|ensures)\*? (?:(\w+) )?\{")
+UNSEEN, STORED = "not seen yet", ", as its stored proof has it"
 # The goals of a loop, which stand for the clauses of its function.
 OF_LOOP = re.compile(r"(?:invariant_of|.*-(?:init|preserved|smaller)\b)")
+# What an edit can name beside an `ensures`.
+OTHER_GOAL = re.compile(r"[\w:]+-requires|overflow_|nonzero_|bounds|slice_bounds|offset_bounds")
 
 
 class Place(NamedTuple):
-    """Where an error stands: a function (or a lemma's file) and a goal of it."""
+    """Where an error stands: a function (or a lemma's file) and a goal of it, which is open, or answered in a file of proofs/."""
 
     function: str
     goal: str
+    is_stored: bool = False
+
+    def text(self):
+        return f"{self.function} {self.goal}{STORED if self.is_stored else ''}"
 
 
 class Function(NamedTuple):
-    """A function of a crate: its path, the file and lines of its text, the names of its `ensures`, and the trait that it is a method of."""
+    """A function of a crate: its path, its file and lines, the names of its `ensures`, and a method's type and trait."""
 
     path: str
     file: str
     first: int
     last: int
     clauses: tuple
+    of: str
     trait: str
 
 
@@ -60,7 +69,7 @@ class Edit(NamedTuple):
 # The functions of a crate.
 
 def names_of(kind, rest):
-    """The name of what a block is of (the type of an `impl`, a trait, or a module), and its trait's name."""
+    """The name of what a block is of (the type of an `impl`, a trait, or a module), and its trait's name; a module has none."""
     head = re.sub(r"\s*(?:\{|where\b).*", "", rest)
     while re.search(r"<[^<>]*>", head):
         head = re.sub(r"<[^<>]*>", "", head)
@@ -68,7 +77,7 @@ def names_of(kind, rest):
         *trait, of = [re.findall(r"\w+", it)[-1] for it in head.split(" for ")]
         return of, "".join(trait)
     name = re.search(r"\w+", head)[0]
-    return name, name if kind == "trait" else ""
+    return name, name if kind == "trait" else None
 
 
 def end_of(lines, at, indent):
@@ -106,11 +115,23 @@ def functions_in(file, module, text):
             last = end_of(lines, at, fn[1])
             within = [it for it in blocks if it[0] < indent]
             path = "::".join([*module, *[it[1] for it in within], fn[2]])
-            trait = within[-1][2] if within else ""
-            found.append(Function(path, file, at + 1, last + 1, clauses_of(lines, at, last), trait))
+            of, trait = within[-1][1:] if within and within[-1][2] is not None else ("", "")
+            found.append(Function(path, file, at + 1, last + 1, clauses_of(lines, at, last), of, trait))
         elif block and line.rstrip().endswith("{"):
             blocks.append((indent, *names_of(block[2], block[3])))
     return found
+
+
+def is_proof_of(folder, function):
+    """Whether the proof of a function stands in a folder below proofs/: a method's in one named by its type and trait."""
+    names = [it.lstrip("+") for it in folder]
+    if not function.of or len(names) < 2:
+        return "::".join(names) == function.path
+    if function.trait in ("", function.of):
+        is_of = names[-2] == function.of
+    else:
+        is_of = names[-2].startswith((function.of, "Any")) and function.trait in names[-2]
+    return is_of and function.path.split("::")[-1] == names[-1]
 
 
 class Crate:
@@ -142,8 +163,8 @@ class Crate:
             lines = []
         words = [re.match(r"(?:abbrev )?(?:pub )?([^\s:=]+) :", it) for it in lines]
         goal = next((it[1] for it in reversed(words) if it), "")
-        parts = Path(file).parts[1:-1]
-        return Place("::".join(parts), goal) if self.named("::".join(parts)) else Place(file, goal)
+        found = [it.path for it in self.functions if is_proof_of(Path(file).parts[1:-1], it)]
+        return Place(found[0] if found else file, goal, True)
 
     def place(self, said):
         """The place of the first error that rt tells, or None where it tells none."""
@@ -203,8 +224,7 @@ def problem_of_line(edit, crate, methods):
     if not crate.named(edit.clause.function):
         return f"there is no function {edit.clause.function}"
     clauses = clauses_at(crate, methods, edit.clause.function)
-    is_goal = re.match(r"[\w:]+-requires|overflow_|nonzero_|bounds|slice_bounds|invariant_of|\S+-(?:init|preserved|smaller)$", edit.clause.goal)
-    if edit.clause.goal not in clauses and not is_goal:
+    if edit.clause.goal not in clauses and not OTHER_GOAL.match(edit.clause.goal):
         return f"{edit.clause.function} has no clause {edit.clause.goal}"
     return None
 
@@ -220,7 +240,8 @@ def problem_of_seen(edit, crate, methods, said):
     if place is None:
         return "rt tells no place", None
     wanted = edit.seen or edit.clause
-    if not is_of(place.function, wanted.function) or not is_clause(place.goal, wanted.goal, clauses_at(crate, methods, wanted.function)):
+    clauses = clauses_at(crate, methods, wanted.function)
+    if not is_of(place.function, wanted.function) or not is_clause(place.goal, wanted.goal, clauses):
         return f"it names {wanted.function} {wanted.goal}, and the first error is at {place.function} {place.goal}", place
     return None, place
 
@@ -233,12 +254,12 @@ def page_lines(text):
     for line in text.split("\n"):
         match = re.match(r"(\S+): (\S+ \S+); (.*)$", line)
         if match:
-            found[match[1]] = (match[2], match[3])
+            found[match[1]] = (match[2], "" if match[3] == UNSEEN else match[3])
     return found
 
 
 def page_of(rows):
-    return HEAD + "".join(f"{name}: {clause}; {seen}\n" for name, (clause, seen) in sorted(rows.items()))
+    return HEAD + "".join(f"{name}: {clause}; {seen or UNSEEN}\n" for name, (clause, seen) in sorted(rows.items()))
 
 
 def tried_in(texts):
@@ -261,12 +282,14 @@ def look(root, told, rows, is_written):
     methods, wrong, wanted, crates = methods_of(root), [], {}, {}
     for path in sorted(root.glob("crates/*/must-fail/*.edit")):
         edit, name = read_edit(path), path.parent.parent.name
-        crate = crates.setdefault(name, None) or crates.update({name: Crate(root, name)}) or crates[name]
+        if name not in crates:
+            crates[name] = Crate(root, name)
+        crate = crates[name]
         problem = problem_of_line(edit, crate, methods)
-        clause, seen = " ".join(edit.clause) if edit.clause else "", rows.get(edit.name, ("", ""))[1]
+        clause, seen = edit.clause.text() if edit.clause else "", rows.get(edit.name, ("", ""))[1]
         if not problem and edit.name in told:
             problem, place = problem_of_seen(edit, crate, methods, told[edit.name])
-            seen = " ".join(place) if place else seen
+            seen = place.text() if place else seen
         elif not problem and told and not is_written:
             problem = "no log has it"
         if problem:
@@ -276,8 +299,16 @@ def look(root, told, rows, is_written):
 
 
 def differences(rows, wanted):
-    return [f"{PAGE}: {name} stands there otherwise: python3 docs/edits.py --write LOG" for name in sorted({*rows, *wanted})
-            if rows.get(name) != wanted.get(name)]
+    """What the page has otherwise than it is, and what is no fault: nothing seen yet, or another goal of the same function,
+    since the prover may try these in another order."""
+    wrong, notes = [], []
+    for name in sorted({*rows, *wanted}):
+        old, new = rows.get(name), wanted.get(name)
+        if not old or not new or old[0] != new[0] or old[1] and old[1].split()[0] != new[1].split()[0]:
+            wrong.append(f"{PAGE}: {name} stands there otherwise: python3 docs/edits.py --write LOG")
+        elif old[1] != new[1]:
+            notes.append(f"note: {PAGE} has of {name} {old[1] or UNSEEN}, and it's {new[1]}")
+    return wrong, notes
 
 
 def texts_of(names):
@@ -296,12 +327,16 @@ def main(words, root=Path(__file__).resolve().parent.parent):
     page = root / PAGE
     rows = page_lines(page.read_text(encoding="utf-8")) if page.exists() else {}
     wrong, wanted = look(root, tried_in(texts_of(names)), rows, is_written)
+    notes = []
     if is_written:
         page.write_text(page_of(wanted), encoding="utf-8")
     else:
-        wrong += differences(rows, wanted)
-    of = Counter(bool(seen) for _, seen in wanted.values())
-    print("\n".join([*wrong, f"{len(wanted)} edits, {of[True]} with what was seen, {len(wrong)} wrong"]))
+        moved, notes = differences(rows, wanted)
+        wrong += moved
+    seen = [it for _, it in wanted.values() if it]
+    stored = sum(it.endswith(STORED) for it in seen)
+    last = f"{len(wanted)} edits, {len(seen)} with what was seen, {stored} of these at a stored proof, {len(wrong)} wrong"
+    print("\n".join([*notes, *wrong, last]))
     return 1 if wrong else 0
 
 

@@ -12,6 +12,7 @@ import re
 import resource
 import subprocess
 import sys
+import tempfile
 import time
 from pathlib import Path
 
@@ -109,9 +110,13 @@ def main():
     os.environ["PATH"] += f"{os.pathsep}{Path.home() / '.cargo/bin'}"
     begun, passed, failed, left_out = time.monotonic(), 0, 0, []
     tell_of_machine()
+    log = tempfile.NamedTemporaryFile("w", prefix="gate-", suffix=".log", encoding="utf-8")
     for words in steps.steps("gate"):
-        step = Step(words)
+        step = Step([log.name if word == "LOG" else word for word in words])
         status = step.run()
+        if words == ["rt", "ci"]:
+            log.write("\n".join([*step.said, ""]))
+            log.flush()
         left_out += steps.left_out("\n".join(step.said))
         if status:
             failed = step.failures()
