@@ -17,6 +17,9 @@ FLAGS = "crates/x64_core/src/flags.rt"
 EXTENSION_TABLE = "crates/x64_core/src/extension.rt"
 OPS = "crates/x64_core/src/ops"
 
+# How many constants a law speaks of at most: what it takes the prover grows with the square of them, to gigabytes.
+MOST_OF_A_LAW = 64
+
 SETS = {(): "no_legacy", ("F0",): "F0", ("66", "F0"): "F0_66", ("66",): "only_66", ("F2",): "only_F2", ("F3",): "only_F3"}
 
 # The words of Rows.antt that lines are said in.
@@ -215,12 +218,13 @@ def constant(line, number):
     ]
 
 
-def in_line(lines, first):
-    """That the constants of a file are the lines from the first one's number on, in their order."""
+def law(name, lines, first):
+    """That constants are the lines from the first one's number on, in their order."""
     return [
+        "",
         "/// Each constant is the line behind that of the one before it.",
         "#[rattlefmt::skip]",
-        f"fn in_order() -> [Op; {len(lines)}]",
+        f"fn {name}() -> [Op; {len(lines)}]",
         f"    ensures {{ map (λ op. op.number) result ≡ range_with_len {first} {len(lines)} }}",
         "{",
         "    [",
@@ -230,9 +234,17 @@ def in_line(lines, first):
     ]
 
 
+def laws(lines, first):
+    """Laws of all constants of a file, each of as many as a law has at most."""
+    count = -(-len(lines) // MOST_OF_A_LAW)
+    size = -(-len(lines) // count)
+    for at in range(0, len(lines), size):
+        name = "in_order" if count == 1 else f"in_order_from_{lines[at].name}"
+        yield from law(name, lines[at:at + size], first + at)
+
+
 def constants(about, groups):
     """A file of constants: of each group what it is about, and its lines; and the number of the first line."""
-    first = groups[0][2]
     lines = [line for _, found, _ in groups for line in found]
     macros = sorted({"with_imm" if line.immediate else "without_imm" for line in lines})
     text = [
@@ -249,7 +261,7 @@ def constants(about, groups):
         text += ["", f"// {doc}", ""]
         for place, line in enumerate(found):
             text += constant(line, number + place)
-    return [*text, "", *in_line(lines, first)]
+    return [*text, *laws(lines, groups[0][2])]
 
 
 def groups_of_rows(rows):

@@ -184,13 +184,12 @@ pub extern "C" fn hq_line_operand(line: u16, index: usize, operand: &mut HqOpera
     let Some(op) = Op::from_number(line) else {
         return HQ_BAD_LINE;
     };
-    match op.kinds().get(index) {
-        None => HQ_NONE,
-        Some(kind) => {
-            *operand = HqOperand::of(*kind);
-            HQ_OK
-        }
+    let kinds = op.kinds();
+    if index >= kinds.len() {
+        return HQ_NONE;
     }
+    *operand = HqOperand::of(kinds[index]);
+    HQ_OK
 }
 
 /// The flags that a line reads, writes and leaves undefined. `HQ_BAD_LINE` where no line has the number.

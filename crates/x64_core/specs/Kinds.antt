@@ -45,6 +45,14 @@ is_place (Fixed number) = false
 is_place Imm = false
 is_place Stack = false
 
+abbrev pub is_stack : Home → Bool
+is_stack Reg = false
+is_stack Vvvv = false
+is_stack Place = false
+is_stack (Fixed number) = false
+is_stack Imm = false
+is_stack Stack = true
+
 abbrev pub imm_bits : Home → ℕ → ℕ
 imm_bits Reg bits = 0
 imm_bits Vvvv bits = 0
@@ -57,10 +65,12 @@ abbrev pub bits_in : List Kind → ℕ
 bits_in [] = 0
 bits_in (kind ∷ kinds) = imm_bits kind.home kind.bits + bits_in kinds
 
--- operands are one for each place where the line's bytes hold one, and an immediate of its size, whatever else the line uses
+-- operands are one for each place where the line's bytes hold one, and an immediate of its size, whatever else the line uses;
+-- memory that no operand names isn't printed
 abbrev pub kinds_fit : Line → List Kind → Bool
 kinds_fit line kinds =
     (count_by (λ kind. is_reg kind.home) kinds == one_if (has_register line.tail))
     && ((count_by (λ kind. is_vvvv kind.home) kinds == one_if (has_vvvv line.prefix))
     && ((count_by (λ kind. is_place kind.home) kinds == one_if (has_tail line.tail))
-    && (bits_in kinds == 8 * imm_bytes line.imm)))
+    && ((bits_in kinds == 8 * imm_bytes line.imm)
+    && (count_by (λ kind. is_stack kind.home && kind.is_printed) kinds == 0))))

@@ -1,8 +1,9 @@
 //! The flags that a line reads, writes and leaves undefined. (Intel SDM, volume 1, appendix A, and of each instruction's page
 //! in volume 2 the section "Flags Affected".)
 
-ghost use Rattle.std.specs.Prelude.{◌≡◌, true};
+ghost use Rattle.std.specs.Prelude.{◌≡◌, ◌<◌, true};
 ghost use Rattle.x64_core.specs.Flags.{flags_fit, flags_of, has_flag, place_of};
+ghost use Rattle.x64_core.specs.declared.lines.TheConstants.{COUNT};
 
 use crate::op::Op;
 
@@ -671,12 +672,20 @@ static FLAGS: [Flags; 584] = [
 ];
 // table/write.py: end
 
+/// Those of the line of this number.
+fn line_flags(number: u16) -> Flags
+    requires { number < COUNT }
+    ensures { result ≡ flags_of number }
+{
+    FLAGS[usize::from(number)]
+}
+
 impl Op {
     /// What it does with the flags. None of them is both written and undefined.
     pub fn flags(self) -> Flags
         ensures is { result ≡ flags_of self.number }
         ensures fit { flags_fit result ≡ true }
     {
-        FLAGS[usize::from(self.number)]
+        line_flags(self.number)
     }
 }

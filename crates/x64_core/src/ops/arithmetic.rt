@@ -329,8 +329,8 @@ pub const TESTQ_MR: RegRm = without_imm!(RegRm, 303);
 
 /// Each constant is the line behind that of the one before it.
 #[rattlefmt::skip]
-fn in_order() -> [Op; 146]
-    ensures { map (λ op. op.number) result ≡ range_with_len 158 146 }
+fn in_order_from_addb_i() -> [Op; 49]
+    ensures { map (λ op. op.number) result ≡ range_with_len 158 49 }
 {
     [
         ADDB_I.op(), ADDB_MI.op(), ADDB_MR.op(), ADDB_RM.op(), ADDW_I.op(), ADDW_MI.op(),
@@ -341,23 +341,42 @@ fn in_order() -> [Op; 146]
         ORQ_MI_SXB.op(), ORQ_MR.op(), ORQ_RM.op(), ADCB_I.op(), ADCB_MI.op(), ADCB_MR.op(),
         ADCB_RM.op(), ADCW_I.op(), ADCW_MI.op(), ADCW_MR.op(), ADCW_RM.op(), ADCL_I.op(),
         ADCL_MI.op(), ADCL_MI_SXB.op(), ADCL_MR.op(), ADCL_RM.op(), ADCQ_MI_SXL.op(),
-        ADCQ_MI_SXB.op(), ADCQ_MR.op(), ADCQ_RM.op(), SBBB_I.op(), SBBB_MI.op(), SBBB_MR.op(),
-        SBBB_RM.op(), SBBW_I.op(), SBBW_MI.op(), SBBW_MR.op(), SBBW_RM.op(), SBBL_I.op(),
-        SBBL_MI.op(), SBBL_MI_SXB.op(), SBBL_MR.op(), SBBL_RM.op(), SBBQ_MI_SXL.op(),
-        SBBQ_MI_SXB.op(), SBBQ_MR.op(), SBBQ_RM.op(), ANDB_MI.op(), ANDB_MR.op(), ANDB_RM.op(),
-        ANDW_I.op(), ANDW_MI.op(), ANDW_MR.op(), ANDW_RM.op(), ANDL_I.op(), ANDL_MI.op(),
-        ANDL_MI_SXB.op(), ANDL_MR.op(), ANDL_RM.op(), ANDQ_MI_SXL.op(), ANDQ_MI_SXB.op(),
-        ANDQ_MR.op(), ANDQ_RM.op(), SUBB_I.op(), SUBB_MI.op(), SUBB_MR.op(), SUBB_RM.op(),
-        SUBW_I.op(), SUBW_MI.op(), SUBW_MR.op(), SUBW_RM.op(), SUBL_I.op(), SUBL_MI.op(),
-        SUBL_MI_SXB.op(), SUBL_MR.op(), SUBL_RM.op(), SUBQ_MI_SXL.op(), SUBQ_MI_SXB.op(),
-        SUBQ_MR.op(), SUBQ_RM.op(), XORB_I.op(), XORB_MI.op(), XORB_MR.op(), XORB_RM.op(),
-        XORW_I.op(), XORW_MI.op(), XORW_MR.op(), XORW_RM.op(), XORL_I.op(), XORL_MI.op(),
-        XORL_MI_SXB.op(), XORL_MR.op(), XORL_RM.op(), XORQ_MI_SXL.op(), XORQ_MI_SXB.op(),
-        XORQ_MR.op(), XORQ_RM.op(), CMPB_I.op(), CMPB_MI.op(), CMPB_MR.op(), CMPB_RM.op(),
-        CMPW_I.op(), CMPW_MI.op(), CMPW_MR.op(), CMPW_RM.op(), CMPL_I.op(), CMPL_MI.op(),
-        CMPL_MI_SXB.op(), CMPL_MR.op(), CMPL_RM.op(), CMPQ_MI_SXL.op(), CMPQ_MI_SXB.op(),
-        CMPQ_MR.op(), CMPQ_RM.op(), TESTB_I.op(), TESTB_MI.op(), TESTB_MR.op(), TESTW_I.op(),
-        TESTW_MI.op(), TESTW_MR.op(), TESTL_I.op(), TESTL_MI.op(), TESTL_MR.op(),
+        ADCQ_MI_SXB.op(),
+    ]
+}
+
+/// Each constant is the line behind that of the one before it.
+#[rattlefmt::skip]
+fn in_order_from_adcq_mr() -> [Op; 49]
+    ensures { map (λ op. op.number) result ≡ range_with_len 207 49 }
+{
+    [
+        ADCQ_MR.op(), ADCQ_RM.op(), SBBB_I.op(), SBBB_MI.op(), SBBB_MR.op(), SBBB_RM.op(),
+        SBBW_I.op(), SBBW_MI.op(), SBBW_MR.op(), SBBW_RM.op(), SBBL_I.op(), SBBL_MI.op(),
+        SBBL_MI_SXB.op(), SBBL_MR.op(), SBBL_RM.op(), SBBQ_MI_SXL.op(), SBBQ_MI_SXB.op(),
+        SBBQ_MR.op(), SBBQ_RM.op(), ANDB_MI.op(), ANDB_MR.op(), ANDB_RM.op(), ANDW_I.op(),
+        ANDW_MI.op(), ANDW_MR.op(), ANDW_RM.op(), ANDL_I.op(), ANDL_MI.op(), ANDL_MI_SXB.op(),
+        ANDL_MR.op(), ANDL_RM.op(), ANDQ_MI_SXL.op(), ANDQ_MI_SXB.op(), ANDQ_MR.op(), ANDQ_RM.op(),
+        SUBB_I.op(), SUBB_MI.op(), SUBB_MR.op(), SUBB_RM.op(), SUBW_I.op(), SUBW_MI.op(),
+        SUBW_MR.op(), SUBW_RM.op(), SUBL_I.op(), SUBL_MI.op(), SUBL_MI_SXB.op(), SUBL_MR.op(),
+        SUBL_RM.op(), SUBQ_MI_SXL.op(),
+    ]
+}
+
+/// Each constant is the line behind that of the one before it.
+#[rattlefmt::skip]
+fn in_order_from_subq_mi_sxb() -> [Op; 48]
+    ensures { map (λ op. op.number) result ≡ range_with_len 256 48 }
+{
+    [
+        SUBQ_MI_SXB.op(), SUBQ_MR.op(), SUBQ_RM.op(), XORB_I.op(), XORB_MI.op(), XORB_MR.op(),
+        XORB_RM.op(), XORW_I.op(), XORW_MI.op(), XORW_MR.op(), XORW_RM.op(), XORL_I.op(),
+        XORL_MI.op(), XORL_MI_SXB.op(), XORL_MR.op(), XORL_RM.op(), XORQ_MI_SXL.op(),
+        XORQ_MI_SXB.op(), XORQ_MR.op(), XORQ_RM.op(), CMPB_I.op(), CMPB_MI.op(), CMPB_MR.op(),
+        CMPB_RM.op(), CMPW_I.op(), CMPW_MI.op(), CMPW_MR.op(), CMPW_RM.op(), CMPL_I.op(),
+        CMPL_MI.op(), CMPL_MI_SXB.op(), CMPL_MR.op(), CMPL_RM.op(), CMPQ_MI_SXL.op(),
+        CMPQ_MI_SXB.op(), CMPQ_MR.op(), CMPQ_RM.op(), TESTB_I.op(), TESTB_MI.op(), TESTB_MR.op(),
+        TESTW_I.op(), TESTW_MI.op(), TESTW_MR.op(), TESTL_I.op(), TESTL_MI.op(), TESTL_MR.op(),
         TESTQ_MI_SXL.op(), TESTQ_MR.op(),
     ]
 }

@@ -410,8 +410,8 @@ pub const NOPW_RM: Rm = without_imm!(Rm, 157);
 
 /// Each constant is the line behind that of the one before it.
 #[rattlefmt::skip]
-fn in_order() -> [Op; 158]
-    ensures { map (λ op. op.number) result ≡ range_with_len 0 158 }
+fn in_order_from_lock_addb_mi() -> [Op; 53]
+    ensures { map (λ op. op.number) result ≡ range_with_len 0 53 }
 {
     [
         LOCK_ADDB_MI.op(), LOCK_ADDW_MI.op(), LOCK_ADDL_MI.op(), LOCK_ADDQ_MI_SXL.op(),
@@ -426,25 +426,43 @@ fn in_order() -> [Op; 158]
         LOCK_SBBL_MR.op(), LOCK_SBBQ_MR.op(), LOCK_ANDB_MI.op(), LOCK_ANDW_MI.op(),
         LOCK_ANDL_MI.op(), LOCK_ANDQ_MI_SXL.op(), LOCK_ANDL_MI_SXB.op(), LOCK_ANDQ_MI_SXB.op(),
         LOCK_ANDB_MR.op(), LOCK_ANDW_MR.op(), LOCK_ANDL_MR.op(), LOCK_ANDQ_MR.op(),
-        LOCK_SUBB_MI.op(), LOCK_SUBW_MI.op(), LOCK_SUBL_MI.op(), LOCK_SUBQ_MI_SXL.op(),
-        LOCK_SUBL_MI_SXB.op(), LOCK_SUBQ_MI_SXB.op(), LOCK_SUBB_MR.op(), LOCK_SUBW_MR.op(),
-        LOCK_SUBL_MR.op(), LOCK_SUBQ_MR.op(), LOCK_XORB_MI.op(), LOCK_XORW_MI.op(),
-        LOCK_XORL_MI.op(), LOCK_XORQ_MI_SXL.op(), LOCK_XORL_MI_SXB.op(), LOCK_XORQ_MI_SXB.op(),
-        LOCK_XORB_MR.op(), LOCK_XORW_MR.op(), LOCK_XORL_MR.op(), LOCK_XORQ_MR.op(),
-        LOCK_XADDB_MR.op(), LOCK_XADDW_MR.op(), LOCK_XADDL_MR.op(), LOCK_XADDQ_MR.op(),
-        LOCK_CMPXCHGB_MR.op(), LOCK_CMPXCHGW_MR.op(), LOCK_CMPXCHGL_MR.op(), LOCK_CMPXCHGQ_MR.op(),
-        LOCK_CMPXCHG16B_M.op(), XCHGB_RM.op(), XCHGW_RM.op(), XCHGL_RM.op(), XCHGQ_RM.op(),
-        ROLB_M1.op(), ROLW_M1.op(), ROLL_M1.op(), ROLQ_M1.op(), RORB_M1.op(), RORW_M1.op(),
-        RORL_M1.op(), RORQ_M1.op(), SHLB_M1.op(), SHLW_M1.op(), SHLL_M1.op(), SHLQ_M1.op(),
-        SHRB_M1.op(), SHRW_M1.op(), SHRL_M1.op(), SHRQ_M1.op(), SARB_M1.op(), SARW_M1.op(),
-        SARL_M1.op(), SARQ_M1.op(), CALLQ_M.op(), JMPQ_M.op(), ANDPS_A.op(), CMPPS_A.op(),
-        CMPPD_A.op(), CMPSS_A.op(), CMPSD_A.op(), ANDB_I.op(), CALLQ_D.op(), JMP_D8.op(),
-        JMP_D32.op(), JO_D8.op(), JNO_D8.op(), JB_D8.op(), JAE_D8.op(), JE_D8.op(), JNE_D8.op(),
-        JBE_D8.op(), JA_D8.op(), JS_D8.op(), JNS_D8.op(), JP_D8.op(), JNP_D8.op(), JL_D8.op(),
-        JGE_D8.op(), JLE_D8.op(), JG_D8.op(), JO_D32.op(), JNO_D32.op(), JB_D32.op(), JAE_D32.op(),
-        JE_D32.op(), JNE_D32.op(), JBE_D32.op(), JA_D32.op(), JS_D32.op(), JNS_D32.op(),
-        JP_D32.op(), JNP_D32.op(), JL_D32.op(), JGE_D32.op(), JLE_D32.op(), JG_D32.op(),
-        VCMPPS_B.op(), VCMPPD_B.op(), VCMPSS_B.op(), VCMPSD_B.op(), VCVTPD2PS_A.op(),
+        LOCK_SUBB_MI.op(), LOCK_SUBW_MI.op(), LOCK_SUBL_MI.op(),
+    ]
+}
+
+/// Each constant is the line behind that of the one before it.
+#[rattlefmt::skip]
+fn in_order_from_lock_subq_mi_sxl() -> [Op; 53]
+    ensures { map (λ op. op.number) result ≡ range_with_len 53 53 }
+{
+    [
+        LOCK_SUBQ_MI_SXL.op(), LOCK_SUBL_MI_SXB.op(), LOCK_SUBQ_MI_SXB.op(), LOCK_SUBB_MR.op(),
+        LOCK_SUBW_MR.op(), LOCK_SUBL_MR.op(), LOCK_SUBQ_MR.op(), LOCK_XORB_MI.op(),
+        LOCK_XORW_MI.op(), LOCK_XORL_MI.op(), LOCK_XORQ_MI_SXL.op(), LOCK_XORL_MI_SXB.op(),
+        LOCK_XORQ_MI_SXB.op(), LOCK_XORB_MR.op(), LOCK_XORW_MR.op(), LOCK_XORL_MR.op(),
+        LOCK_XORQ_MR.op(), LOCK_XADDB_MR.op(), LOCK_XADDW_MR.op(), LOCK_XADDL_MR.op(),
+        LOCK_XADDQ_MR.op(), LOCK_CMPXCHGB_MR.op(), LOCK_CMPXCHGW_MR.op(), LOCK_CMPXCHGL_MR.op(),
+        LOCK_CMPXCHGQ_MR.op(), LOCK_CMPXCHG16B_M.op(), XCHGB_RM.op(), XCHGW_RM.op(), XCHGL_RM.op(),
+        XCHGQ_RM.op(), ROLB_M1.op(), ROLW_M1.op(), ROLL_M1.op(), ROLQ_M1.op(), RORB_M1.op(),
+        RORW_M1.op(), RORL_M1.op(), RORQ_M1.op(), SHLB_M1.op(), SHLW_M1.op(), SHLL_M1.op(),
+        SHLQ_M1.op(), SHRB_M1.op(), SHRW_M1.op(), SHRL_M1.op(), SHRQ_M1.op(), SARB_M1.op(),
+        SARW_M1.op(), SARL_M1.op(), SARQ_M1.op(), CALLQ_M.op(), JMPQ_M.op(), ANDPS_A.op(),
+    ]
+}
+
+/// Each constant is the line behind that of the one before it.
+#[rattlefmt::skip]
+fn in_order_from_cmpps_a() -> [Op; 52]
+    ensures { map (λ op. op.number) result ≡ range_with_len 106 52 }
+{
+    [
+        CMPPS_A.op(), CMPPD_A.op(), CMPSS_A.op(), CMPSD_A.op(), ANDB_I.op(), CALLQ_D.op(),
+        JMP_D8.op(), JMP_D32.op(), JO_D8.op(), JNO_D8.op(), JB_D8.op(), JAE_D8.op(), JE_D8.op(),
+        JNE_D8.op(), JBE_D8.op(), JA_D8.op(), JS_D8.op(), JNS_D8.op(), JP_D8.op(), JNP_D8.op(),
+        JL_D8.op(), JGE_D8.op(), JLE_D8.op(), JG_D8.op(), JO_D32.op(), JNO_D32.op(), JB_D32.op(),
+        JAE_D32.op(), JE_D32.op(), JNE_D32.op(), JBE_D32.op(), JA_D32.op(), JS_D32.op(),
+        JNS_D32.op(), JP_D32.op(), JNP_D32.op(), JL_D32.op(), JGE_D32.op(), JLE_D32.op(),
+        JG_D32.op(), VCMPPS_B.op(), VCMPPD_B.op(), VCMPSS_B.op(), VCMPSD_B.op(), VCVTPD2PS_A.op(),
         VCVTTPD2DQ_A.op(), MULXL_RVM.op(), MULXQ_RVM.op(), NOP_1B.op(), NOP_2B.op(), NOPL_RM.op(),
         NOPW_RM.op(),
     ]
