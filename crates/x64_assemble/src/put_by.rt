@@ -21,13 +21,18 @@ pub trait PutBy<I> {
     fn fault<B: Allocator>(inst: &I, buffer: &CodeBuffer<B>) -> Option<Fault>
         ensures { result ≡ (listed inst.now (buffer_state buffer.now).offsets).fault };
 
-    /// How many bytes an instruction has, 13 at most. It has to be one that can be put.
+    /// How many bytes an instruction has, 13 at most.
+    ///
+    /// It has to be one that can be put, as [`fault`](Self::fault) tells. Where it isn't, a build that wasn't proved may
+    /// answer any number, or abort.
     fn len<B: Allocator>(inst: &I, buffer: &CodeBuffer<B>) -> u8
         requires { (listed inst.now (buffer_state buffer.now).offsets).fault ≡ None }
         ensures value { result ≡ (listed inst.now (buffer_state buffer.now).offsets).len }
         ensures most { result ≤ 13 };
 
-    /// Puts an instruction that can be put, where there is room for 13 bytes and a notice.
+    /// Puts an instruction that can be put, as [`fault`](Self::fault) tells, where there is room for 13 bytes and a notice.
+    ///
+    /// Where it can't be put, or where there is less room, a build that wasn't proved may put a wrong instruction, or abort.
     fn put<B: Allocator>(inst: &I, buffer: &mut CodeBuffer<B>)
         requires fits { (listed inst.now (buffer_state buffer.old).offsets).fault ≡ None }
         requires byte_room { HasRoom (buffer_state buffer.old).byte_room 13 }

@@ -4,6 +4,7 @@ ghost use Rattle.std.specs.Prelude.{◌≡◌, ◌↔◌, refl, ◌+◌, ◌⊎�
 ghost use Rattle.std.specs.Int.{to_le_bytes, w16, w32, w64};
 ghost use Rattle.cax64_encoder.specs.EncodeError.{fault_found, IfRefused, NotRefused, OnFault};
 ghost use Rattle.cax64_encoder.specs.Instruction.{can_encode_in, fault_in, len_in, notices_in, Adds};
+ghost use Rattle.cax64_encoder.specs.Relative.{ReadsRelative};
 ghost use Rattle.cax64_machine_code.specs.ReadLine.{parts_as};
 ghost use Rattle.cax64_machine_code.specs.Rows.{line_of};
 ghost use Rattle.cax64_machine_code.specs.declared.reading.Reading.{Reading};
@@ -194,6 +195,7 @@ impl<A: Allocator> CodeBuffer<A> {
         ensures notice_room { FallsBy (buffer_state self.old).notice_room (buffer_state self.new).notice_room (notices_in (buffer_state self.old) (I.meant inst.now)) }
         ensures most_bytes { OnOk result (len_in (buffer_state self.old) (I.meant inst.now) ≤ 13) }
         ensures most_notices { notices_in (buffer_state self.old) (I.meant inst.now) ≤ 1 }
+        ensures relative { OnOk result (ReadsRelative (I.meant inst.now (buffer_state self.old).offsets)) }
         ensures keeps { Keeps (buffer_state self.old) (buffer_state self.new) }
         ensures labels { label_count self.new ≡ label_count self.old }
         ensures label_room { label_room self.new ≡ label_room self.old }
@@ -336,7 +338,7 @@ impl<A: Allocator + Clone> CodeBuffer<A> {
 
 impl<A: Allocator> CodeSink for CodeBuffer<A> {
     ghost use Rattle.x64_code_buffer.specs.Binding.{SamePlaces};
-    ghost use Rattle.x64_code_buffer.specs.Buffer.{KeepsLabels, StaysFilled, buffer_state, keeps_labels_on, label_count, label_room, places_of};
+    ghost use Rattle.x64_code_buffer.specs.Buffer.{KeepsLabels, StaysBefore, StaysFilled, buffer_state, keeps_labels_on, label_count, label_room, places_of};
 
     ghost state = { buffer_state };
 
@@ -432,6 +434,7 @@ impl<A: Allocator> CodeSink for CodeBuffer<A> {
         ensures labels { label_count self.new ≡ label_count self.old }
         ensures label_room { label_room self.new ≡ label_room self.old }
         ensures places { SamePlaces (places_of self.old) (places_of self.new) }
+        ensures filled { OnOk result (StaysBefore (length (buffer_state self.old).bytes ∷ []) self.old self.new) }
         ensures refused { OnErr result (StaysFilled self.old self.new) }
     {
         self.recorder.use_target(place)

@@ -79,7 +79,7 @@ core_from v s u t before records h = at_offsets v u.offsets s t before.offsets (
 
 -- Relative places: each is read as one, from where the immediate begins, and its field is told.
 
-place_relative : {M : Type 0} (enc : M → ℕ) (disp : ℤ) (field : ImmField) (place : PlaceOperand M) → relative_in (place_read enc disp (imm_bytes field) place) ≡ unsettled (memory_in place) field
+pub place_relative : {M : Type 0} (enc : M → ℕ) (disp : ℤ) (field : ImmField) (place : PlaceOperand M) → relative_in (place_read enc disp (imm_bytes field) place) ≡ unsettled (memory_in place) field
 place_relative enc disp field NoPlace = refl
 place_relative enc disp field (Register number) = refl
 place_relative enc disp field (Memory (ImmReg base simm32 trap)) = refl

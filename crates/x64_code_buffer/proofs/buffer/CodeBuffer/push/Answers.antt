@@ -8,6 +8,7 @@ use Rattle.cax64_sink.specs.Recorder.{recorder_state}
 use Rattle.cax64_sink.specs.Room.{FallsBy}
 use Rattle.x64_code_buffer.specs.Buffer.{places_of}
 use Rattle.x64_code_buffer.proofs.Filling.{stays_both, stays_as, adds_from, falls_after_none, if_ok, on_err, pushed}
+use Rattle.x64_code_buffer.proofs.Jumped.{on_ok}
 use Rattle.x64_code_buffer.specs.Laid.{whole_pieces}
 use Rattle.x64_code_buffer.proofs.Pieces.{filled_is_laid, laid_on_is_filled_on}
 use Rattle.x64_code_buffer.proofs.buffer.CodeBuffer.push.Goals as goal
@@ -70,3 +71,11 @@ returns-clause-filled g c readings h =
     let places = places_of c.args.self.now in
     let m : Meant g.row.I-Family-ReadGpr.Denot = g.I.Instruction.meant c.args.inst.now s.offsets in
     if_ok c.encode.result (laid_on_is_filled_on m.parts readings t places) (returns-clause-laid g c (whole_pieces readings) (filled_is_laid readings (length s.bytes) s places h))
+
+pub returns-clause-relative : goal.returns-clause-relative
+returns-clause-relative g c =
+    let s = recorder_state c.args.self.now.recorder in
+    let u = recorder_state c.make_room.new.recorder in
+    let offsets : u.offsets ≡ s.offsets = c.make_room.ensures.as_before.offsets in
+    let relative : ReadsRelative (g.I.Instruction.meant c.args.inst.now s.offsets) = rw offsets at c.encode.ensures.relative in
+    on_ok c.encode.result relative
