@@ -1,10 +1,11 @@
 -- What an instruction of a list becomes in a buffer.
-use Rattle.std.specs.Prelude.{◌≡◌, ℕ, ◌+◌, ℤ, Option, Some, None, List, [], ◌∷◌, ◌++◌, length, map}
+use Rattle.std.specs.Prelude.{◌≡◌, ◌≤◌, ℕ, ◌+◌, ℤ, Option, Some, None, List, [], ◌∷◌, ◌++◌, length, map}
 use Rattle.cax64_address.specs.declared.amode.Amode.{Amode}
 use Rattle.cax64_address.specs.declared.amode.Amode.TheVariants.{ImmReg, ImmRegRegShift, RipRelative}
 use Rattle.cax64_encoder.specs.Fault.{first_fault}
 use Rattle.cax64_encoder.specs.Notices.{trap_notice}
 use Rattle.cax64_encoder.specs.declared.fault.Fault.{Fault}
+use Rattle.cax64_machine_code.specs.ReadLine.{read_line}
 use Rattle.cax64_machine_code.specs.Reading.{PartsOf}
 use Rattle.cax64_machine_code.specs.declared.line.Line.{Line}
 use Rattle.cax64_sink.specs.Keeps.{Keeps}
@@ -14,7 +15,7 @@ use Rattle.cax64_sink.specs.declared.DeferredTarget.{DeferredTarget}
 use Rattle.cax64_sink.specs.declared.Notice.{Notice}
 use Rattle.cax64_sink.specs.declared.Notice.TheVariants.{Target}
 use Rattle.x64_code_buffer.specs.Binding.{SamePlaces}
-use Rattle.x64_code_buffer.specs.Laid.{Laid, Piece, piece_field}
+use Rattle.x64_code_buffer.specs.Laid.{Laid, Piece, piece_field, reading_in}
 use Rattle.x64_encode.specs.Encode.{LineMeaning}
 
 pub record Listed : Type 0 where
@@ -47,9 +48,22 @@ listed meaning offsets = record {
   fault = first_fault offsets (meaning offsets).visited (meaning offsets).memory;
 }
 
--- A buffer has got an entry: a piece that reads so, of so many bytes, that tells this where it begins.
+-- Some bytes are a piece: its line reads them, whatever follows, as its reading, with all of them.
+pub record IsPiece (p : Piece) (bytes : List ℕ) : Type 0 where
+  pub reads : (rest : List ℕ) → read_line (reading_in p).line (bytes ++ rest) ≡ Some (reading_in p)
+  pub length : (reading_in p).length ≡ length bytes
+  pub least : 1 ≤ (reading_in p).length
+
+-- A buffer has got an entry: a piece that reads so, of so many bytes, that tells this where it begins; and if it was laid out
+-- up to its end, it is with that piece.
 pub record GotEntry (reads : Piece → Type 0) (tells : ℕ → Piece → List Notice) (size : ℕ) (s t : State) (old new : DeferredTarget → Option ℕ) : Type 0 where
-  pub laid : (pieces : List Piece) → Laid pieces (length s.bytes) s old → (p : Piece) × reads p × Laid (pieces ++ p ∷ []) (length t.bytes) t new × (t.notices ≡ s.notices ++ tells (length s.bytes) p)
+  pub piece : Piece
+  pub added : List ℕ
+  pub piece_reads : reads piece
+  pub is : IsPiece piece added
+  pub bytes : t.bytes ≡ s.bytes ++ added
+  pub told : t.notices ≡ s.notices ++ tells (length s.bytes) piece
+  pub laid : (pieces : List Piece) → Laid pieces (length s.bytes) s old → Laid (pieces ++ piece ∷ []) (length t.bytes) t new
   pub more : length t.bytes ≡ length s.bytes + size
   pub places : SamePlaces old new
   pub keeps : Keeps s t

@@ -6,7 +6,7 @@ ghost use Rattle.x64_code_buffer.specs.Binding.{SamePlaces};
 ghost use Rattle.x64_code_buffer.specs.Buffer.{AsBefore, StaysFilled, buffer_state, label_count, places_of};
 ghost use Rattle.x64_code_buffer.specs.Laid.{Laid, Piece};
 ghost use Rattle.x64_layout.specs.Layout.{AreSpans};
-ghost use Rattle.x64_assemble.specs.Assembled.{Assembled, spans_of};
+ghost use Rattle.x64_assemble.specs.Assembled.{Assembled, PutsList, spans_of};
 ghost use Rattle.x64_assemble.specs.Listed.{listed};
 ghost use Rattle.x64_assemble.specs.Putting.{AreBinders, AreFree, CanPut};
 ghost use Rattle.x64_assemble.specs.Refused.{IsFirstRefusal, number_in, refusal_at};
@@ -67,6 +67,7 @@ fn put_least<I: Encode, B: Allocator>(
     requires places { length places.old ≡ length spans.now + 1 }
     requires rooms { length rooms.old ≡ length spans.now }
     ensures assembled { (pieces : List Piece) → Laid pieces (length (buffer_state buffer.old).bytes) (buffer_state buffer.old) (places_of buffer.old) → OnOk result (Assembled (λ i. listed (I.line_meant i) (buffer_state buffer.old).offsets) items.now pieces (buffer_state buffer.old) (buffer_state buffer.new) (places_of buffer.old) (places_of buffer.new)) }
+    ensures puts { OnOk result (PutsList (λ i. listed (I.line_meant i) (buffer_state buffer.old).offsets) items.now (buffer_state buffer.old) (buffer_state buffer.new) (places_of buffer.old) (places_of buffer.new)) }
     ensures error { IfErr result (λ e. e ≡ LayoutError.NoMemory) }
     ensures unchanged { OnErr result (AsBefore (buffer_state buffer.old) (buffer_state buffer.new)) }
     ensures unbound { OnErr result (SamePlaces (places_of buffer.old) (places_of buffer.new)) }
@@ -123,8 +124,11 @@ impl<A: Allocator> Layout<A> {
     /// the form with one byte of distance where that can be, and no choice of forms has fewer bytes, or puts a label or an
     /// instruction earlier. (Intel SDM, volume 2, `CALL`, `JMP` and `Jcc`.)
     ///
-    /// A jump to a label that the list doesn't bind is put as [`push_long_jump`](CodeBuffer::push_long_jump) puts it, and
-    /// [`finish`](CodeBuffer::finish) patches it.
+    /// A jump to a label that the list doesn't bind has but one form here, that with four bytes of distance: it is put as
+    /// [`push_long_jump`](CodeBuffer::push_long_jump) puts it, and [`finish`](CodeBuffer::finish) patches it. That is so of a
+    /// label too that the buffer has bound already, where [`push_jump`](CodeBuffer::push_jump) may do with two bytes.
+    ///
+    /// The buffer may hold anything. Where it is laid out up to its end, it is so with the list too.
     ///
     /// It refuses more than 165,191,049 items; then asks for its own memory; then the first item that can't be put decides;
     /// then it asks for the memory of the buffer. A refusal leaves the buffer as it was but the rooms. It takes time in
@@ -135,6 +139,7 @@ impl<A: Allocator> Layout<A> {
         buffer: &mut CodeBuffer<B>,
     ) -> Result<(), LayoutError>
         ensures assembled { (pieces : List Piece) → Laid pieces (length (buffer_state buffer.old).bytes) (buffer_state buffer.old) (places_of buffer.old) → OnOk result (Assembled (λ i. listed (I.line_meant i) (buffer_state buffer.old).offsets) items.now pieces (buffer_state buffer.old) (buffer_state buffer.new) (places_of buffer.old) (places_of buffer.new)) }
+        ensures puts { OnOk result (PutsList (λ i. listed (I.line_meant i) (buffer_state buffer.old).offsets) items.now (buffer_state buffer.old) (buffer_state buffer.new) (places_of buffer.old) (places_of buffer.new)) }
         ensures many { (result ≡ Err LayoutError.TooMany) ↔ (165191049 < length items.now) }
         ensures first { IfErr result (λ e. IfSome (number_in e) (λ n. IsFirstRefusal (λ i. (listed (I.line_meant i) (buffer_state buffer.old).offsets).fault) (label_count buffer.old) (places_of buffer.old) items.now n e)) }
         ensures tested { OnOk result ((n : ℕ) → refusal_at (λ i. (listed (I.line_meant i) (buffer_state buffer.old).offsets).fault) (label_count buffer.old) (places_of buffer.old) items.now n ≡ None) }

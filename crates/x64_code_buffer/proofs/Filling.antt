@@ -30,10 +30,11 @@ use Rattle.cax64_sink.specs.declared.DeferredTarget.{DeferredTarget}
 use Rattle.cax64_sink.specs.declared.DeferredTarget.TheVariants as target
 use Rattle.cax64_sink.specs.declared.Label.{Label}
 use Rattle.cax64_sink.specs.declared.Notice.{Notice}
+use Rattle.cax64_sink.specs.declared.Notice.TheVariants.{Target}
 use Rattle.cax64_sink.specs.declared.SinkError.{SinkError}
 use Rattle.cax64_sink.specs.declared.TrapCode.{TrapCode}
 use Rattle.x64_code_buffer.specs.Binding.{AddsBinding}
-use Rattle.x64_code_buffer.specs.Buffer.{StaysFilled, buffer_state, places_of}
+use Rattle.x64_code_buffer.specs.Buffer.{StaysBefore, StaysFilled, buffer_state, places_of}
 use Rattle.x64_code_buffer.specs.Filled.{Unpatched, ReadsEach, places_told}
 use Rattle.x64_code_buffer.specs.Laid.{Piece, whole, whole_pieces, line_field_at, line_field_place, line_imm_behind, PieceBegins, Laid, LaidOn}
 use Rattle.x64_code_buffer.specs.Use.{Use, uses_of}
@@ -237,3 +238,31 @@ few_bytes m s t adds = omega (arith, adds.length, adds.reads.length, adds.reads.
 pub on_err : {E P : Type 0} (r : Result (Unit {0}) E) → P → OnErr r P
 on_err (Ok tt) h = tt
 on_err (Err e) h = h
+
+-- A use that is told behind the others, where nothing is put.
+
+told_last : (records : Bool) (s t : State) (at : ℕ) (goes_to : DeferredTarget) → records ≡ true → t.notices ≡ (if records then s.notices ++ Target at goes_to ∷ [] else s.notices) → places_told (uses_of t.notices) ≡ places_told (uses_of s.notices) ++ at ∷ []
+told_last true s t at goes_to is h = ap (λ (z : List Notice). places_told (uses_of z)) h ∙ uses_more s.notices (Target at goes_to ∷ [])
+told_last false s t at goes_to is h = cc
+
+pub stays_before : {A : Type 0} (old new : CodeBuffer A) (at : ℕ) (goes_to : DeferredTarget) → (buffer_state old).records ≡ true → (buffer_state new).bytes ≡ (buffer_state old).bytes → (buffer_state new).notices ≡ (if (buffer_state old).records then (buffer_state old).notices ++ Target at goes_to ∷ [] else (buffer_state old).notices) → ((target : DeferredTarget) → places_of new target ≡ places_of old target) → StaysBefore (at ∷ []) old new
+stays_before old new at goes_to records bytes notices same =
+    let s : State = buffer_state old in
+    let t : State = buffer_state new in
+    let told : places_told (uses_of t.notices) ≡ places_told (uses_of s.notices) ++ at ∷ [] = told_last s.records s t at goes_to records notices in
+    record {
+      filled = λ readings n h. record {
+        within = rw bytes h.within;
+        reads = rw bytes h.reads;
+        unpatched = h.unpatched;
+        told = told ∙ ap (λ (z : List ℕ). z ++ at ∷ []) h.told;
+        bound = λ target place e. rw bytes (h.bound target place (sym (same target) ∙ e));
+      };
+      laid = λ pieces n h. record {
+        within = rw bytes h.within;
+        reads = rw bytes h.reads;
+        opened = h.opened;
+        told = told ∙ ap (λ (z : List ℕ). z ++ at ∷ []) h.told;
+        bound = λ target place e. rw bytes (h.bound target place (sym (same target) ∙ e));
+      };
+    }

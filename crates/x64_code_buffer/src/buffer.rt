@@ -17,7 +17,7 @@ ghost use Rattle.cax64_sink.specs.Run.{Ran};
 ghost use Rattle.cax64_sink.specs.declared.DeferredTarget.{DeferredTarget};
 ghost use Rattle.cax64_sink.specs.declared.SinkError.{SinkError};
 ghost use Rattle.x64_code_buffer.specs.declared.errors.BindError.{BindError};
-ghost use Rattle.x64_encode.specs.Encode.{can_encode_by, fault_by, len_by, notices_by};
+ghost use Rattle.x64_encode.specs.Encode.{ReadsRelativeBy, can_encode_by, fault_by, len_by, notices_by};
 
 use crate::bindings::Bindings;
 use crate::errors::{BindError, FinishError};
@@ -195,6 +195,7 @@ impl<A: Allocator> CodeBuffer<A> {
         ensures notice_room { FallsBy (buffer_state self.old).notice_room (buffer_state self.new).notice_room (notices_by (buffer_state self.old) (I.line_meant inst.now)) }
         ensures most_bytes { OnOk result (len_by (buffer_state self.old) (I.line_meant inst.now) ≤ 13) }
         ensures most_notices { notices_by (buffer_state self.old) (I.line_meant inst.now) ≤ 1 }
+        ensures relative { OnOk result (ReadsRelativeBy (I.line_meant inst.now (buffer_state self.old).offsets)) }
         ensures keeps { Keeps (buffer_state self.old) (buffer_state self.new) }
         ensures labels { label_count self.new ≡ label_count self.old }
         ensures label_room { label_room self.new ≡ label_room self.old }
@@ -337,7 +338,7 @@ impl<A: Allocator + Clone> CodeBuffer<A> {
 
 impl<A: Allocator> CodeSink for CodeBuffer<A> {
     ghost use Rattle.x64_code_buffer.specs.Binding.{SamePlaces};
-    ghost use Rattle.x64_code_buffer.specs.Buffer.{KeepsLabels, StaysFilled, buffer_state, keeps_labels_on, label_count, label_room, places_of};
+    ghost use Rattle.x64_code_buffer.specs.Buffer.{KeepsLabels, StaysBefore, StaysFilled, buffer_state, keeps_labels_on, label_count, label_room, places_of};
 
     ghost state = { buffer_state };
 
@@ -433,6 +434,7 @@ impl<A: Allocator> CodeSink for CodeBuffer<A> {
         ensures labels { label_count self.new ≡ label_count self.old }
         ensures label_room { label_room self.new ≡ label_room self.old }
         ensures places { SamePlaces (places_of self.old) (places_of self.new) }
+        ensures filled { OnOk result (StaysBefore (length (buffer_state self.old).bytes ∷ []) self.old self.new) }
         ensures refused { OnErr result (StaysFilled self.old self.new) }
     {
         self.recorder.use_target(place)

@@ -11,7 +11,7 @@ use Rattle.x64_assemble.specs.Listed.{listed}
 use Rattle.x64_assemble.specs.Assembled.{spans_of}
 use Rattle.x64_assemble.specs.Putting.{Put}
 use Rattle.x64_assemble.specs.declared.item.Item.{Item}
-use Rattle.x64_assemble.proofs.Ends.{all_bytes, assembled, ok_given}
+use Rattle.x64_assemble.proofs.Ends.{all_bytes, assembled, ok_given, puts_list}
 use Rattle.x64_assemble.proofs.assemble.put_least.Goals as goal
 
 pub put_items-requires-clause-free : goal.put_items-requires-clause-free
@@ -63,3 +63,18 @@ returns-clause-assembled g c = λ pieces h.
     let least : IsLeast (spans_of (λ i. (listed (g.I.Encode.line_meant i) s.offsets).len) items items) lens = subst (λ (z : List Span). IsLeast z lens) c.requires.spans c.least_layout.ensures.least in
     let put : Put (λ i. listed (g.I.Encode.line_meant i) s.offsets) lens items items u t mid new = subst (λ (o : ℕ → Option ℤ). Put (λ i. listed (g.I.Encode.line_meant i) o) lens items items u t mid new) offsets c.put_items.ensures.put in
     assembled (λ i. listed (g.I.Encode.line_meant i) s.offsets) items lens pieces s u t old mid new least c.reserve.ensures.as_before.bytes c.reserve.ensures.as_before.notices c.reserve.ensures.places (c.reserve.ensures.filled.laid pieces (length s.bytes) h) put
+
+pub returns-clause-puts : goal.returns-clause-puts
+returns-clause-puts g c =
+    let items : List (Item g.row.I.Denot) = c.args.items.now in
+    let lens : List ℕ = c.least_layout.new.lens in
+    let s : State = buffer_state c.args.buffer.now in
+    let u : State = buffer_state c.reserve.new.self in
+    let t : State = buffer_state c.put_items.new.buffer in
+    let old : DeferredTarget → Option ℕ = places_of c.args.buffer.now in
+    let mid : DeferredTarget → Option ℕ = places_of c.reserve.new.self in
+    let new : DeferredTarget → Option ℕ = places_of c.put_items.new.buffer in
+    let offsets : u.offsets ≡ s.offsets = c.reserve.ensures.as_before.offsets in
+    let least : IsLeast (spans_of (λ i. (listed (g.I.Encode.line_meant i) s.offsets).len) items items) lens = subst (λ (z : List Span). IsLeast z lens) c.requires.spans c.least_layout.ensures.least in
+    let put : Put (λ i. listed (g.I.Encode.line_meant i) s.offsets) lens items items u t mid new = subst (λ (o : ℕ → Option ℤ). Put (λ i. listed (g.I.Encode.line_meant i) o) lens items items u t mid new) offsets c.put_items.ensures.put in
+    puts_list (λ i. listed (g.I.Encode.line_meant i) s.offsets) items lens s u t old mid new least c.reserve.ensures.as_before.bytes c.reserve.ensures.as_before.notices c.reserve.ensures.places put

@@ -16,5 +16,5 @@ returns-clause-got g c =
     let m = g.I.Encode.line_meant c.args.inst.now s.offsets in
     let put = c.push.ensures in
     let ok = c.unwrap.ensures in
-    got_inst m (memory_notices m.memory) s t (places_of c.args.buffer.now) (places_of c.push.new.self) refl (g.met.I.Encode.adds_meant c.args.inst.now s t (given_ok c.push.result _ ok put.adds)) put.places put.keeps put.byte_room put.notice_room put.most_notices
+    got_inst m (memory_notices m.memory) s t (places_of c.args.buffer.now) (places_of c.push.new.self) refl (given_ok c.push.result _ ok put.relative) (g.met.I.Encode.adds_meant c.args.inst.now s t (given_ok c.push.result _ ok put.adds)) put.places put.keeps put.byte_room put.notice_room put.most_notices
     (λ pieces h. given_ok c.push.result _ ok (put.laid pieces h))

@@ -10,6 +10,7 @@ use Rattle.cax64_sink.specs.Sink.{State}
 use Rattle.x64_code_buffer.specs.Buffer.{places_of}
 use Rattle.x64_code_buffer.proofs.Filling.{stays_both, stays_as, falls_after_none, few_notices, if_ok, on_err, meant_laid}
 use Rattle.x64_code_buffer.specs.Laid.{LaidOn, whole, whole_pieces}
+use Rattle.x64_code_buffer.proofs.Jumped.{on_ok}
 use Rattle.x64_code_buffer.proofs.Pieces.{filled_is_laid, laid_on_is_filled_on}
 use Rattle.x64_encode.specs.Encode.{ReadsRelativeBy, SamePut}
 use Rattle.x64_code_buffer.proofs.buffer.CodeBuffer.push.Goals as goal
@@ -71,3 +72,10 @@ returns-clause-filled g c meant is readings h =
     let t : State = recorder_state c.encode.new.sink in
     let places = places_of c.args.self.now in
     if_ok c.encode.result (λ (l : LaidOn whole (g.I.Encode.line_meant c.args.inst.now s.offsets).parts (whole_pieces readings) t places). laid_on_is_filled_on meant readings t places (subst (λ (p : PartsOf Line). LaidOn whole p (whole_pieces readings) t places) is l)) (returns-clause-laid g c (whole_pieces readings) (filled_is_laid readings (length s.bytes) s places h))
+
+pub returns-clause-relative : goal.returns-clause-relative
+returns-clause-relative g c =
+    let s : State = recorder_state c.args.self.now.recorder in
+    let offsets = c.make_room.ensures.as_before.offsets in
+    let relative : ReadsRelativeBy (g.I.Encode.line_meant c.args.inst.now s.offsets) = subst (λ (o : ℕ → Option ℤ). ReadsRelativeBy (g.I.Encode.line_meant c.args.inst.now o)) offsets c.encode.ensures.relative in
+    on_ok c.encode.result relative
