@@ -12,7 +12,7 @@ HERE = Path(__file__).resolve().parent
 RT = """\
 #!/bin/sh
 name=$(basename "$PWD")
-{ echo "$name: $*"; cat; } >>../../called
+{ echo "$*"; cat; } >called
 [ -f says ] && cat says
 [ -f complains ] && cat complains >&2
 exit 0
@@ -56,7 +56,6 @@ class Tests:
                 path.write_text(text, encoding="utf-8")
 
     def run(self, *words):
-        (self.folder / "called").unlink(missing_ok=True)
         done = subprocess.run(["sh", "-c", f'PATH="{self.bin}:$PATH" exec python3 -B use/test "$@"', "", *words], cwd=self.folder, stdin=subprocess.DEVNULL, capture_output=True, text=True, check=False)
         return done.returncode, done.stdout.splitlines(), done.stderr
 
@@ -76,8 +75,8 @@ def of_passing(tests):
     tests.holds("what is to come is told first", lines[0].startswith("5 to run, 2 at a time: ") and "tests of good" in lines[0] and "silent.py" in lines[0], lines)
     ended = [line for line in lines if " s: " in line]
     tests.holds("each has a line as it ends", len(ended) == 5 and ended[0].endswith("3 to come") and ended[-1].endswith("; 0 to come"), ended)
-    called = (tests.folder / "called").read_text(encoding="utf-8")
-    tests.holds("a program gets its words, its input and its files", "prints: try --data a.tsv=data/a.tsv --data deep/b=data/deep/b -- one two words\ngiven\n" in called, called)
+    called = (tests.folder / "crates/prints/called").read_text(encoding="utf-8")
+    tests.holds("a program gets its words, its input and its files", called == "try --seconds 900 --data a.tsv=data/a.tsv --data deep/b=data/deep/b -- one two words\ngiven\n", called)
     status, lines, said = tests.run("good")
     tests.holds("one crate alone", status == 0 and lines[-1] == "4 passed, 0 failed" and lines[-3] == "all was run", (lines, said))
 
