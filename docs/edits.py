@@ -3,8 +3,8 @@
 
 An edit (crates/*/must-fail/*.edit) begins with a line `# clause: FUNCTION CLAUSE`: the function whose contract has to refuse
 it, by as much of its path as tells it from others, and the name of its `ensures` (`ensures` where it has none, or the first
-word of the prover's goal, such as `overflow_add`). Where the first error stands elsewhere, a line
-`# seen: FUNCTION CLAUSE: REASON` says so.
+word of the prover's goal, such as `overflow_add`). Where the first error stands elsewhere, a line `# seen: FUNCTION CLAUSE: REASON`
+or `# seen: FILE LEMMA: REASON`, of a file of proofs/, says so.
 
 usage, at the top:
   python3 docs/edits.py              each edit has its line, the clause is there, and docs/edits.txt has the edit so
@@ -164,7 +164,7 @@ class Crate:
         words = [re.match(r"(?:abbrev )?(?:pub )?([^\s:=]+) :", it) for it in lines]
         goal = next((it[1] for it in reversed(words) if it), "")
         found = [it.path for it in self.functions if is_proof_of(Path(file).parts[1:-1], it)]
-        return Place(found[0] if found else file, goal, True)
+        return Place(found[0], goal, True) if found else Place(file, goal)
 
     def place(self, said):
         """The place of the first error that rt tells, or None where it tells none."""
