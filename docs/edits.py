@@ -155,16 +155,21 @@ class Crate:
         found = (within or behind)[:1]
         return found[0].path if found else file
 
-    def in_proof(self, file, line):
+    def in_proof(self, file, line, said):
         """The function whose proof a file is, and the goal that is answered in a line; of a lemma, the file and its name."""
+        goal = re.match(r"error: `([^`\s]+)`:", said)
+        goal = goal[1] if goal else self.declared(file, line)
+        found = [it.path for it in self.functions if is_proof_of(Path(file).parts[1:-1], it)]
+        return Place(found[0], goal, True) if found else Place(file, goal)
+
+    def declared(self, file, line):
+        """What a proof file declares in a line, or above it."""
         try:
             lines = (self.root / file).read_text(encoding="utf-8").split("\n")[:line]
         except OSError:
             lines = []
         words = [re.match(r"(?:abbrev )?(?:pub )?([^\s:=]+) :", it) for it in lines]
-        goal = next((it[1] for it in reversed(words) if it), "")
-        found = [it.path for it in self.functions if is_proof_of(Path(file).parts[1:-1], it)]
-        return Place(found[0], goal, True) if found else Place(file, goal)
+        return next((it[1] for it in reversed(words) if it), "?")
 
     def place(self, said):
         """The place of the first error that rt tells, or None where it tells none."""
@@ -172,7 +177,7 @@ class Crate:
         if not match:
             return None
         if match[1].startswith("proofs/"):
-            return self.in_proof(match[1], int(match[2]))
+            return self.in_proof(match[1], int(match[2]), match[3])
         goal = re.search(r"\(`([^`\s]+)`?", match[3])
         return Place(self.at(match[1], int(match[2])), goal[1] if goal else " ".join(match[3].split()[:8]))
 
