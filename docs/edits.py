@@ -3,8 +3,8 @@
 
 An edit (crates/*/must-fail/*.edit) begins with a line `# clause: FUNCTION CLAUSE`: the function whose contract has to refuse
 it, by as much of its path as tells it from others, and the name of its `ensures` (`ensures` where it has none, or the first
-word of the prover's goal, such as `overflow_add`). Where the first error stands elsewhere, a line
-`# seen: FUNCTION CLAUSE: REASON` says so.
+word of the prover's goal, such as `overflow_add`). Where the first error stands elsewhere, a line `# seen: FUNCTION CLAUSE: REASON`
+or `# seen: FILE LEMMA: REASON`, of a file of proofs/, says so.
 
 usage, at the top:
   python3 docs/edits.py              each edit has its line, the clause is there, and docs/edits.txt has the edit so
@@ -155,16 +155,21 @@ class Crate:
         found = (within or behind)[:1]
         return found[0].path if found else file
 
-    def in_proof(self, file, line):
+    def in_proof(self, file, line, said):
         """The function whose proof a file is, and the goal that is answered in a line; of a lemma, the file and its name."""
+        goal = re.match(r"error: `([^`\s]+)`:", said)
+        goal = goal[1] if goal else self.declared(file, line)
+        found = [it.path for it in self.functions if is_proof_of(Path(file).parts[1:-1], it)]
+        return Place(found[0], goal, True) if found else Place(file, goal)
+
+    def declared(self, file, line):
+        """What a proof file declares in a line, or above it."""
         try:
             lines = (self.root / file).read_text(encoding="utf-8").split("\n")[:line]
         except OSError:
             lines = []
         words = [re.match(r"(?:abbrev )?(?:pub )?([^\s:=]+) :", it) for it in lines]
-        goal = next((it[1] for it in reversed(words) if it), "")
-        found = [it.path for it in self.functions if is_proof_of(Path(file).parts[1:-1], it)]
-        return Place(found[0] if found else file, goal, True)
+        return next((it[1] for it in reversed(words) if it), "?")
 
     def place(self, said):
         """The place of the first error that rt tells, or None where it tells none."""
@@ -172,7 +177,7 @@ class Crate:
         if not match:
             return None
         if match[1].startswith("proofs/"):
-            return self.in_proof(match[1], int(match[2]))
+            return self.in_proof(match[1], int(match[2]), match[3])
         goal = re.search(r"\(`([^`\s]+)`?", match[3])
         return Place(self.at(match[1], int(match[2])), goal[1] if goal else " ".join(match[3].split()[:8]))
 

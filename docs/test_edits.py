@@ -105,6 +105,12 @@ CASES = {
     "a lemma's file": (
         "# clause: Buffer::round grew",
         f"{REFUSED}: proofs/Lemmas.antt:1:1: error: no", "it names Buffer::round grew, and"),
+    "a lemma by its name, with a reason": (
+        "# clause: Buffer::round grew\n# seen: proofs/Lemmas.antt all_do: computed first",
+        f"{REFUSED}: ./proofs/Lemmas.antt:1:1: error: `all_do`: expected", ""),
+    "a goal by its name": (
+        "# clause: Buffer::round settled",
+        f"{REFUSED}: ./proofs/rounds/BufferSink/round/Answers.antt:1:1: error: `returns-clause-settled`: no", ""),
     "no place": ("# clause: reaches ensures", REFUSED, "rt tells no place"),
     "a name that is gone": (
         "# clause: reaches ensures",
