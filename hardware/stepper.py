@@ -20,7 +20,7 @@ CANT_TRACE = 3
 
 
 class NotHere(Exception):
-    """What this machine lacks."""
+    """What this machine lacks: its word in HUQMERIS_WITHOUT, and a sentence."""
 
 
 class Answer:
@@ -46,12 +46,12 @@ class Stepper:
         self.steps = 0
         compiler = next(filter(None, map(shutil.which, (os.environ.get("CC", "cc"), "gcc", "clang"))), None)
         if compiler is None:
-            raise NotHere("it has no C compiler")
+            raise NotHere("gcc", "it has no C compiler")
         built = subprocess.run([compiler, "-O2", "-o", self.program, HERE / "step.c"], stderr=subprocess.PIPE, text=True,
                                check=False)
         if built.returncode:
             complaint = next(iter(built.stderr.splitlines()), "nothing is said")
-            raise NotHere(f"{compiler} can't build step.c, for x86-64 and Linux: {complaint}")
+            raise NotHere("gcc", f"{compiler} can't build step.c, for x86-64 and Linux: {complaint}")
         sizes = subprocess.check_output([self.program, "sizes"]).split()
         if [int(size) for size in sizes] != [REQUEST.size, ANSWER]:
             raise ValueError(f"step.c has records of {sizes}")
@@ -61,7 +61,7 @@ class Stepper:
         asked.write_bytes(b"".join(requests))
         done = subprocess.run([self.program, asked, answered], stderr=subprocess.PIPE, text=True, check=False)
         if done.returncode == CANT_TRACE:
-            raise NotHere("it traces no child")
+            raise NotHere("ptrace", "it traces no child")
         if done.returncode or done.stderr:
             raise OSError(f"step: status {done.returncode}: {done.stderr}")
         self.steps += len(requests)

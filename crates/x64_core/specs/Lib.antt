@@ -15,4 +15,5 @@ pub mod Flags
 pub mod Extension
 pub mod Value
 -- Steps of the proofs.
+pub mod ByLine
 pub mod Form
