@@ -1029,8 +1029,9 @@ _Static_assert(offsetof(hq_flags, undefined) == 4, "hq_flags.undefined");
  * traps of the instructions, in their order, each at the place of its instruction. No late offset is known.
  *
  * At `HQ_OK` `done` has how many items, bytes and traps there are, at `HQ_FULL` how many there would be. At another status
- * `items` is the number of the item that is refused, from 0: the first that is none, or else the first that has a fault or whose
- * label or constant can't be bound, or else the first that refers to what has no place.
+ * `bytes` and `uses` are 0, and `items` is the number of the item that is refused, from 0: the first that is none, or else the
+ * first that has a fault or whose label or constant can't be bound, or else, at `HQ_UNBOUND`, the first that refers to what has no
+ * place. At `HQ_TOO_MANY`, `HQ_OUT_OF_RANGE` and `HQ_NO_MEMORY` none is named, and `items` is 0.
  *
  * It asks for memory, and has given all of it back when it answers.
  */
@@ -1066,7 +1067,8 @@ int32_t hq_encode(const hq_inst *inst, uint8_t *HQ_RESTRICT code, size_t code_le
  *
  * A use's `at` counts from the beginning of `code`. At `HQ_OK` `done` has how many instructions, bytes and uses were put, at
  * `HQ_FULL` how many there would be. Where an instruction is refused, `items` is its number, from 0, and the rest of `done` is
- * of those before it; the status is that of `hq_check`. `HQ_TOO_MANY` above 165,191,049 instructions. No late offset is known.
+ * of those before it; the status is that of `hq_check`. `HQ_TOO_MANY` above 165,191,049 instructions, and `done` is all 0. No late
+ * offset is known.
  */
 int32_t hq_encode_all(const hq_inst *insts, size_t insts_len, uint8_t *HQ_RESTRICT code, size_t code_len, hq_use *HQ_RESTRICT uses, size_t uses_len, hq_done *HQ_RESTRICT done);
 

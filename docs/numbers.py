@@ -132,6 +132,30 @@ def steps(name):
     return lambda: executions()[name][1]
 
 
+def near_text(name):
+    return (ROOT / "crates/core_vectors/data" / name).read_text(encoding="utf-8")
+
+
+def near_strings():
+    """How many strings near the core's lines are read as they have to be, all."""
+    return int(re.search(r"near: \d+ lines, (\d+) equal", (ROOT / "crates/core_vectors/stdout").read_text(encoding="utf-8"))[1])
+
+
+def near_least():
+    """The fewest that a line has."""
+    return min(text.count("\n") for text in near_text("near.tsv").rstrip("\n").split("\n#")[1:])
+
+
+def near_of(reason):
+    """The strings for which the file has a word, or the number of a line."""
+    return lambda: len(re.findall(rf"^{reason}\t", near_text("near.tsv"), re.M))
+
+
+def near_differing():
+    """The strings of which the disassemblers don't say the same."""
+    return sum(map(int, re.findall(r"^ *(\d+) [\w ]+: objdump", near_text("near.txt"), re.M)))
+
+
 def executed():
     return sum(count for count, _ in executions().values())
 
@@ -173,6 +197,18 @@ SENTENCES = (
      run("core.tsv"), core_cases, core_lines, steps("core.tsv")),
     (rf"(?:save|So) {NUMBER} (?:cases of the core\.|of its cases)", not_executed),
     (rf"and {NUMBER} cases of the core", core_cases),
+    (rf"{NUMBER} strings near (?:those|the core's lines)", near_strings),
+    (rf"at least {NUMBER} of each", near_least),
+    (rf"These are {NUMBER} strings\.", near_of(r"\d+")),
+    (rf"\| a segment prefix \| {NUMBER} \|", near_of("segment")),
+    (rf"\| 66, F2, F3 or F0 that changes nothing \| {NUMBER} \|", near_of("prefix")),
+    (rf"\| no instruction \| {NUMBER} \|", near_of("undefined")),
+    (rf"\| an address-size prefix \| {NUMBER} \|", near_of("address")),
+    (rf"\| REX before another prefix, or before a line that takes none \| {NUMBER} \|", near_of("rex")),
+    (rf"\| an instruction, or a form of one, that the core hasn't \| {NUMBER} \|", near_of("no line")),
+    (rf"\| a digit that processors take for the line's, as 6 for 4 in shifts \| {NUMBER} \|", near_of("digit")),
+    (rf"\| W or L of VEX that counts for nothing \| {NUMBER} \|", near_of("vex")),
+    (rf"Of {NUMBER} strings the three don't say the same", near_differing),
     (rf"all {NUMBER} (?:structs|kinds|variants|instructions)", structs),
     (rf"(?:each of the|[Tt]he) {NUMBER} (?:structs:|instructions (?:have|ask)|variants)", structs),
     (rf"{NUMBER} tails, {NUMBER} relative places, {NUMBER} displacements", of("tails"), of("relative"), of("disp")),

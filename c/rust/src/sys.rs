@@ -954,8 +954,9 @@ unsafe extern "C" {
     /// traps of the instructions, in their order, each at the place of its instruction. No late offset is known.
     ///
     /// At `HQ_OK` `done` has how many items, bytes and traps there are, at `HQ_FULL` how many there would be. At another status
-    /// `items` is the number of the item that is refused, from 0: the first that is none, or else the first that has a fault or whose
-    /// label or constant can't be bound, or else the first that refers to what has no place.
+    /// `bytes` and `uses` are 0, and `items` is the number of the item that is refused, from 0: the first that is none, or else the
+    /// first that has a fault or whose label or constant can't be bound, or else, at `HQ_UNBOUND`, the first that refers to what has no
+    /// place. At `HQ_TOO_MANY`, `HQ_OUT_OF_RANGE` and `HQ_NO_MEMORY` none is named, and `items` is 0.
     ///
     /// It asks for memory, and has given all of it back when it answers.
     pub unsafe fn hq_assemble(items: *const hq_item, items_len: usize, code: *mut u8, code_len: usize, uses: *mut hq_use, uses_len: usize, done: *mut hq_done) -> i32;
@@ -976,7 +977,8 @@ unsafe extern "C" {
     ///
     /// A use's `at` counts from the beginning of `code`. At `HQ_OK` `done` has how many instructions, bytes and uses were put, at
     /// `HQ_FULL` how many there would be. Where an instruction is refused, `items` is its number, from 0, and the rest of `done` is
-    /// of those before it; the status is that of `hq_check`. `HQ_TOO_MANY` above 165,191,049 instructions. No late offset is known.
+    /// of those before it; the status is that of `hq_check`. `HQ_TOO_MANY` above 165,191,049 instructions, and `done` is all 0. No late
+    /// offset is known.
     pub unsafe fn hq_encode_all(insts: *const hq_inst, insts_len: usize, code: *mut u8, code_len: usize, uses: *mut hq_use, uses_len: usize, done: *mut hq_done) -> i32;
     /// Puts the name of the extension that a line asks for at the front of some bytes, as `hq_format` does with a text, but without
     /// memory: `sse`, `sse2`, `bmi1`, `bmi2`, `lzcnt`, `popcnt`, `avx` or `cmpxchg16b`, or nothing. `HQ_BAD_LINE` where no line has

@@ -21,6 +21,7 @@ use Rattle.x64_code_buffer.specs.declared.buffer.CodeBuffer.{CodeBuffer}
 use Rattle.x64_core.specs.Core.{core_meant, fault_of}
 use Rattle.x64_core.specs.View.{core_view}
 use Rattle.x64_core.specs.declared.instruction.Core.{Core}
+use Rattle.x64_layout.specs.declared.span.TheConstants.{MOST_SPANS}
 
 -- Labels of a buffer that has nothing else.
 
@@ -61,7 +62,7 @@ has_items items xs b t new makes h put tested =
 refused_first : (fault : Core → Option Fault) (given : ℕ) (places : DeferredTarget → Option ℕ) (xs : List (Item Core)) (e : LayoutError) (other : Core → Option Fault) → fault ≡ other → IfSome (number_in e) (λ k. IsFirstRefusal fault given places xs k e) → IfSome (number_in e) (λ k. IsFirstRefusal other given places xs k e)
 refused_first fault given places xs e other same h = subst (λ (f : Core → Option Fault). IfSome (number_in e) (λ k. IsFirstRefusal f given places xs k e)) same h
 
-pub put_refused : {A : Type 0} (items : List HqItem) (xs : List (Item Core)) (number : ℕ) (status : ℤ) (e : LayoutError) (b : CodeBuffer A) → MakesEach items xs → Begun (label_count b) b → length items ≤ 165191049 → IfSome (number_in e) (λ k. IsFirstRefusal (λ core. (listed (core_meant (core_view core)) (buffer_state b).offsets).fault) (label_count b) (places_of b) xs k e) → (e ≡ refusal.TooMany → 165191049 < length xs) → TellsOf e number status → (status ≡ pos 11) ⊎ FirstRefused (CantBePut (label_count b)) items number status
+pub put_refused : {A : Type 0} (items : List HqItem) (xs : List (Item Core)) (number : ℕ) (status : ℤ) (e : LayoutError) (b : CodeBuffer A) → MakesEach items xs → Begun (label_count b) b → length items ≤ MOST_SPANS → IfSome (number_in e) (λ k. IsFirstRefusal (λ core. (listed (core_meant (core_view core)) (buffer_state b).offsets).fault) (label_count b) (places_of b) xs k e) → (e ≡ refusal.TooMany → MOST_SPANS < length xs) → TellsOf e number status → (status ≡ pos 11) ⊎ FirstRefused (CantBePut (label_count b)) items number status
 put_refused items xs number status e b makes h few first many told =
     let none : (buffer_state b).offsets ≡ no_offsets = known (buffer_state b) h.offsets in
     let is : IfSome (number_in e) (λ k. IsFirstRefusal core_fault (label_count b) (places_of b) xs k e) = refused_first (λ core. (listed (core_meant (core_view core)) (buffer_state b).offsets).fault) (label_count b) (places_of b) xs e core_fault (ap {B = Core → Option Fault} (λ (o : ℕ → Option ℤ) (core : Core). fault_of o (core_view core)) none) first in
