@@ -7,7 +7,7 @@ use Rattle.x64_assemble.specs.Assembled.{distance_in}
 use Rattle.x64_assemble.proofs.laws.a_jump_leads_to_its_label.Goals as goal
 
 pub returns : goal.returns
-returns g c = λ offsets items pieces before after old new put n label spot is.
+returns g c = λ meant items pieces before after old new put n label spot is.
     let base : ℕ = length before.bytes in
     let sum : pos (base + place_in put.lens (n + 1)) +ℤ distance_in put.lens n spot ≡ pos (base + place_in put.lens spot) = omega (arith, ints) in
     ap (λ (z : ℤ). Some (modulo_64_bits z)) sum ∙ sym (ap (option_map (λ (place : ℕ). modulo_64_bits (pos place))) (put.bound label spot is))
