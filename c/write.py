@@ -2,7 +2,8 @@
 """Writes huqmeris.h, huqmeris_names.h, the Rust declarations and abi.txt from the sources, or with --check tells which of them differ.
 
 The structs and constants are those of `cax64_plain` and of `huqmeris_c`, the calls those of `huqmeris_c`, and the numbers of
-lines those of the two tables in `table`, in their order. A call is refused that has no clause, that requires something of its
+lines those of the two tables in `table`, in their order. An item that is a jump at a condition has the condition's name and number in
+the list of the code buffer: where `huqmeris_c` names or numbers it otherwise, it's refused. A call is refused that has no clause, that requires something of its
 caller, or in whose signature stands what isn't an integer, a slice or a reference of integers, or a struct of these without
 padding and without a ghost field. abi.txt has all names, numbers and offsets: where one that stands in it changes or goes,
 `HQ_VERSION` has to change too.
@@ -25,10 +26,12 @@ from core_lines import CORE, core_of  # noqa: E402
 from judging import table_of  # noqa: E402
 
 STRUCT_FILES = [f"crates/cax64_plain/src/{name}.rt" for name in ("place", "inst", "reading", "told")]
-STRUCT_FILES += ["crates/huqmeris_c/src/progress.rt", "crates/huqmeris_c/src/item.rt"]
+STRUCT_FILES += [f"crates/huqmeris_c/src/{name}.rt" for name in ("progress", "item", "line_use")]
 STATUS_FILES = ["crates/cax64_plain/src/status.rt", "crates/huqmeris_c/src/status.rt"]
 CONSTANT_FILES = ["crates/huqmeris_c/src/version.rt", *STATUS_FILES, *STRUCT_FILES, "crates/huqmeris_c/src/make.rt"]
 EXPORT_FOLDER = "crates/huqmeris_c/src"
+CONDITIONS = "crates/x64_code_buffer/src/jump.rt"
+FIRST_CONDITION = 4  # the kind of item of the first one
 INTEGERS = {
     "u8": ("uint8_t", 1), "i8": ("int8_t", 1), "u16": ("uint16_t", 2), "i16": ("int16_t", 2), "u32": ("uint32_t", 4),
     "i32": ("int32_t", 4), "u64": ("uint64_t", 8), "i64": ("int64_t", 8), "usize": ("size_t", 8),
@@ -38,6 +41,9 @@ STRUCT = re.compile(DOC + r"#\[repr\(C\)\]\n(?:#\[[^\n]*\]\n)*pub struct (\w+) \
 ALLOCATOR = "Global"  # passes nothing
 FIELD = re.compile(DOC + r"[ \t]*(pub |ghost |)(\w+): ([^,\n]+),\n")
 CONSTANT = re.compile(DOC + r"pub const (HQ_\w+): (\w+) = ([^;]+);")
+CONDITION_LIST = re.compile(r"pub enum Condition \{\n(.*?)\n\}", re.DOTALL)
+CONDITION = re.compile(r"^    (\w+),$", re.MULTILINE)
+CONDITION_ITEM = re.compile(r"HQ_ITEM_J(?!MP$)\w+")
 EXPORT = re.compile(DOC + r'#\[unsafe\(no_mangle\)\]\npub (unsafe )?extern "C" fn (\w+)\(([^)]*)\)([^{\n]*)\n(.*?)^\{\n', re.DOTALL | re.MULTILINE)
 MARK = re.compile(r"no_mangle|export_name")
 
@@ -112,6 +118,23 @@ def number_of(name, text):
     return int(text)
 
 
+def condition_items():
+    """The kinds of items that are jumps at a condition, by name: in the order of the conditions, which is that of their codes."""
+    listed = CONDITION_LIST.search(text_of(CONDITIONS))
+    names = CONDITION.findall(listed[1]) if listed else []
+    if len(names) != 16:
+        raise Refused(f"{CONDITIONS}: there are {len(names)} conditions, and a jump's opcode has four bits for them")
+    return {f"HQ_ITEM_J{name.upper()}": FIRST_CONDITION + code for code, name in enumerate(names)}
+
+
+def judge_conditions(found):
+    """Each condition has its item, and there is no other."""
+    wanted, items = condition_items(), {constant.name: constant.value for constant in found if CONDITION_ITEM.fullmatch(constant.name)}
+    for name in sorted(wanted.keys() | items.keys()):
+        if wanted.get(name) != items.get(name):
+            raise Refused(f"{name} is {items.get(name)} here, and by the list of conditions {wanted.get(name)}")
+
+
 def constants():
     found = []
     for path in CONSTANT_FILES:
@@ -119,6 +142,7 @@ def constants():
             if kind not in INTEGERS:
                 raise Refused(f"{name}: {kind} is no integer")
             found.append(Constant(paragraphs(doc), name, kind, number_of(name, value)))
+    judge_conditions(found)
     return found
 
 

@@ -527,6 +527,7 @@ static void items(input *in)
     if (status == HQ_NO_MEMORY) {
         promise(refused_at && asked >= refused_at, "hq_assemble lacks memory that wasn't refused");
         promise(is_filled(code, room) && is_filled(uses, places * sizeof *uses), "hq_assemble lacks memory and writes");
+        promise(!done->items && !done->bytes && !done->uses, "hq_assemble lacks memory and names an item");
         refused_at = 0;
         return;
     }

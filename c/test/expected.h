@@ -205,6 +205,8 @@ static int is_assembled(const hq_item *items, size_t n, int32_t status, const hq
         wanted = HQ_FULL;
     if (status != wanted || done->items != number)
         return 0;
+    if (status != HQ_OK && status != HQ_FULL && (done->bytes || done->uses))
+        return 0;
     if (status == HQ_OK) {
         bytes = done->bytes;
         told = done->uses;

@@ -1,6 +1,6 @@
 /* Three functions of a program's own in the place of those of heap.c: each growth is refused in turn, and then each call answers
- * HQ_NO_MEMORY, what it could write is as before but for what it tells of items, and all memory is given back. The status is 0 where
- * that is so. */
+ * HQ_NO_MEMORY, what it could write is as before, `done` of a list is all 0, and all memory is given back. The status is 0 where that
+ * is so. */
 #include "filled.h"
 #include "huqmeris.h"
 #include "own_heap.h"
@@ -65,9 +65,10 @@ static size_t assembles(uint8_t trap, int *is_wanted)
         asked = 0;
         memset(code, 0xA5, sizeof code);
         memset(uses, 0xA5, sizeof uses);
+        memset(&done, 0xA5, sizeof done);
         int32_t status = hq_assemble(items, count, code, sizeof code, uses, LABELS, &done);
         int is_put = status == HQ_OK && done.items == count && done.uses == (trap ? LABELS : 0) && are_told(trap, uses, code);
-        int is_refused = status == HQ_NO_MEMORY && is_filled(code, sizeof code) && is_filled(uses, sizeof uses);
+        int is_refused = status == HQ_NO_MEMORY && is_filled(code, sizeof code) && is_filled(uses, sizeof uses) && !done.items && !done.bytes && !done.uses;
         *is_wanted = held == 0 && refused_at < 1000 && (is_put || (is_refused && asked >= refused_at));
         if (asked < refused_at)
             break;

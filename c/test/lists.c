@@ -477,6 +477,19 @@ static int are_not_bound(void)
         || refused("data isn't refused");
 }
 
+/* More items than there may be. None is looked at, so none of the memory that they would take is. */
+static int are_too_many(void)
+{
+    enum { TOO_MANY = 165191050 };
+    hq_done listed = {77, 77, 77}, laid = {77, 77, 77};
+    uint8_t code = FILLING;
+    void *all = mmap(NULL, TOO_MANY * sizeof(hq_item), PROT_READ, MAP_PRIVATE | MAP_ANONYMOUS | MAP_NORESERVE, -1, 0);
+    int is_wanted = all != MAP_FAILED && hq_encode_all(all, TOO_MANY, &code, 1, NULL, 0, &listed) == HQ_TOO_MANY
+                    && hq_assemble(all, TOO_MANY, &code, 1, NULL, 0, &laid) == HQ_TOO_MANY && code == FILLING;
+    int are_nothing = !listed.items && !listed.bytes && !listed.uses && !laid.items && !laid.bytes && !laid.uses;
+    return (is_wanted && are_nothing && munmap(all, TOO_MANY * sizeof(hq_item)) == 0) || refused("too many items aren't refused");
+}
+
 /* A virtual register has no name, and there is no line 584. */
 static int are_named(void)
 {
@@ -500,7 +513,7 @@ int main(int argc, char **argv)
         return 2;
     if (!read_cases(file) || !are_encoded() || !are_assembled() || !are_all_told() || !are_told() || !are_linked() || !are_least() || !is_loaded()
         || !are_referred_to() || !are_held() || !are_padded() || !are_far() || !are_no_items() || !are_not_bound() || !are_trapped() || !are_trapped_behind()
-        || !are_not_told() || !are_named())
+        || !are_not_told() || !are_too_many() || !are_named())
         return refused("lists through C: not as wanted") + 1;
     printf("lists through C: %zu instructions of %zu bytes, as wanted\n", count, size);
     return 0;

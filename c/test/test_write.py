@@ -1,5 +1,5 @@
 #!/usr/bin/env python3
-"""Gives write.py exports and structs that it has to refuse, with the sentence that each gets."""
+"""Gives write.py exports, structs and items that it has to refuse, with the sentence that each gets."""
 
 import sys
 from pathlib import Path
@@ -28,6 +28,13 @@ BAD_ABI = {
 }
 
 
+BAD_CONDITIONS = {
+    "HQ_ITEM_JAE is 6 here, and by the list of conditions 7": {"HQ_ITEM_JAE": 6, "HQ_ITEM_JB": 7},
+    "HQ_ITEM_JB is None here": {"HQ_ITEM_JB": None},
+    "HQ_ITEM_JC is 6 here, and by the list of conditions None": {"HQ_ITEM_JC": 6},
+}
+
+
 def sentence_of(does):
     try:
         does()
@@ -42,6 +49,12 @@ def exports_of(text, folder):
     return write.exports({})
 
 
+def judge_items(others):
+    """The items of the conditions, of which some have other numbers or none."""
+    items = {**write.condition_items(), **others}
+    write.judge_conditions([write.Constant([], name, "u32", value) for name, value in items.items() if value is not None])
+
+
 def main():
     failed = 0
     folder = HERE.parent / "out/exports"
@@ -49,6 +62,7 @@ def main():
     tried = [(wanted, lambda text=text: exports_of(text, folder)) for wanted, text in BAD_EXPORTS.items()]
     tried += [(wanted, lambda text=text: write.struct_of("", "X", text)) for wanted, text in BAD_STRUCTS.items()]
     tried += [(wanted, lambda pair=pair: write.judge_abi(*pair)) for wanted, pair in BAD_ABI.items()]
+    tried += [(wanted, lambda items=items: judge_items(items)) for wanted, items in BAD_CONDITIONS.items()]
     for wanted, does in tried:
         got = sentence_of(does)
         if wanted not in got:

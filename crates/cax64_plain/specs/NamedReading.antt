@@ -6,11 +6,12 @@ use Rattle.cax64_machine_code.specs.declared.reading.RegView.TheVariants.{Low, H
 use Rattle.cax64_plain.specs.declared.reading.HqReading.{HqReading}
 use Rattle.cax64_plain.specs.declared.reading.PlacePart.{PlacePart}
 use Rattle.cax64_plain.specs.declared.reading.RestPart.{RestPart}
+use Rattle.cax64_plain.specs.declared.reading.TheConstants.{HQ_READ_HIGH_BYTE, HQ_READ_MEMORY, HQ_READ_REGISTER, HQ_READ_RELATIVE}
 
 -- What the integers of a reading name.
 
 abbrev pub view_named : ℕ → ℕ → Option RegView
-view_named kind number = if kind == 1 then Some (Low number) else (if kind == 2 then Some (High number) else None)
+view_named kind number = if kind == HQ_READ_REGISTER then Some (Low number) else (if kind == HQ_READ_HIGH_BYTE then Some (High number) else None)
 
 abbrev pub number_named : ℕ → ℕ → Option ℕ
 number_named stands number = if stands == 1 then Some number else None
@@ -23,9 +24,9 @@ imm_named stands imm = if stands == 1 then Some imm else None
 
 abbrev pub part_named : PlacePart → Option Place
 part_named p =
-    if p.kind == 3
+    if p.kind == HQ_READ_MEMORY
     then Some (Mem (number_named p.has_base p.base) (index_named p.has_index p.index p.factor) p.disp)
-    else (if p.kind == 4 then Some (Rip p.disp) else option_map Reg (view_named p.kind p.base))
+    else (if p.kind == HQ_READ_RELATIVE then Some (Rip p.disp) else option_map Reg (view_named p.kind p.base))
 
 abbrev pub part_in : HqReading → PlacePart
 part_in r = record { kind = r.place_kind; has_base = r.has_base; base = r.base; has_index = r.has_index; index = r.index; factor = r.factor; disp = r.disp }

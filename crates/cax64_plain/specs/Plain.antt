@@ -9,6 +9,7 @@ use Rattle.cax64_encoder.specs.declared.role.PlaceOperand as operand
 use Rattle.cax64_encoder.specs.declared.role.PlaceOperand.{PlaceOperand}
 use Rattle.cax64_plain.specs.declared.inst.HqInst.{HqInst}
 use Rattle.cax64_plain.specs.declared.place.HqPlace.{HqPlace}
+use Rattle.cax64_plain.specs.declared.place.TheConstants.{HQ_PLACE_BASE, HQ_PLACE_CONSTANT, HQ_PLACE_INDEX, HQ_PLACE_LABEL, HQ_PLACE_NOTHING, HQ_PLACE_REGISTER, HQ_PLACE_UNTOLD}
 use Rattle.cax64_sink.specs.declared.DeferredTarget.{DeferredTarget}
 use Rattle.cax64_sink.specs.declared.DeferredTarget.TheVariants as target
 use Rattle.cax64_sink.specs.declared.TrapCode.{TrapCode}
@@ -26,13 +27,13 @@ trap_number (Some code) = non_zero_u8_get code.0
 
 -- memory relative to the end of the instruction
 abbrev pub target_place : DeferredTarget → HqPlace
-target_place (target.Label label) = record { place = 4; base = 0; index = 0; scale = 0; trap = 0; has_offset = 0; offset = 0; reserved = 0; disp = pos 0; target = label.0 }
-target_place (target.Constant constant) = record { place = 5; base = 0; index = 0; scale = 0; trap = 0; has_offset = 0; offset = 0; reserved = 0; disp = pos 0; target = constant.0 }
-target_place target.None = record { place = 6; base = 0; index = 0; scale = 0; trap = 0; has_offset = 0; offset = 0; reserved = 0; disp = pos 0; target = 0 }
+target_place (target.Label label) = record { place = HQ_PLACE_LABEL; base = 0; index = 0; scale = 0; trap = 0; has_offset = 0; offset = 0; reserved = 0; disp = pos 0; target = label.0 }
+target_place (target.Constant constant) = record { place = HQ_PLACE_CONSTANT; base = 0; index = 0; scale = 0; trap = 0; has_offset = 0; offset = 0; reserved = 0; disp = pos 0; target = constant.0 }
+target_place target.None = record { place = HQ_PLACE_UNTOLD; base = 0; index = 0; scale = 0; trap = 0; has_offset = 0; offset = 0; reserved = 0; disp = pos 0; target = 0 }
 
 abbrev pub plain_memory : Amode ℕ → HqPlace
 plain_memory (ImmReg base simm32 trap) = record {
-  place = 2;
+  place = HQ_PLACE_BASE;
   base = base;
   index = 0;
   scale = 0;
@@ -44,7 +45,7 @@ plain_memory (ImmReg base simm32 trap) = record {
   target = 0;
 }
 plain_memory (ImmRegRegShift base index scale simm32 trap) = record {
-  place = 3;
+  place = HQ_PLACE_INDEX;
   base = base;
   index = index;
   scale = scale_number scale;
@@ -58,8 +59,8 @@ plain_memory (ImmRegRegShift base index scale simm32 trap) = record {
 plain_memory (RipRelative target) = target_place target
 
 abbrev pub plain_place : PlaceOperand ℕ → HqPlace
-plain_place operand.TheVariants.NoPlace = record { place = 0; base = 0; index = 0; scale = 0; trap = 0; has_offset = 0; offset = 0; reserved = 0; disp = pos 0; target = 0 }
-plain_place (operand.TheVariants.Register number) = record { place = 1; base = number_value number; index = 0; scale = 0; trap = 0; has_offset = 0; offset = 0; reserved = 0; disp = pos 0; target = 0 }
+plain_place operand.TheVariants.NoPlace = record { place = HQ_PLACE_NOTHING; base = 0; index = 0; scale = 0; trap = 0; has_offset = 0; offset = 0; reserved = 0; disp = pos 0; target = 0 }
+plain_place (operand.TheVariants.Register number) = record { place = HQ_PLACE_REGISTER; base = number_value number; index = 0; scale = 0; trap = 0; has_offset = 0; offset = 0; reserved = 0; disp = pos 0; target = 0 }
 plain_place (operand.TheVariants.Memory amode) = plain_memory amode
 
 -- the low 32 bits of an immediate, which has no more

@@ -8,13 +8,14 @@ use Rattle.cax64_machine_code.specs.declared.reading.RegView.TheVariants.{Low, H
 use Rattle.cax64_plain.specs.Plain.{or_0}
 use Rattle.cax64_plain.specs.declared.reading.HqReading.{HqReading}
 use Rattle.cax64_plain.specs.declared.reading.PlacePart.{PlacePart}
+use Rattle.cax64_plain.specs.declared.reading.TheConstants.{HQ_READ_HIGH_BYTE, HQ_READ_MEMORY, HQ_READ_NOTHING, HQ_READ_REGISTER, HQ_READ_RELATIVE}
 use Rattle.x64_core.specs.Line.{core_line}
 
 -- What was read, in integers. What isn't there is 0.
 
 abbrev pub view_kind : RegView → ℕ
-view_kind (Low number) = 1
-view_kind (High number) = 2
+view_kind (Low number) = HQ_READ_REGISTER
+view_kind (High number) = HQ_READ_HIGH_BYTE
 
 abbrev pub view_number : RegView → ℕ
 view_number (Low number) = number
@@ -29,10 +30,10 @@ factor_of None = 0
 factor_of (Some index) = index.1
 
 abbrev pub part_of : Option Place → PlacePart
-part_of None = record { kind = 0; has_base = 0; base = 0; has_index = 0; index = 0; factor = 0; disp = pos 0 }
+part_of None = record { kind = HQ_READ_NOTHING; has_base = 0; base = 0; has_index = 0; index = 0; factor = 0; disp = pos 0 }
 part_of (Some (Reg view)) = record { kind = view_kind view; has_base = 0; base = view_number view; has_index = 0; index = 0; factor = 0; disp = pos 0 }
 part_of (Some (Mem base index disp)) = record {
-  kind = 3;
+  kind = HQ_READ_MEMORY;
   has_base = from_bool (is_some base);
   base = or_0 base;
   has_index = from_bool (is_some index);
@@ -40,10 +41,10 @@ part_of (Some (Mem base index disp)) = record {
   factor = factor_of index;
   disp = disp;
 }
-part_of (Some (Rip disp)) = record { kind = 4; has_base = 0; base = 0; has_index = 0; index = 0; factor = 0; disp = disp }
+part_of (Some (Rip disp)) = record { kind = HQ_READ_RELATIVE; has_base = 0; base = 0; has_index = 0; index = 0; factor = 0; disp = disp }
 
 abbrev pub reg_kind : Option RegView → ℕ
-reg_kind None = 0
+reg_kind None = HQ_READ_NOTHING
 reg_kind (Some view) = view_kind view
 
 abbrev pub reg_number : Option RegView → ℕ

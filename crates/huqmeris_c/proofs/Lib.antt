@@ -6,12 +6,12 @@ pub mod Turns
 pub mod Plainly
 pub mod Listing
 pub mod Middle
-pub mod OfKinds
 pub mod Made
 pub mod Splits
 pub mod Refusing
 pub mod Behind
 pub mod Unlisted
+pub mod Untold
 pub mod Begun
 pub mod Settled
 pub mod Opened

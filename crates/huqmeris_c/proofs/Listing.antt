@@ -36,6 +36,7 @@ use Rattle.x64_core.specs.Line.{core_line}
 use Rattle.x64_core.specs.Lines.{core_lines}
 use Rattle.x64_core.specs.View.{CoreView, core_view}
 use Rattle.x64_core.specs.declared.instruction.Core.{Core}
+use Rattle.x64_layout.specs.declared.span.TheConstants.{MOST_SPANS}
 
 -- Instructions that are encoded one behind the other.
 
@@ -165,6 +166,7 @@ number_told (Some (RipRelative target)) at r = refl
 pub record PutSoFar (done left : List HqInst) (first code : List ℕ) (before uses : List HqUse) (at count n : ℕ) : Type 0 where
   pub cores : List Core
   pub are : plains cores ≡ done
+  pub sound : EachSound cores
   pub encodes : EncodesEach cores 0 (take at code) (take count uses)
   pub others : drop at code ≡ drop at first
   pub more : drop count uses ≡ drop count before
@@ -198,6 +200,7 @@ pub begun : (insts : List HqInst) (code : List ℕ) (uses : List HqUse) → HasR
 begun insts code uses h = record {
   cores = [];
   are = refl;
+  sound = tt;
   encodes = none_encoded 0;
   others = refl;
   more = refl;
@@ -224,6 +227,7 @@ put_more done later inst core first code code' before uses uses' heard at count 
     record {
       cores = h.cores ++ core ∷ [];
       are = plains_more h.cores core ∙ ap (λ (l : List HqInst). l ++ plain (core_view core) ∷ []) h.are ∙ ap (λ (i : HqInst). done ++ i ∷ []) is;
+      sound = sound_more h.cores core h.sound (ap (λ (v : CoreView). fault_of no_offsets v) (sym same) ∙ left.sound);
       encodes = subst (λ (l : List HqUse). EncodesEach (h.cores ++ core ∷ []) 0 (take (at + len) code') l) (sym front) (subst (λ (l : List ℕ). EncodesEach (h.cores ++ core ∷ []) 0 l (take count uses ++ heard)) (sym prefix) encodes);
       others = rest ∙ further at len code first h.others;
       more = behind ∙ subst (λ (k : ℕ). drop k uses ≡ drop k before) (sym number) (further count (length heard) uses before h.more);
@@ -244,6 +248,7 @@ pub put_all : (insts : List HqInst) (first code : List ℕ) (before uses : List 
 put_all insts first code before uses at count n h = record {
   cores = h.cores;
   are = h.are;
+  sound = h.sound;
   added = take at code;
   heard = take count uses;
   encodes = h.encodes;
@@ -295,13 +300,13 @@ measured_more insts d bytes uses i n m a b h within size is_a is_b =
       few = omega (arith, count, one, few, is_b);
     }
 
-pub bytes_few : (done : List HqInst) (bytes uses i n m a : ℕ) (inst : HqInst) → MeasuredSoFar done bytes uses i → i < 165191049 → HasSize inst n m → a ≡ n → bytes + a < 2 ^ 32
+pub bytes_few : (done : List HqInst) (bytes uses i n m a : ℕ) (inst : HqInst) → MeasuredSoFar done bytes uses i → i < MOST_SPANS → HasSize inst n m → a ≡ n → bytes + a < 2 ^ 32
 bytes_few done bytes uses i n m a inst h small size is =
     let k : n ≤ 13 = size.most in
     let most = h.most in
     omega (arith, k, most, is, small)
 
-pub uses_few : (done : List HqInst) (bytes uses i n m b : ℕ) (inst : HqInst) → MeasuredSoFar done bytes uses i → i < 165191049 → HasSize inst n m → b ≡ m → uses + b < 2 ^ 32
+pub uses_few : (done : List HqInst) (bytes uses i n m b : ℕ) (inst : HqInst) → MeasuredSoFar done bytes uses i → i < MOST_SPANS → HasSize inst n m → b ≡ m → uses + b < 2 ^ 32
 uses_few done bytes uses i n m b inst h small size is =
     let count : m ≡ core_notices (core_view size.core) = size.count in
     let one : core_notices (core_view size.core) ≤ 1 = notices_few (memory_in (core_view size.core).place) in
@@ -329,7 +334,7 @@ next_more insts d first code code' before uses uses' at count i at' count' h wit
     subst (λ (l : List HqInst). PutSoFar l (drop (i + 1) insts) first code' before uses' at' count' (i + 1)) (sym (take_more insts i d within))
     (subst (λ (k : ℕ). PutSoFar (take i insts ++ get_or insts i d ∷ []) (drop (i + 1) insts) first code' before uses' k count' (i + 1)) (sym put.end) more)
 
-pub next_near : (done left : List HqInst) (first code : List ℕ) (before uses : List HqUse) (at count i : ℕ) → PutSoFar done left first code before uses at count i → i < 165191049 → at < 2 ^ 31
+pub next_near : (done left : List HqInst) (first code : List ℕ) (before uses : List HqUse) (at count i : ℕ) → PutSoFar done left first code before uses at count i → i < MOST_SPANS → at < 2 ^ 31
 next_near done left first code before uses at count i h small = let m = h.most in omega (arith, m, small)
 
 -- One that is put, and what it tells.

@@ -26,6 +26,7 @@ use Rattle.x64_code_buffer.specs.declared.jump.Jump.{Jump}
 use Rattle.x64_core.specs.Core.{fault_of}
 use Rattle.x64_core.specs.View.{CoreView}
 use Rattle.x64_core.specs.declared.instruction.Core.{Core}
+use Rattle.x64_layout.specs.declared.span.TheConstants.{MOST_SPANS}
 
 -- Items and the list that they are.
 
@@ -261,10 +262,10 @@ refused_by given hs xs places n number status e makes none is told =
     first_one given hs xs places n number status makes is.first (refuses_by given hs xs places n number status e (slice_get xs n) makes none refl is.is told)
 
 -- A list that isn't put is told so.
-pub list_refused : (given : ℕ) (hs : List HqItem) (xs : List (Item Core)) (places : DeferredTarget → Option ℕ) (number : ℕ) (status : ℤ) (e : LayoutError) → MakesEach hs xs → length hs ≤ 165191049 → ((goes_to : DeferredTarget) → places goes_to ≡ None) → IfSome (number_in e) (λ n. IsFirstRefusal core_fault given places xs n e) → (e ≡ refusal.TooMany → 165191049 < length xs) → TellsOf e number status → (status ≡ pos 11) ⊎ FirstRefused (CantBePut given) hs number status
+pub list_refused : (given : ℕ) (hs : List HqItem) (xs : List (Item Core)) (places : DeferredTarget → Option ℕ) (number : ℕ) (status : ℤ) (e : LayoutError) → MakesEach hs xs → length hs ≤ MOST_SPANS → ((goes_to : DeferredTarget) → places goes_to ≡ None) → IfSome (number_in e) (λ n. IsFirstRefusal core_fault given places xs n e) → (e ≡ refusal.TooMany → MOST_SPANS < length xs) → TellsOf e number status → (status ≡ pos 11) ⊎ FirstRefused (CantBePut given) hs number status
 list_refused given hs xs places number status (refusal.Fault n why) makes few none is many told = refused_by given hs xs places n number status (refusal.Fault n why) makes none is told
 list_refused given hs xs places number status (refusal.Bind n why) makes few none is many told = refused_by given hs xs places n number status (refusal.Bind n why) makes none is told
-list_refused given hs xs places number status refusal.TooMany makes few none is many told = let e : length xs ≡ length hs = makes_length hs xs makes in let k : 165191049 < length xs = many refl in absurd (omega (arith, few, e, k))
+list_refused given hs xs places number status refusal.TooMany makes few none is many told = let e : length xs ≡ length hs = makes_length hs xs makes in let k : MOST_SPANS < length xs = many refl in absurd (omega (arith, few, e, k))
 list_refused given hs xs places number status refusal.NoMemory makes few none is many told = inl told
 
 -- The first that is no item.

@@ -4,8 +4,9 @@ use Rattle.std.proofs.lemmas.Option.{same_Some, slice_get-get_or}
 use Rattle.cax64_sink.specs.declared.DeferredTarget.{DeferredTarget}
 use Rattle.cax64_sink.specs.declared.DeferredTarget.TheVariants as target
 use Rattle.huqmeris_c.proofs.Behind.{some_or_none}
-use Rattle.huqmeris_c.specs.Items.{IsPlaceless, UnboundAt}
-use Rattle.huqmeris_c.specs.Putting.{HasPlaces, LacksPlace, OpenAt, Opens}
+use Rattle.huqmeris_c.proofs.Splits.{get_within}
+use Rattle.huqmeris_c.specs.Items.{IsPlaceless, NoneUnbound, UnboundAt}
+use Rattle.huqmeris_c.specs.Putting.{HasPlaces, LacksPlace, NoneOpens, OpenAt, Opens}
 use Rattle.huqmeris_c.specs.declared.item.HqItem.{HqItem}
 
 -- What has no place in a buffer has none among the items that were put.
@@ -38,6 +39,9 @@ unbound_at items places number h found = record {
   first = λ k earlier other lt is refers none. found.first k earlier lt is (other, refers, lacking items places other h none);
 }
 
+pub none_unbound : (items : List HqItem) (places : DeferredTarget → Option ℕ) → HasPlaces places items → NoneOpens places items → NoneUnbound items
+none_unbound items places h none = λ k item goes_to is refers placeless. none k item is (goes_to, refers, lacking items places goes_to h placeless)
+
 -- none of the first refers to what has no place
 abbrev pub NoneOpen : (DeferredTarget → Option ℕ) → List HqItem → ℕ → Type 0
 NoneOpen places items i = (k : ℕ) (earlier : HqItem) → k < i → slice_get items k ≡ Some earlier → Opens places earlier → ⊥
@@ -54,3 +58,6 @@ none_more places items d i within shut before = λ k earlier lt is opens. by_ord
         let here : k ≡ i = omega (arith, lt, more) in
         let same : get_or items i d ≡ earlier = same_Some (get_or items i d) earlier (sym (slice_get-get_or items i d within) ∙ ap (slice_get items) (sym here) ∙ is) in
         shut (subst (λ (x : HqItem). Opens places x) (sym same) opens)
+
+pub none_opens : (places : DeferredTarget → Option ℕ) (items : List HqItem) (i : ℕ) → length items ≤ i → NoneOpen places items i → NoneOpens places items
+none_opens places items i end before = λ k item is opens. let within : k < length items = get_within items k item is in before k item (omega (arith, within, end)) is opens

@@ -6,7 +6,7 @@ use Rattle.huqmeris_c.proofs.Made.{MadeOf, jump_not, made_of, no_code_made}
 use Rattle.huqmeris_c.proofs.Splits.{Starts, data_before, get_within, high_get, high_take, low_get, low_take, none_at, none_taken}
 use Rattle.huqmeris_c.specs.Data.{is_data}
 use Rattle.huqmeris_c.specs.Items.{AreItems, CantBePut, FirstRefused, IsCode, NoItem, has_data, jump_named}
-use Rattle.huqmeris_c.specs.Putting.{AreData, BadDatum, FirstBehind, IsDatum, MakesEach, NoCode}
+use Rattle.huqmeris_c.specs.Putting.{AreData, BadDatum, FirstBehind, IsDatum, MakesEach, NoCode, NoneBehind}
 use Rattle.huqmeris_c.specs.declared.item.HqItem.{HqItem}
 use Rattle.x64_assemble.specs.declared.item.Item.{Item}
 use Rattle.x64_code_buffer.specs.declared.jump.Jump.{Jump}
@@ -174,6 +174,21 @@ behind_refused given front rest n status good h = record {
         let j : ℕ = k - length front in
         let e : k ≡ length front + j = omega (arith, high) in
         h.first j earlier other (omega (arith, lt, e)) (sym (high_get front rest j) ∙ ap (slice_get (front ++ rest)) (sym e) ∙ is) (subst (λ (l : List HqItem). CantBePut given l earlier other) (ap (λ (m : ℕ). take m (front ++ rest)) e ∙ high_take front rest j) c)
+
+-- all can be put
+pub all_can : (given : ℕ) (front rest : List HqItem) → ((k : ℕ) (h : HqItem) (other : ℤ) → slice_get front k ≡ Some h → CantBePut given (take k front) h other → ⊥) → NoneBehind given front rest (length rest) → (k : ℕ) (h : HqItem) (other : ℤ) → slice_get (front ++ rest) k ≡ Some h → CantBePut given (take k (front ++ rest)) h other → ⊥
+all_can given front rest good none k h other is c = by_place (cases_lt k (length front))
+  where
+    by_place : (k < length front) ⊎ (length front ≤ k) → ⊥
+    by_place (inl low) = good k h other (sym (low_get front rest k low) ∙ is) (subst (λ (l : List HqItem). CantBePut given l h other) (low_take front rest k (omega (arith, low))) c)
+    by_place (inr high) =
+        let j : ℕ = k - length front in
+        let e : k ≡ length front + j = omega (arith, high) in
+        let there : slice_get rest j ≡ Some h = sym (high_get front rest j) ∙ ap (slice_get (front ++ rest)) (sym e) ∙ is in
+        none j h other (get_within rest j h there) there (subst (λ (l : List HqItem). CantBePut given l h other) (ap (λ (m : ℕ). take m (front ++ rest)) e ∙ high_take front rest j) c)
+
+pub none_at_end : (given : ℕ) (front items : List HqItem) (i : ℕ) → length items ≤ i → NoneBehind given front items i → NoneBehind given front items (length items)
+none_at_end given front items i end none = λ k earlier other lt is denied. none k earlier other (omega (arith, lt, end)) is denied
 
 -- Items up to one can stand where data does.
 abbrev pub DataUpTo : List HqItem → ℕ → Type 0

@@ -5,13 +5,14 @@ use Rattle.cax64_plain.specs.declared.inst.HqInst.{HqInst}
 use Rattle.cax64_sink.specs.declared.DeferredTarget.{DeferredTarget}
 use Rattle.cax64_sink.specs.declared.DeferredTarget.TheVariants as target
 use Rattle.huqmeris_c.specs.declared.item.HqItem.{HqItem}
+use Rattle.huqmeris_c.specs.declared.item.TheConstants.{HQ_ITEM_ALIGN, HQ_ITEM_BYTES, HQ_ITEM_CONSTANT, HQ_ITEM_LABEL}
 use Rattle.x64_code_buffer.specs.Padding.{missing_to}
 
 -- The first item that is data begins it: behind it only data and places of labels stand.
 
 -- the place of a constant, bytes, and padding are data
 abbrev pub is_data : ℕ → Bool
-is_data kind = kind == 20 || (kind == 21 || kind == 22)
+is_data kind = kind == HQ_ITEM_CONSTANT || (kind == HQ_ITEM_BYTES || kind == HQ_ITEM_ALIGN)
 
 -- the items of code
 abbrev pub code_of : List HqItem → List HqItem
@@ -36,8 +37,8 @@ struct_bytes i =
 -- of 2 to its number
 abbrev pub data_in : ℕ → HqItem → List ℕ
 data_in at item =
-    if item.kind == 21 then take item.number (struct_bytes item.inst)
-    else (if item.kind == 22 then replicate (missing_to at (2 ^ item.number)) 0 else [])
+    if item.kind == HQ_ITEM_BYTES then take item.number (struct_bytes item.inst)
+    else (if item.kind == HQ_ITEM_ALIGN then replicate (missing_to at (2 ^ item.number)) 0 else [])
 
 -- what items of data hold, of which the first stands behind so many bytes
 abbrev pub data_from : ℕ → List HqItem → List ℕ
@@ -46,8 +47,8 @@ data_from at (item ∷ later) = data_in at item ++ data_from (at + length (data_
 
 -- a label or a constant that an item is the place of is bound to this place
 pub record IsBound (places : DeferredTarget → Option ℕ) (at : ℕ) (item : HqItem) : Type 0 where
-  pub label : item.kind ≡ 1 → places (target.Label (record { 0 = item.number })) ≡ Some at
-  pub constant : item.kind ≡ 20 → places (target.Constant (record { 0 = item.number })) ≡ Some at
+  pub label : item.kind ≡ HQ_ITEM_LABEL → places (target.Label (record { 0 = item.number })) ≡ Some at
+  pub constant : item.kind ≡ HQ_ITEM_CONSTANT → places (target.Constant (record { 0 = item.number })) ≡ Some at
 
 -- and so of items of data, of which the first stands behind so many bytes
 abbrev pub AreBound : (DeferredTarget → Option ℕ) → ℕ → List HqItem → Type 0

@@ -1,11 +1,13 @@
-use Rattle.std.specs.Prelude.{◌≡◌, ◌<◌, ◌+◌, ◌++◌, ◌⊎◌, ℕ, ℤ, pos, Some, None, List, [], ◌∷◌, drop, take, length, slice_get}
+use Rattle.std.specs.Prelude.{◌≡◌, ◌<◌, ◌+◌, ◌++◌, ◌⊎◌, ℕ, ℤ, Some, None, List, [], ◌∷◌, drop, take, length, slice_get}
 use Rattle.cax64_encoder.specs.EncodesLine.{line_notices_of}
 use Rattle.cax64_encoder.specs.Place.{memory_in}
 use Rattle.cax64_encoder.specs.declared.fault.Fault.{Fault}
 use Rattle.cax64_plain.specs.Plain.{plain}
 use Rattle.cax64_plain.specs.Status.{fault_status}
 use Rattle.cax64_plain.specs.Told.{told}
+use Rattle.cax64_plain.specs.declared.status.TheConstants.{HQ_BAD_INST, HQ_FULL, HQ_OK}
 use Rattle.huqmeris_c.specs.declared.progress.HqDone.{HqDone}
+use Rattle.huqmeris_c.specs.declared.status.TheConstants.{HQ_TOO_MANY}
 use Rattle.cax64_plain.specs.declared.inst.HqInst.{HqInst}
 use Rattle.cax64_plain.specs.declared.told.HqUse.{HqUse}
 use Rattle.cax64_sink.specs.declared.Notice.{Notice}
@@ -14,6 +16,7 @@ use Rattle.x64_core.specs.Adds.{AddsCore}
 use Rattle.x64_core.specs.Core.{core_len, core_notices, fault_of}
 use Rattle.x64_core.specs.View.{CoreView, core_view}
 use Rattle.x64_core.specs.declared.instruction.Core.{Core}
+use Rattle.x64_layout.specs.declared.span.TheConstants.{MOST_SPANS}
 
 -- Instructions that are encoded one behind the other.
 
@@ -76,7 +79,7 @@ pub record HasFault (inst : HqInst) (status : ℤ) : Type 0 where
 
 -- the integers are those of no instruction, or of one that has a fault
 abbrev pub IsRefused : HqInst → ℤ → Type 0
-IsRefused inst status = (((core : Core) → plain (core_view core) ≡ inst → ⊥) × (status ≡ pos 1)) ⊎ HasFault inst status
+IsRefused inst status = (((core : Core) → plain (core_view core) ≡ inst → ⊥) × (status ≡ HQ_BAD_INST)) ⊎ HasFault inst status
 
 -- The first that is refused has this number, and what those before it have is told.
 pub record StoppedAt (insts : List HqInst) (done : HqDone) (status : ℤ) : Type 0 where
@@ -87,10 +90,15 @@ pub record StoppedAt (insts : List HqInst) (done : HqDone) (status : ℤ) : Type
 
 -- What `hq_encode_all` leaves.
 
--- The bytes of all instructions stand at the front, and what they tell; behind them all is as before.
+-- what is told where none is named
+abbrev pub none_done : HqDone
+none_done = record { items = 0; bytes = 0; uses = 0 }
+
+-- Each can be encoded. The bytes of all of them stand at the front, and what they tell; behind them all is as before.
 pub record PutEach (insts : List HqInst) (code code' : List ℕ) (uses uses' : List HqUse) (bytes count : ℕ) : Type 0 where
   pub cores : List Core
   pub are : plains cores ≡ insts
+  pub sound : EachSound cores
   pub added : List ℕ
   pub heard : List HqUse
   pub encodes : EncodesEach cores 0 added heard
@@ -106,13 +114,13 @@ pub record TooShort (insts : List HqInst) (room places : ℕ) (done : HqDone) : 
   pub short : (room < done.bytes) ⊎ (places < done.uses)
 
 -- why nothing was put
-abbrev pub NotPut : List HqInst → ℕ → ℕ → HqDone → HqDone → ℤ → Type 0
-NotPut insts room places done done' status =
-    ((status ≡ pos 10) × (165191049 < length insts) × (done' ≡ done))
-    ⊎ (((status ≡ pos 6) × TooShort insts room places done')
-    ⊎ StoppedAt insts done' status)
+abbrev pub NotPut : List HqInst → ℕ → ℕ → HqDone → ℤ → Type 0
+NotPut insts room places done status =
+    ((status ≡ HQ_TOO_MANY) × (MOST_SPANS < length insts) × (done ≡ none_done))
+    ⊎ (((status ≡ HQ_FULL) × TooShort insts room places done)
+    ⊎ StoppedAt insts done status)
 
-abbrev pub EachPutAs : List HqInst → List ℕ → List ℕ → List HqUse → List HqUse → HqDone → HqDone → ℤ → Type 0
-EachPutAs insts code code' uses uses' done done' status =
-    ((status ≡ pos 0) × (done'.items ≡ length insts) × PutEach insts code code' uses uses' done'.bytes done'.uses)
-    ⊎ ((code' ≡ code) × (uses' ≡ uses) × NotPut insts (length code) (length uses) done done' status)
+abbrev pub EachPutAs : List HqInst → List ℕ → List ℕ → List HqUse → List HqUse → HqDone → ℤ → Type 0
+EachPutAs insts code code' uses uses' done status =
+    ((status ≡ HQ_OK) × (done.items ≡ length insts) × PutEach insts code code' uses uses' done.bytes done.uses)
+    ⊎ ((code' ≡ code) × (uses' ≡ uses) × NotPut insts (length code) (length uses) done status)

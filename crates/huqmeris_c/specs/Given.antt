@@ -1,8 +1,9 @@
 use Rattle.std.specs.Prelude.{ℕ, ◌-◌, ◌^◌, nat_lt, if◌then◌else◌, Option, Some, None, ℤ, pos, negsuc, ◌==◌}
+use Rattle.huqmeris_c.specs.declared.make.TheConstants.{HQ_NO_REG}
 
--- What an argument gives: a register by its number, none from 256 on.
+-- What an argument gives: a register by its number, none from `HQ_NO_REG` on.
 abbrev pub register_given : ℕ → Option ℕ
-register_given number = if nat_lt number 256 then Some number else None
+register_given number = if nat_lt number HQ_NO_REG then Some number else None
 
 -- an immediate by its value, none by the least one
 abbrev pub imm_given : ℤ → Option ℤ

@@ -1,4 +1,4 @@
-use Rattle.std.specs.Prelude.{◌≡◌, ◌||◌, ◌≤◌, ◌<◌, ◌+◌, ◌-◌, ◌++◌, ◌⊎◌, Bool, true, false, ℕ, ℤ, pos, ◌-ℤ◌, nat_lt, if◌then◌else◌, Option, Some, None, List, [], ◌∷◌, drop, take, length, slice_get}
+use Rattle.std.specs.Prelude.{◌≡◌, ◌==◌, ◌||◌, ◌≤◌, ◌<◌, ◌+◌, ◌++◌, ◌⊎◌, Bool, true, false, ℕ, ℤ, pos, ◌-ℤ◌, if◌then◌else◌, Option, Some, None, List, [], ◌∷◌, drop, take, length, slice_get}
 use Rattle.cax64_address.specs.declared.amode.Amode.{Amode}
 use Rattle.cax64_address.specs.declared.amode.Amode.TheVariants.{ImmReg, ImmRegRegShift, RipRelative}
 use Rattle.cax64_encoder.specs.Place.{memory_in}
@@ -8,14 +8,18 @@ use Rattle.cax64_machine_code.specs.Rows.{line_of}
 use Rattle.cax64_machine_code.specs.declared.line.Line.{Line}
 use Rattle.cax64_machine_code.specs.declared.row.Row.{Row}
 use Rattle.cax64_plain.specs.Plain.{plain}
+use Rattle.cax64_plain.specs.declared.status.TheConstants.{HQ_BAD_INST, HQ_FULL, HQ_OK, HQ_OUT_OF_RANGE}
 use Rattle.cax64_plain.specs.declared.told.HqUse.{HqUse}
 use Rattle.huqmeris_c.specs.Traps.{traps_told}
 use Rattle.huqmeris_c.specs.declared.progress.HqDone.{HqDone}
+use Rattle.huqmeris_c.specs.declared.data_items.TheConstants.{MOST_BYTES, MOST_POWER}
 use Rattle.huqmeris_c.specs.declared.item.HqItem.{HqItem}
+use Rattle.huqmeris_c.specs.declared.item.TheConstants.{HQ_ITEM_ALIGN, HQ_ITEM_BYTES, HQ_ITEM_CALL, HQ_ITEM_CONSTANT, HQ_ITEM_INST, HQ_ITEM_JA, HQ_ITEM_JAE, HQ_ITEM_JB, HQ_ITEM_JBE, HQ_ITEM_JE, HQ_ITEM_JG, HQ_ITEM_JGE, HQ_ITEM_JL, HQ_ITEM_JLE, HQ_ITEM_JMP, HQ_ITEM_JNE, HQ_ITEM_JNO, HQ_ITEM_JNP, HQ_ITEM_JNS, HQ_ITEM_JO, HQ_ITEM_JP, HQ_ITEM_JS, HQ_ITEM_LABEL}
+use Rattle.huqmeris_c.specs.declared.status.TheConstants.{HQ_BAD_ITEM, HQ_BAD_LABEL, HQ_BOUND_TWICE, HQ_NO_MEMORY, HQ_TOO_MANY, HQ_UNBOUND}
 use Rattle.cax64_sink.specs.declared.DeferredTarget.{DeferredTarget}
 use Rattle.cax64_sink.specs.declared.DeferredTarget.TheVariants as target
 use Rattle.huqmeris_c.specs.Data.{AreBound, code_of, data_from, data_of, is_data}
-use Rattle.huqmeris_c.specs.Each.{HasFault}
+use Rattle.huqmeris_c.specs.Each.{HasFault, none_done}
 use Rattle.huqmeris_c.specs.Encodes.{no_offsets}
 use Rattle.x64_code_buffer.specs.Filled.{HasAddress}
 use Rattle.x64_code_buffer.specs.Jump.{jump_parts, long_row, short_row}
@@ -31,20 +35,41 @@ use Rattle.x64_assemble.specs.declared.item.Item.{Item}
 use Rattle.x64_assemble.specs.declared.item.Item.TheVariants as item
 use Rattle.x64_layout.specs.Layout.{IsLeast}
 use Rattle.x64_layout.specs.declared.span.Span.{Span}
+use Rattle.x64_layout.specs.declared.span.TheConstants.{MOST_SPANS}
 
 -- What items of code become.
 
--- the jumps in the order of their kinds, from 2 to 19
-abbrev pub jumps : List Jump
+-- the kinds of items that are jumps, each with its jump
+abbrev pub jumps : List (ℕ × Jump)
 jumps =
-    jump.Always ∷ jump.Call
-    ∷ jump.If on.O ∷ jump.If on.No ∷ jump.If on.B ∷ jump.If on.Ae ∷ jump.If on.E ∷ jump.If on.Ne ∷ jump.If on.Be ∷ jump.If on.A
-    ∷ jump.If on.S ∷ jump.If on.Ns ∷ jump.If on.P ∷ jump.If on.Np ∷ jump.If on.L ∷ jump.If on.Ge ∷ jump.If on.Le ∷ jump.If on.G
+    (HQ_ITEM_JMP, jump.Always)
+    ∷ (HQ_ITEM_CALL, jump.Call)
+    ∷ (HQ_ITEM_JO, jump.If on.O)
+    ∷ (HQ_ITEM_JNO, jump.If on.No)
+    ∷ (HQ_ITEM_JB, jump.If on.B)
+    ∷ (HQ_ITEM_JAE, jump.If on.Ae)
+    ∷ (HQ_ITEM_JE, jump.If on.E)
+    ∷ (HQ_ITEM_JNE, jump.If on.Ne)
+    ∷ (HQ_ITEM_JBE, jump.If on.Be)
+    ∷ (HQ_ITEM_JA, jump.If on.A)
+    ∷ (HQ_ITEM_JS, jump.If on.S)
+    ∷ (HQ_ITEM_JNS, jump.If on.Ns)
+    ∷ (HQ_ITEM_JP, jump.If on.P)
+    ∷ (HQ_ITEM_JNP, jump.If on.Np)
+    ∷ (HQ_ITEM_JL, jump.If on.L)
+    ∷ (HQ_ITEM_JGE, jump.If on.Ge)
+    ∷ (HQ_ITEM_JLE, jump.If on.Le)
+    ∷ (HQ_ITEM_JG, jump.If on.G)
     ∷ []
+
+-- the jump of a kind among these
+abbrev pub jump_among : List (ℕ × Jump) → ℕ → Option Jump
+jump_among [] kind = None
+jump_among (first ∷ others) kind = if kind == first.0 then Some first.1 else jump_among others kind
 
 -- the jump of a kind of items
 abbrev pub jump_named : ℕ → Option Jump
-jump_named kind = if nat_lt kind 2 then None else (if nat_lt 19 kind then None else slice_get jumps (kind - 2))
+jump_named kind = jump_among jumps kind
 
 -- what a memory operand refers to that is relative to the end of its instruction
 abbrev pub target_in : Option (Amode ℕ) → Option DeferredTarget
@@ -71,7 +96,7 @@ ReadAs places end parts (Some target.None) reading = ◌≡◌ {A = PartsOf Line
 
 -- an instruction, and what it is read as
 pub record InstIs (places : DeferredTarget → Option ℕ) (Later : ℕ → List LineReading → Type 0) (at : ℕ) (item : HqItem) (readings : List LineReading) : Type 0 where
-  pub kind : item.kind ≡ 0
+  pub kind : item.kind ≡ HQ_ITEM_INST
   pub core : Core
   pub is : plain (core_view core) ≡ item.inst
   pub reading : LineReading
@@ -82,7 +107,7 @@ pub record InstIs (places : DeferredTarget → Option ℕ) (Later : ℕ → List
 
 -- a label, which is bound to this place
 pub record LabelIs {T : Type 0} (places : DeferredTarget → Option ℕ) (Later : ℕ → T → Type 0) (at : ℕ) (item : HqItem) (readings : T) : Type 0 where
-  pub kind : item.kind ≡ 1
+  pub kind : item.kind ≡ HQ_ITEM_LABEL
   pub bound : places (target.Label (record { 0 = item.number })) ≡ Some at
   pub later : Later at readings
 
@@ -112,8 +137,8 @@ ItemsAre places (item ∷ later) at readings =
 
 -- the item of a list that these integers are
 abbrev pub ItemIs : HqItem → Item Core → Type 0
-ItemIs integers (item.Inst core) = (integers.kind ≡ 0) × (plain (core_view core) ≡ integers.inst)
-ItemIs integers (item.Bind label) = (integers.kind ≡ 1) × (label.0 ≡ integers.number)
+ItemIs integers (item.Inst core) = (integers.kind ≡ HQ_ITEM_INST) × (plain (core_view core) ≡ integers.inst)
+ItemIs integers (item.Bind label) = (integers.kind ≡ HQ_ITEM_LABEL) × (label.0 ≡ integers.number)
 ItemIs integers (item.Jump jump label) = (jump_named integers.kind ≡ Some jump) × (label.0 ≡ integers.number)
 
 -- and so of each
@@ -148,7 +173,7 @@ pub record Assembled (items : List HqItem) (bytes : List ℕ) : Type 0 where
 
 -- Why items aren't assembled.
 
--- one of some items has this kind and number: is the place of this label (1), or of this constant (20)
+-- one of some items has this kind and number: is the place of this label, or of this constant
 abbrev pub Binds : ℕ → ℕ → List HqItem → Type 0
 Binds kind number [] = ⊥
 Binds kind number (item ∷ later) = ((item.kind ≡ kind) × (item.number ≡ number)) ⊎ Binds kind number later
@@ -160,24 +185,24 @@ has_data (item ∷ later) = is_data item.kind || has_data later
 
 -- an item of this kind is an instruction or a jump
 abbrev pub IsCode : ℕ → Type 0
-IsCode kind = (kind ≡ 0) ⊎ ((jump : Jump) × (jump_named kind ≡ Some jump))
+IsCode kind = (kind ≡ HQ_ITEM_INST) ⊎ ((jump : Jump) × (jump_named kind ≡ Some jump))
 
 -- The integers behind these are none: of no kind; code behind data; more bytes than a struct has, or padding to more than 64; or
 -- of no instruction.
 abbrev pub NoItem : List HqItem → HqItem → ℤ → Type 0
 NoItem before item status =
-    ((status ≡ pos 12) × (item.kind ≡ 0 → ⊥) × (item.kind ≡ 1 → ⊥) × (jump_named item.kind ≡ None) × (is_data item.kind ≡ false))
-    ⊎ (((status ≡ pos 12) × IsCode item.kind × (has_data before ≡ true))
-    ⊎ (((status ≡ pos 12) × (((item.kind ≡ 21) × (24 < item.number)) ⊎ ((item.kind ≡ 22) × (6 < item.number))))
-    ⊎ ((status ≡ pos 1) × (item.kind ≡ 0) × (has_data before ≡ false) × ((core : Core) → plain (core_view core) ≡ item.inst → ⊥))))
+    ((status ≡ HQ_BAD_ITEM) × (item.kind ≡ HQ_ITEM_INST → ⊥) × (item.kind ≡ HQ_ITEM_LABEL → ⊥) × (jump_named item.kind ≡ None) × (is_data item.kind ≡ false))
+    ⊎ (((status ≡ HQ_BAD_ITEM) × IsCode item.kind × (has_data before ≡ true))
+    ⊎ (((status ≡ HQ_BAD_ITEM) × (((item.kind ≡ HQ_ITEM_BYTES) × (MOST_BYTES < item.number)) ⊎ ((item.kind ≡ HQ_ITEM_ALIGN) × (MOST_POWER < item.number))))
+    ⊎ ((status ≡ HQ_BAD_INST) × (item.kind ≡ HQ_ITEM_INST) × (has_data before ≡ false) × ((core : Core) → plain (core_view core) ≡ item.inst → ⊥))))
 
 -- one can't be put behind these, among so many: the instruction has a fault; or the label's number isn't below theirs; or the
 -- label or the constant has a place already
 abbrev pub CantBePut : ℕ → List HqItem → HqItem → ℤ → Type 0
 CantBePut count before item status =
-    ((item.kind ≡ 0) × HasFault item.inst status)
-    ⊎ (((status ≡ pos 13) × (item.kind ≡ 1) × (count ≤ item.number))
-    ⊎ ((status ≡ pos 14) × ((item.kind ≡ 1) ⊎ (item.kind ≡ 20)) × Binds item.kind item.number before))
+    ((item.kind ≡ HQ_ITEM_INST) × HasFault item.inst status)
+    ⊎ (((status ≡ HQ_BAD_LABEL) × (item.kind ≡ HQ_ITEM_LABEL) × (count ≤ item.number))
+    ⊎ ((status ≡ HQ_BOUND_TWICE) × ((item.kind ≡ HQ_ITEM_LABEL) ⊎ (item.kind ≡ HQ_ITEM_CONSTANT)) × Binds item.kind item.number before))
 
 -- the first that is refused so has this number
 pub record FirstRefused (Refused : List HqItem → HqItem → ℤ → Type 0) (items : List HqItem) (number : ℕ) (status : ℤ) : Type 0 where
@@ -196,23 +221,27 @@ RefusedAt items number status =
     FirstRefused NoItem items number status
     ⊎ (AreItems items × FirstRefused (CantBePut (length items)) items number status)
 
--- there was no memory; or there are too many; or one is refused
+-- each is an item, and can be put behind those before it
+abbrev pub NoneRefused : List HqItem → Type 0
+NoneRefused items = AreItems items × ((k : ℕ) (item : HqItem) (status : ℤ) → slice_get items k ≡ Some item → CantBePut (length items) (take k items) item status → ⊥)
+
+-- there was no memory, or there are too many, and none is named; or one is refused
 abbrev pub Unlisted : List HqItem → ℕ → ℤ → Type 0
 Unlisted items number status =
-    (status ≡ pos 11)
-    ⊎ (((status ≡ pos 10) × (165191049 < length items))
+    ((status ≡ HQ_NO_MEMORY) × (number ≡ 0))
+    ⊎ (((status ≡ HQ_TOO_MANY) × (MOST_SPANS < length items) × (number ≡ 0))
     ⊎ RefusedAt items number status)
 
 -- what an item refers to
 abbrev pub RefersTo : HqItem → DeferredTarget → Type 0
 RefersTo item goes_to =
-    ((item.kind ≡ 0) × ((core : Core) × (plain (core_view core) ≡ item.inst) × (target_in (memory_in (core_view core).place) ≡ Some goes_to)))
+    ((item.kind ≡ HQ_ITEM_INST) × ((core : Core) × (plain (core_view core) ≡ item.inst) × (target_in (memory_in (core_view core).place) ≡ Some goes_to)))
     ⊎ (((jump : Jump) × (jump_named item.kind ≡ Some jump)) × (goes_to ≡ target.Label (record { 0 = item.number })))
 
 -- no item is the place of this label or constant
 abbrev pub IsPlaceless : List HqItem → DeferredTarget → Type 0
-IsPlaceless items (target.Label label) = Binds 1 label.0 items → ⊥
-IsPlaceless items (target.Constant constant) = Binds 20 constant.0 items → ⊥
+IsPlaceless items (target.Label label) = Binds HQ_ITEM_LABEL label.0 items → ⊥
+IsPlaceless items (target.Constant constant) = Binds HQ_ITEM_CONSTANT constant.0 items → ⊥
 IsPlaceless items target.None = ⊥
 
 -- the first that refers to what has no place has this number
@@ -224,6 +253,10 @@ pub record UnboundAt (items : List HqItem) (number : ℕ) : Type 0 where
   pub unbound : IsPlaceless items goes_to
   pub first : (k : ℕ) (earlier : HqItem) (other : DeferredTarget) → k < number → slice_get items k ≡ Some earlier → RefersTo earlier other → IsPlaceless items other → ⊥
 
+-- none refers to what has no place
+abbrev pub NoneUnbound : List HqItem → Type 0
+NoneUnbound items = (k : ℕ) (item : HqItem) (goes_to : DeferredTarget) → slice_get items k ≡ Some item → RefersTo item goes_to → IsPlaceless items goes_to → ⊥
+
 -- It's told how many items, bytes and traps all of them have.
 pub record Counted (items : List HqItem) (done : HqDone) : Type 0 where
   pub added : List ℕ
@@ -234,14 +267,23 @@ pub record Counted (items : List HqItem) (done : HqDone) : Type 0 where
   pub len : done.bytes ≡ length added
   pub count : done.uses ≡ length traps
 
--- nothing was put: the items can't be listed; or what one refers to has no place, or is too far; or there is too little room
--- for what all of them have, which is told
+-- what is told where nothing is put: the number of the item that is named, and 0 where none is
+abbrev pub at_item : ℕ → HqDone
+at_item number = record none_done { items = number }
+
+-- Nothing was put, though no item is refused: what one refers to has no place, or is too far; or there is too little room for what
+-- all of them have, which is told.
+abbrev pub NotFinished : List HqItem → ℕ → ℕ → HqDone → ℤ → Type 0
+NotFinished items room places done status =
+    ((status ≡ HQ_UNBOUND) × UnboundAt items done.items × (done ≡ at_item done.items))
+    ⊎ (((status ≡ HQ_OUT_OF_RANGE) × NoneUnbound items × (done ≡ none_done))
+    ⊎ ((status ≡ HQ_FULL) × Counted items done × ((room < done.bytes) ⊎ (places < done.uses))))
+
+-- why nothing was put
 abbrev pub NotAssembled : List HqItem → ℕ → ℕ → HqDone → ℤ → Type 0
 NotAssembled items room places done status =
-    Unlisted items done.items status
-    ⊎ (((status ≡ pos 15) × UnboundAt items done.items)
-    ⊎ ((status ≡ pos 9)
-    ⊎ ((status ≡ pos 6) × Counted items done × ((room < done.bytes) ⊎ (places < done.uses)))))
+    (Unlisted items done.items status × (done ≡ at_item done.items))
+    ⊎ (NoneRefused items × NotFinished items room places done status)
 
 -- The bytes of all items stand at the front, as many as told, and so do the traps of the code; behind them all is as before.
 pub record AssembledTo (items : List HqItem) (code code' : List ℕ) (uses uses' : List HqUse) (done : HqDone) : Type 0 where
@@ -251,5 +293,5 @@ pub record AssembledTo (items : List HqItem) (code code' : List ℕ) (uses uses'
 
 abbrev pub AssembledAs : List HqItem → List ℕ → List ℕ → List HqUse → List HqUse → HqDone → ℤ → Type 0
 AssembledAs items code code' uses uses' done status =
-    ((status ≡ pos 0) × AssembledTo items code code' uses uses' done)
+    ((status ≡ HQ_OK) × NoneRefused items × AssembledTo items code code' uses uses' done)
     ⊎ ((code' ≡ code) × (uses' ≡ uses) × NotAssembled items (length code) (length uses) done status)

@@ -1,5 +1,6 @@
-use Rattle.std.specs.Prelude.{◌≡◌, ◌≤◌, ◌<◌, ◌++◌, ℕ, ℤ, pos, List, drop, length, MatchOption}
+use Rattle.std.specs.Prelude.{◌≡◌, ◌≤◌, ◌<◌, ◌++◌, ℕ, ℤ, List, drop, length, MatchOption}
 use Rattle.cax64_plain.specs.Status.{fault_status}
+use Rattle.cax64_plain.specs.declared.status.TheConstants.{HQ_FULL, HQ_OK}
 use Rattle.cax64_plain.specs.declared.told.HqUse.{HqUse}
 use Rattle.huqmeris_c.specs.Encodes.{Encodes, no_offsets}
 use Rattle.x64_core.specs.Core.{core_len, fault_of}
@@ -23,8 +24,8 @@ pub record Written (v : CoreView) (code code' : List ℕ) (len : ℕ) (told : Hq
 
 -- where an instruction can be encoded, and where there's too little room
 pub record PutWhere (v : CoreView) (code code' : List ℕ) (len len' : ℕ) (told told' : HqUse) (status : ℤ) : Type 0 where
-  pub fits : core_len no_offsets v ≤ length code → (status ≡ pos 0) × Written v code code' len' told'
-  pub full : length code < core_len no_offsets v → (status ≡ pos 6) × Unchanged code code' len len' told told'
+  pub fits : core_len no_offsets v ≤ length code → (status ≡ HQ_OK) × Written v code code' len' told'
+  pub full : length code < core_len no_offsets v → (status ≡ HQ_FULL) × Unchanged code code' len len' told told'
 
 abbrev pub PutAs : CoreView → List ℕ → List ℕ → ℕ → ℕ → HqUse → HqUse → ℤ → Type 0
 PutAs v code code' len len' told told' status =

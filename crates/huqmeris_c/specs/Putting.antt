@@ -1,9 +1,10 @@
 -- Steps of items that are assembled.
-use Rattle.std.specs.Prelude.{◌≡◌, ◌<◌, ◌≤◌, ◌⊎◌, ◌++◌, ℕ, ℤ, pos, Option, Some, None, List, [], ◌∷◌, drop, length, slice_get, take}
+use Rattle.std.specs.Prelude.{◌≡◌, ◌<◌, ◌≤◌, ◌⊎◌, ◌++◌, ℕ, ℤ, Option, Some, None, List, [], ◌∷◌, drop, length, slice_get, take}
 use Rattle.cax64_encoder.specs.declared.fault.Fault.{Fault}
 use Rattle.cax64_plain.specs.Plain.{plain}
 use Rattle.cax64_plain.specs.Status.{fault_status}
 use Rattle.cax64_plain.specs.Told.{told}
+use Rattle.cax64_plain.specs.declared.status.TheConstants.{HQ_BAD_INST}
 use Rattle.cax64_plain.specs.declared.told.HqUse.{HqUse}
 use Rattle.cax64_sink.specs.Sink.{State}
 use Rattle.cax64_sink.specs.declared.DeferredTarget.{DeferredTarget}
@@ -12,10 +13,15 @@ use Rattle.cax64_sink.specs.declared.Notice.TheVariants.{Trap, Target}
 use Rattle.cax64_sink.specs.declared.DeferredTarget.TheVariants as target
 use Rattle.huqmeris_c.specs.Encodes.{no_offsets}
 use Rattle.huqmeris_c.specs.Data.{AreBound, code_of, data_from, data_in, data_of}
-use Rattle.huqmeris_c.specs.Items.{Binds, CantBePut, RefersTo, jump_named}
+use Rattle.huqmeris_c.specs.Each.{none_done}
+use Rattle.huqmeris_c.specs.Items.{Binds, CantBePut, NoneUnbound, RefersTo, RefusedAt, UnboundAt, at_item, jump_named}
+use Rattle.huqmeris_c.specs.declared.data_items.TheConstants.{MOST_BYTES, MOST_POWER}
 use Rattle.huqmeris_c.specs.declared.item.HqItem.{HqItem}
+use Rattle.huqmeris_c.specs.declared.item.TheConstants.{HQ_ITEM_ALIGN, HQ_ITEM_BYTES, HQ_ITEM_CONSTANT, HQ_ITEM_INST, HQ_ITEM_LABEL}
+use Rattle.huqmeris_c.specs.declared.progress.HqDone.{HqDone}
+use Rattle.huqmeris_c.specs.declared.status.TheConstants.{HQ_BAD_ITEM, HQ_BAD_LABEL, HQ_BOUND_TWICE, HQ_NO_MEMORY, HQ_TOO_MANY, HQ_UNBOUND}
 use Rattle.x64_assemble.specs.Assembled as laid_out
-use Rattle.x64_assemble.specs.Listed.{Listed}
+use Rattle.x64_assemble.specs.Listed.{Listed, listed}
 use Rattle.x64_assemble.specs.Refused.{refusal_at}
 use Rattle.x64_assemble.specs.declared.errors.LayoutError.{LayoutError}
 use Rattle.x64_assemble.specs.declared.errors.LayoutError.TheVariants as refusal
@@ -26,15 +32,15 @@ use Rattle.x64_code_buffer.specs.Buffer.{StaysFilled, buffer_state, label_count,
 use Rattle.x64_code_buffer.specs.Laid.{Laid}
 use Rattle.x64_code_buffer.specs.declared.buffer.CodeBuffer.{CodeBuffer}
 use Rattle.x64_code_buffer.specs.declared.errors.BindError.TheVariants.{Unknown, Twice, NoMemory}
-use Rattle.x64_core.specs.Core.{fault_of}
+use Rattle.x64_core.specs.Core.{core_meant, fault_of}
 use Rattle.x64_core.specs.View.{core_view}
 use Rattle.x64_core.specs.declared.instruction.Core.{Core}
-use Rattle.x64_core_assemble.specs.Listed.{core_listed}
+use Rattle.x64_layout.specs.declared.span.TheConstants.{MOST_SPANS}
 
 -- the item that these integers are, and of its instruction that there is no other
 abbrev pub Makes : HqItem → Item Core → Type 0
-Makes integers (item.Inst core) = (integers.kind ≡ 0) × (plain (core_view core) ≡ integers.inst) × ((other : Core) → plain (core_view other) ≡ integers.inst → core_view core ≡ core_view other)
-Makes integers (item.Bind label) = (integers.kind ≡ 1) × (label.0 ≡ integers.number)
+Makes integers (item.Inst core) = (integers.kind ≡ HQ_ITEM_INST) × (plain (core_view core) ≡ integers.inst) × ((other : Core) → plain (core_view other) ≡ integers.inst → core_view core ≡ core_view other)
+Makes integers (item.Bind label) = (integers.kind ≡ HQ_ITEM_LABEL) × (label.0 ≡ integers.number)
 Makes integers (item.Jump jump label) = (jump_named integers.kind ≡ Some jump) × (label.0 ≡ integers.number)
 
 abbrev pub MakesEach : List HqItem → List (Item Core) → Type 0
@@ -54,7 +60,7 @@ pub record Begun {A : Type 0} (count : ℕ) (b : CodeBuffer A) : Type 0 where
 
 -- what an instruction of a list becomes, and why it can't be put
 abbrev pub core_becomes : Core → Listed
-core_becomes core = core_listed (core_view core) no_offsets
+core_becomes core = listed (core_meant (core_view core)) no_offsets
 
 abbrev pub core_fault : Core → Option Fault
 core_fault core = fault_of no_offsets (core_view core)
@@ -74,16 +80,16 @@ pub record HasItems (given : ℕ) (items : List HqItem) (s : State) (places : De
 -- the integers of an item that isn't data are none: of no kind, or of no instruction
 abbrev pub NoCode : HqItem → ℤ → Type 0
 NoCode item status =
-    ((status ≡ pos 12) × (item.kind ≡ 0 → ⊥) × (item.kind ≡ 1 → ⊥) × (jump_named item.kind ≡ None))
-    ⊎ ((status ≡ pos 1) × (item.kind ≡ 0) × ((core : Core) → plain (core_view core) ≡ item.inst → ⊥))
+    ((status ≡ HQ_BAD_ITEM) × (item.kind ≡ HQ_ITEM_INST → ⊥) × (item.kind ≡ HQ_ITEM_LABEL → ⊥) × (jump_named item.kind ≡ None))
+    ⊎ ((status ≡ HQ_BAD_INST) × (item.kind ≡ HQ_ITEM_INST) × ((core : Core) → plain (core_view core) ≡ item.inst → ⊥))
 
 -- an item holds few enough bytes, or little padding
 abbrev pub Holds : HqItem → Type 0
-Holds item = ((item.kind ≡ 21) × (item.number ≤ 24)) ⊎ ((item.kind ≡ 22) × (item.number ≤ 6))
+Holds item = ((item.kind ≡ HQ_ITEM_BYTES) × (item.number ≤ MOST_BYTES)) ⊎ ((item.kind ≡ HQ_ITEM_ALIGN) × (item.number ≤ MOST_POWER))
 
 -- an item can stand where data does: the place of a label or of a constant, or one that holds something
 abbrev pub IsDatum : HqItem → Type 0
-IsDatum item = (item.kind ≡ 1) ⊎ ((item.kind ≡ 20) ⊎ Holds item)
+IsDatum item = (item.kind ≡ HQ_ITEM_LABEL) ⊎ ((item.kind ≡ HQ_ITEM_CONSTANT) ⊎ Holds item)
 
 abbrev pub AreData : List HqItem → Type 0
 AreData rest = (k : ℕ) (item : HqItem) → slice_get rest k ≡ Some item → IsDatum item
@@ -106,9 +112,9 @@ pub record ListedTo (items : List HqItem) (count : ℕ) (list : List (Item Core)
 -- what an item of data binds, where so many labels were given and so many bytes stand before it
 abbrev pub BindsAt : ℕ → ℕ → HqItem → (DeferredTarget → Option ℕ) → (DeferredTarget → Option ℕ) → Type 0
 BindsAt given at item old new =
-    ((item.kind ≡ 1) × (item.number < given) × AddsBinding (target.Label (record { 0 = item.number })) at old new)
-    ⊎ (((item.kind ≡ 20) × AddsBinding (target.Constant (record { 0 = item.number })) at old new)
-    ⊎ ((item.kind ≡ 1 → ⊥) × (item.kind ≡ 20 → ⊥) × SamePlaces old new))
+    ((item.kind ≡ HQ_ITEM_LABEL) × (item.number < given) × AddsBinding (target.Label (record { 0 = item.number })) at old new)
+    ⊎ (((item.kind ≡ HQ_ITEM_CONSTANT) × AddsBinding (target.Constant (record { 0 = item.number })) at old new)
+    ⊎ ((item.kind ≡ HQ_ITEM_LABEL → ⊥) × (item.kind ≡ HQ_ITEM_CONSTANT → ⊥) × SamePlaces old new))
 
 -- A buffer has got an item of data.
 pub record PutsDatum {A : Type 0} (item : HqItem) (old new : CodeBuffer A) : Type 0 where
@@ -120,17 +126,17 @@ pub record PutsDatum {A : Type 0} (item : HqItem) (old new : CodeBuffer A) : Typ
 -- why it hasn't: there was no memory; or the label's number is too large; or the label or the constant has a place
 abbrev pub DatumRefused : ℕ → (DeferredTarget → Option ℕ) → HqItem → ℤ → Type 0
 DatumRefused given places item status =
-    (status ≡ pos 11)
-    ⊎ (((status ≡ pos 13) × (item.kind ≡ 1) × (given ≤ item.number))
-    ⊎ (((status ≡ pos 14) × (item.kind ≡ 1) × ((place : ℕ) × (places (target.Label (record { 0 = item.number })) ≡ Some place)))
-    ⊎ ((status ≡ pos 14) × (item.kind ≡ 20) × ((place : ℕ) × (places (target.Constant (record { 0 = item.number })) ≡ Some place)))))
+    (status ≡ HQ_NO_MEMORY)
+    ⊎ (((status ≡ HQ_BAD_LABEL) × (item.kind ≡ HQ_ITEM_LABEL) × (given ≤ item.number))
+    ⊎ (((status ≡ HQ_BOUND_TWICE) × (item.kind ≡ HQ_ITEM_LABEL) × ((place : ℕ) × (places (target.Label (record { 0 = item.number })) ≡ Some place)))
+    ⊎ ((status ≡ HQ_BOUND_TWICE) × (item.kind ≡ HQ_ITEM_CONSTANT) × ((place : ℕ) × (places (target.Constant (record { 0 = item.number })) ≡ Some place)))))
 
 -- what has a place is what some items are the place of
 pub record HasPlaces (places : DeferredTarget → Option ℕ) (items : List HqItem) : Type 0 where
-  pub labels : (n : ℕ) → Binds 1 n items → places (target.Label (record { 0 = n })) ≡ None → ⊥
-  pub only_labels : (n place : ℕ) → places (target.Label (record { 0 = n })) ≡ Some place → Binds 1 n items
-  pub constants : (n : ℕ) → Binds 20 n items → places (target.Constant (record { 0 = n })) ≡ None → ⊥
-  pub only_constants : (n place : ℕ) → places (target.Constant (record { 0 = n })) ≡ Some place → Binds 20 n items
+  pub labels : (n : ℕ) → Binds HQ_ITEM_LABEL n items → places (target.Label (record { 0 = n })) ≡ None → ⊥
+  pub only_labels : (n place : ℕ) → places (target.Label (record { 0 = n })) ≡ Some place → Binds HQ_ITEM_LABEL n items
+  pub constants : (n : ℕ) → Binds HQ_ITEM_CONSTANT n items → places (target.Constant (record { 0 = n })) ≡ None → ⊥
+  pub only_constants : (n place : ℕ) → places (target.Constant (record { 0 = n })) ≡ Some place → Binds HQ_ITEM_CONSTANT n items
 
 -- A buffer that gave so many labels has got items of code, and behind them items of data.
 pub record Behind (given : ℕ) (front done : List HqItem) (s : State) (places : DeferredTarget → Option ℕ) : Type 0 where
@@ -155,6 +161,13 @@ pub record FirstBehind (given : ℕ) (front rest : List HqItem) (number : ℕ) (
   pub why : CantBePut given (front ++ take number rest) item status
   pub first : NoneBehind given front rest number
 
+-- there was no memory; or there are too many; or one is refused, by its number
+abbrev pub Denied : List HqItem → ℕ → ℤ → Type 0
+Denied items number status =
+    (status ≡ HQ_NO_MEMORY)
+    ⊎ (((status ≡ HQ_TOO_MANY) × (MOST_SPANS < length items))
+    ⊎ RefusedAt items number status)
+
 -- the traps that notices tell
 abbrev pub traps_in : List Notice → List HqUse
 traps_in [] = []
@@ -164,11 +177,11 @@ traps_in (Target at goes_to ∷ later) = traps_in later
 -- what is told of a list that can't be put
 abbrev pub TellsOf : LayoutError → ℕ → ℤ → Type 0
 TellsOf (refusal.Fault n why) number status = (number ≡ n) × (status ≡ fault_status why)
-TellsOf (refusal.Bind n Unknown) number status = (number ≡ n) × (status ≡ pos 13)
-TellsOf (refusal.Bind n Twice) number status = (number ≡ n) × (status ≡ pos 14)
-TellsOf (refusal.Bind n NoMemory) number status = status ≡ pos 11
-TellsOf refusal.TooMany number status = status ≡ pos 10
-TellsOf refusal.NoMemory number status = status ≡ pos 11
+TellsOf (refusal.Bind n Unknown) number status = (number ≡ n) × (status ≡ HQ_BAD_LABEL)
+TellsOf (refusal.Bind n Twice) number status = (number ≡ n) × (status ≡ HQ_BOUND_TWICE)
+TellsOf (refusal.Bind n NoMemory) number status = status ≡ HQ_NO_MEMORY
+TellsOf refusal.TooMany number status = status ≡ HQ_TOO_MANY
+TellsOf refusal.NoMemory number status = status ≡ HQ_NO_MEMORY
 
 -- a label or a constant isn't bound
 abbrev pub LacksPlace : (DeferredTarget → Option ℕ) → DeferredTarget → Type 0
@@ -180,9 +193,19 @@ LacksPlace places target.None = ⊥
 abbrev pub Opens : (DeferredTarget → Option ℕ) → HqItem → Type 0
 Opens places item = (goes_to : DeferredTarget) × RefersTo item goes_to × LacksPlace places goes_to
 
+-- none does
+abbrev pub NoneOpens : (DeferredTarget → Option ℕ) → List HqItem → Type 0
+NoneOpens places items = (k : ℕ) (item : HqItem) → slice_get items k ≡ Some item → Opens places item → ⊥
+
 -- the first that does has this number
 pub record OpenAt (places : DeferredTarget → Option ℕ) (items : List HqItem) (number : ℕ) : Type 0 where
   pub item : HqItem
   pub there : slice_get items number ≡ Some item
   pub opens : Opens places item
   pub first : (k : ℕ) (earlier : HqItem) → k < number → slice_get items k ≡ Some earlier → Opens places earlier → ⊥
+
+-- the first item that refers to what has no place is told; or there is none, and this is answered
+abbrev pub Unfinished : List HqItem → ℤ → HqDone → ℤ → Type 0
+Unfinished items why done status =
+    ((status ≡ HQ_UNBOUND) × UnboundAt items done.items × (done ≡ at_item done.items))
+    ⊎ ((status ≡ why) × NoneUnbound items × (done ≡ none_done))

@@ -1,4 +1,6 @@
-use Rattle.std.specs.Prelude.{◌≡◌, ◌≤◌, ◌<◌, ◌++◌, ◌⊎◌, ℕ, ℤ, pos, true, false, Option, Some, None, List, [], codes, drop, length}
+use Rattle.std.specs.Prelude.{◌≡◌, ◌≤◌, ◌<◌, ◌++◌, ◌⊎◌, ℕ, ℤ, true, false, Option, Some, None, List, [], codes, drop, length}
+use Rattle.cax64_plain.specs.declared.status.TheConstants.{HQ_FULL, HQ_OK}
+use Rattle.huqmeris_c.specs.declared.status.TheConstants.{HQ_NO_MEMORY, HQ_NO_NAME}
 use Rattle.x64_core.specs.View.{CoreView}
 use Rattle.x64_core.specs.declared.extension.Extension.{Extension}
 use Rattle.x64_core.specs.declared.extension.Extension.TheVariants as extension
@@ -9,13 +11,13 @@ use Rattle.x64_core_text.specs.Text.{nameable, text}
 -- These bytes stand at the front, where there is room for them, and behind them all is as before; how many they are is told.
 pub record HandedOut (bytes old new : List ℕ) (len : ℕ) (status : ℤ) : Type 0 where
   pub told : len ≡ length bytes
-  pub fits : length bytes ≤ length old → (status ≡ pos 0) × (new ≡ bytes ++ drop (length bytes) old)
-  pub full : length old < length bytes → (status ≡ pos 6) × (new ≡ old)
+  pub fits : length bytes ≤ length old → (status ≡ HQ_OK) × (new ≡ bytes ++ drop (length bytes) old)
+  pub full : length old < length bytes → (status ≡ HQ_FULL) × (new ≡ old)
 
 -- An instruction's text is, where each of its registers has a name, if there was memory.
 pub record FormattedAs (v : CoreView) (old new : List ℕ) (len len' : ℕ) (status : ℤ) : Type 0 where
-  pub nameless : nameable v ≡ false → (status ≡ pos 21) × (new ≡ old) × (len' ≡ len)
-  pub named : nameable v ≡ true → ((status ≡ pos 11) × (new ≡ old) × (len' ≡ len)) ⊎ HandedOut (text v) old new len' status
+  pub nameless : nameable v ≡ false → (status ≡ HQ_NO_NAME) × (new ≡ old) × (len' ≡ len)
+  pub named : nameable v ≡ true → ((status ≡ HQ_NO_MEMORY) × (new ≡ old) × (len' ≡ len)) ⊎ HandedOut (text v) old new len' status
 
 -- the name of an extension, as processors list it
 abbrev pub extension_name : Option Extension → List ℕ

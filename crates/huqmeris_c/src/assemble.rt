@@ -1,11 +1,14 @@
 //! Items that are assembled.
 
-ghost use Rattle.std.specs.Prelude.{◌≡◌, ◌+◌, ◌≤◌, ◌⊎◌, [], IfErr, List, OnOk, length, pos};
+ghost use Rattle.std.specs.Prelude.{◌≡◌, ◌+◌, ◌≤◌, ◌⊎◌, [], IfErr, List, OnOk, length};
 ghost use Rattle.huqmeris_c.specs.Data.{code_of, data_of};
-ghost use Rattle.huqmeris_c.specs.Items.{AssembledAs, CantBePut, FirstRefused, Unlisted};
-ghost use Rattle.huqmeris_c.specs.Putting.{Begun, Behind, MakesEach, TellsOf};
+ghost use Rattle.huqmeris_c.specs.Items.{AssembledAs, CantBePut, FirstRefused, NoneRefused, Unlisted};
+ghost use Rattle.huqmeris_c.specs.Each.{none_done};
+ghost use Rattle.huqmeris_c.specs.Putting.{Begun, Behind, Denied, HasPlaces, MakesEach, TellsOf, Unfinished};
 ghost use Rattle.huqmeris_c.specs.declared.item.HqItem.{HqItem};
 ghost use Rattle.x64_code_buffer.specs.Buffer.{buffer_state, label_count, places_of};
+ghost use Rattle.huqmeris_c.specs.declared.status.TheConstants.{HQ_NO_MEMORY};
+ghost use Rattle.x64_layout.specs.declared.span.TheConstants.{MOST_SPANS};
 
 use crate::data_items::put_data;
 use crate::item::HqItem;
@@ -20,7 +23,6 @@ use std::alloc::Global;
 use x64_assemble::{Item, Layout, LayoutError};
 use x64_code_buffer::{BindError, CodeBuffer};
 use x64_core::Core;
-use x64_core_assemble::ByCore;
 use x64_layout::MOST_SPANS;
 
 /// What is told of a list that can't be put.
@@ -38,11 +40,24 @@ fn told_of(error: &LayoutError) -> Refused
     Refused { number, status }
 }
 
+/// The number that is told: that of the item that is refused, and 0 where none is named.
+fn number_told(refused: Refused) -> usize
+    ensures { (items : List HqItem) → Denied items refused.number refused.status → Unlisted items result refused.status }
+{
+    if refused.status == HQ_NO_MEMORY {
+        return 0;
+    }
+    if refused.status == HQ_TOO_MANY {
+        return 0;
+    }
+    refused.number
+}
+
 /// Gives so many labels.
 fn give_labels(count: u32, buffer: &mut CodeBuffer<Global>) -> Result<(), Refused>
     requires { Begun 0 buffer.old }
     ensures given { OnOk result (Begun count buffer.new) }
-    ensures refused { IfErr result (λ refused. refused.status ≡ pos 11) }
+    ensures refused { IfErr result (λ refused. refused.status ≡ HQ_NO_MEMORY) }
 {
     for i in 0..count {
         if buffer.new_label().is_err() {
@@ -63,10 +78,10 @@ fn put_code(
 ) -> Result<(), Refused>
     requires { Begun (label_count buffer.old) buffer.old }
     ensures put { (code : List HqItem) → MakesEach code list.now → OnOk result (Behind (label_count buffer.old) code [] (buffer_state buffer.new) (places_of buffer.new)) }
-    ensures refused { (code : List HqItem) → MakesEach code list.now → length code ≤ 165191049 → IfErr result (λ refused. (refused.status ≡ pos 11) ⊎ FirstRefused (CantBePut (label_count buffer.old)) code refused.number refused.status) }
+    ensures refused { (code : List HqItem) → MakesEach code list.now → length code ≤ MOST_SPANS → IfErr result (λ refused. (refused.status ≡ HQ_NO_MEMORY) ⊎ FirstRefused (CantBePut (label_count buffer.old)) code refused.number refused.status) }
     ensures labels { label_count buffer.new ≡ label_count buffer.old }
 {
-    match Layout::new(alloc).assemble_by::<ByCore, Core, Global>(list, buffer) {
+    match Layout::new(alloc).assemble(list, buffer) {
         Ok(()) => Ok(()),
         Err(error) => Err(told_of(&error)),
     }
@@ -80,7 +95,8 @@ fn put_items(
 ) -> Result<(), Refused>
     requires { Begun 0 buffer.old }
     ensures put { OnOk result (Behind (length items.now) (code_of items.now) (data_of items.now) (buffer_state buffer.new) (places_of buffer.new)) }
-    ensures refused { IfErr result (λ refused. Unlisted items.now refused.number refused.status) }
+    ensures tested { OnOk result (NoneRefused items.now) }
+    ensures refused { IfErr result (λ refused. Denied items.now refused.number refused.status) }
 {
     if items.len() > MOST_SPANS {
         return Err(Refused {
@@ -108,6 +124,21 @@ fn put_items(
     }
 }
 
+/// Tells the first item that refers to what has no place, or else that the list can't be finished for this reason.
+fn unfinished(items: &[HqItem], buffer: &CodeBuffer<Global>, why: i32, done: &mut HqDone) -> i32
+    requires places { HasPlaces (places_of buffer.now) items.now }
+    requires nothing { done.old ≡ none_done }
+    ensures { Unfinished items.now why done.new result }
+{
+    match first_open(items, buffer) {
+        Some(number) => {
+            done.items = number;
+            HQ_UNBOUND
+        }
+        None => why,
+    }
+}
+
 /// Assembles items into the front of some bytes, all of them or nothing: instructions, places of labels, and jumps to them;
 /// behind them data, which instructions refer to as constants or labels. The first item that is data begins it: behind that no
 /// instruction and no jump may stand.
@@ -117,8 +148,9 @@ fn put_items(
 /// traps of the instructions, in their order, each at the place of its instruction. No late offset is known.
 ///
 /// At `HQ_OK` `done` has how many items, bytes and traps there are, at `HQ_FULL` how many there would be. At another status
-/// `items` is the number of the item that is refused, from 0: the first that is none, or else the first that has a fault or whose
-/// label or constant can't be bound, or else the first that refers to what has no place.
+/// `bytes` and `uses` are 0, and `items` is the number of the item that is refused, from 0: the first that is none, or else the
+/// first that has a fault or whose label or constant can't be bound, or else, at `HQ_UNBOUND`, the first that refers to what has no
+/// place. At `HQ_TOO_MANY`, `HQ_OUT_OF_RANGE` and `HQ_NO_MEMORY` none is named, and `items` is 0.
 ///
 /// It asks for memory, and has given all of it back when it answers.
 #[unsafe(no_mangle)]
@@ -134,19 +166,15 @@ pub extern "C" fn hq_assemble(
     let mut buffer = CodeBuffer::new(alloc);
     *done = HqDone::NOTHING;
     if let Err(refused) = put_items(alloc, items, &mut buffer) {
-        done.items = refused.number;
+        done.items = number_told(refused);
         return refused.status;
     }
     let mut traps = Vec::new(alloc);
     if let Err(status) = list_traps(buffer.notices(), &mut traps) {
-        return status;
+        return unfinished(items, &buffer, status, done);
     }
     if buffer.finish_in_place().is_err() {
-        let Some(number) = first_open(items, &buffer) else {
-            return HQ_OUT_OF_RANGE;
-        };
-        done.items = number;
-        return HQ_UNBOUND;
+        return unfinished(items, &buffer, HQ_OUT_OF_RANGE, done);
     }
     let bytes = buffer.bytes();
     let told = traps.as_slice();

@@ -1,11 +1,12 @@
 //! Instructions of what was read.
 
-ghost use Rattle.std.specs.Prelude.{◌≡◌, ◌≢◌, ◌&&◌, false, pos, true};
+ghost use Rattle.std.specs.Prelude.{◌≡◌, ◌≢◌, ◌&&◌, false, true};
 ghost use Rattle.cax64_plain.specs.Reading.{plain_reading};
 ghost use Rattle.huqmeris_c.specs.OfReading.{IsInstOf};
 ghost use Rattle.x64_core_reader.specs.OfReading.{is_taken, operands_given};
 ghost use Rattle.x64_core_reader.specs.Reading.{line_reading};
 ghost use Rattle.x64_core_reader.specs.declared.reading.CoreReading.{CoreReading};
+ghost use Rattle.cax64_plain.specs.declared.status.TheConstants.{HQ_BAD_READING, HQ_NO_INST, HQ_OK};
 
 use cax64_plain::status::{HQ_BAD_READING, HQ_NO_INST, HQ_OK};
 use cax64_plain::{HqInst, HqReading};
@@ -17,9 +18,9 @@ use cax64_plain::{HqInst, HqReading};
 /// `HQ_BAD_READING` where the integers are no reading. The length isn't looked at.
 #[unsafe(no_mangle)]
 pub extern "C" fn hq_inst_of_reading(reading: &HqReading, out: &mut HqInst) -> i32
-    ensures bad { ((r : CoreReading) → plain_reading r.op.number (line_reading r) ≢ reading.now) → (result ≡ pos 8) × (out.new ≡ out.old) }
-    ensures none { (r : CoreReading) → plain_reading r.op.number (line_reading r) ≡ reading.now → (operands_given r && is_taken r) ≡ false → (result ≡ pos 7) × (out.new ≡ out.old) }
-    ensures is { (r : CoreReading) → plain_reading r.op.number (line_reading r) ≡ reading.now → (operands_given r && is_taken r) ≡ true → (result ≡ pos 0) × IsInstOf r out.new }
+    ensures bad { ((r : CoreReading) → plain_reading r.op.number (line_reading r) ≢ reading.now) → (result ≡ HQ_BAD_READING) × (out.new ≡ out.old) }
+    ensures none { (r : CoreReading) → plain_reading r.op.number (line_reading r) ≡ reading.now → (operands_given r && is_taken r) ≡ false → (result ≡ HQ_NO_INST) × (out.new ≡ out.old) }
+    ensures is { (r : CoreReading) → plain_reading r.op.number (line_reading r) ≡ reading.now → (operands_given r && is_taken r) ≡ true → (result ≡ HQ_OK) × IsInstOf r out.new }
 {
     let Some(reading) = reading.reading() else {
         return HQ_BAD_READING;

@@ -1,13 +1,14 @@
 //! Data behind the code.
 
-ghost use Rattle.std.specs.Prelude.{◌≡◌, ◌+◌, ◌++◌, ◌<◌, ◌≤◌, ◌^◌, ◌↔◌, ◌⊎◌, ℕ, [], IfErr, IfNone, IfSome, IsTrue, List, OnOk, Some, drop, length, pos, take};
+ghost use Rattle.std.specs.Prelude.{◌≡◌, ◌+◌, ◌++◌, ◌<◌, ◌≤◌, ◌^◌, ◌↔◌, ◌⊎◌, ℕ, [], IfErr, IfNone, IfSome, IsTrue, List, OnOk, Some, drop, length, take};
 ghost use Rattle.huqmeris_c.specs.Data.{code_of, data_in, data_of, is_data, struct_bytes};
-ghost use Rattle.huqmeris_c.specs.Putting.{AreData, BadDatum, Behind, DatumRefused, FirstBehind, Holds, IsDatum, PutsDatum};
+ghost use Rattle.huqmeris_c.specs.Putting.{AreData, BadDatum, Behind, DatumRefused, FirstBehind, Holds, IsDatum, NoneBehind, PutsDatum};
 ghost use Rattle.huqmeris_c.specs.declared.item.HqItem.{HqItem};
 ghost use Rattle.cax64_sink.specs.declared.DeferredTarget.{DeferredTarget};
 ghost use Rattle.x64_code_buffer.specs.Binding.{AddsBinding, SamePlaces};
 ghost use Rattle.x64_code_buffer.specs.Padding.{missing_to};
 ghost use Rattle.x64_code_buffer.specs.Buffer.{StaysFilled, buffer_state, label_count, places_of};
+ghost use Rattle.huqmeris_c.specs.declared.status.TheConstants.{HQ_BAD_LABEL, HQ_BOUND_TWICE, HQ_NO_MEMORY};
 
 use crate::item::{HQ_ITEM_ALIGN, HQ_ITEM_BYTES, HQ_ITEM_CONSTANT, HQ_ITEM_LABEL, HqItem};
 use crate::list::Refused;
@@ -123,7 +124,7 @@ fn padding_len(at: usize, power: u32) -> usize
 /// Binds a label where data stands.
 fn put_label(number: u32, buffer: &mut CodeBuffer<Global>) -> Result<(), i32>
     ensures bound { OnOk result ((number < label_count buffer.old) × AddsBinding (DeferredTarget.Label (record { 0 = number })) (length (buffer_state buffer.old).bytes) (places_of buffer.old) (places_of buffer.new)) }
-    ensures refused { IfErr result (λ status. (status ≡ pos 11) ⊎ (((status ≡ pos 13) × (label_count buffer.old ≤ number)) ⊎ ((status ≡ pos 14) × ((place : ℕ) × (places_of buffer.old (DeferredTarget.Label (record { 0 = number })) ≡ Some place))))) }
+    ensures refused { IfErr result (λ status. (status ≡ HQ_NO_MEMORY) ⊎ (((status ≡ HQ_BAD_LABEL) × (label_count buffer.old ≤ number)) ⊎ ((status ≡ HQ_BOUND_TWICE) × ((place : ℕ) × (places_of buffer.old (DeferredTarget.Label (record { 0 = number })) ≡ Some place))))) }
     ensures state { buffer_state buffer.new ≡ buffer_state buffer.old }
     ensures labels { label_count buffer.new ≡ label_count buffer.old }
     ensures filled { StaysFilled buffer.old buffer.new }
@@ -139,7 +140,7 @@ fn put_label(number: u32, buffer: &mut CodeBuffer<Global>) -> Result<(), i32>
 /// Binds a constant.
 fn put_constant(number: u32, buffer: &mut CodeBuffer<Global>) -> Result<(), i32>
     ensures bound { OnOk result (AddsBinding (DeferredTarget.Constant (record { 0 = number })) (length (buffer_state buffer.old).bytes) (places_of buffer.old) (places_of buffer.new)) }
-    ensures refused { IfErr result (λ status. (status ≡ pos 11) ⊎ ((status ≡ pos 14) × ((place : ℕ) × (places_of buffer.old (DeferredTarget.Constant (record { 0 = number })) ≡ Some place)))) }
+    ensures refused { IfErr result (λ status. (status ≡ HQ_NO_MEMORY) ⊎ ((status ≡ HQ_BOUND_TWICE) × ((place : ℕ) × (places_of buffer.old (DeferredTarget.Constant (record { 0 = number })) ≡ Some place)))) }
     ensures state { buffer_state buffer.new ≡ buffer_state buffer.old }
     ensures labels { label_count buffer.new ≡ label_count buffer.old }
     ensures filled { StaysFilled buffer.old buffer.new }
@@ -154,7 +155,7 @@ fn put_constant(number: u32, buffer: &mut CodeBuffer<Global>) -> Result<(), i32>
 /// Puts bytes.
 fn put_all(bytes: &[u8], buffer: &mut CodeBuffer<Global>) -> Result<(), i32>
     ensures adds { OnOk result ((buffer_state buffer.new).bytes ≡ (buffer_state buffer.old).bytes ++ bytes.now) }
-    ensures refused { IfErr result (λ status. status ≡ pos 11) }
+    ensures refused { IfErr result (λ status. status ≡ HQ_NO_MEMORY) }
     ensures notices { (buffer_state buffer.new).notices ≡ (buffer_state buffer.old).notices }
     ensures labels { label_count buffer.new ≡ label_count buffer.old }
     ensures places { SamePlaces (places_of buffer.old) (places_of buffer.new) }
@@ -170,7 +171,7 @@ fn put_all(bytes: &[u8], buffer: &mut CodeBuffer<Global>) -> Result<(), i32>
 fn put_held(item: &HqItem, buffer: &mut CodeBuffer<Global>) -> Result<(), i32>
     requires { Holds item.now }
     ensures adds { OnOk result ((buffer_state buffer.new).bytes ≡ (buffer_state buffer.old).bytes ++ data_in (length (buffer_state buffer.old).bytes) item.now) }
-    ensures refused { IfErr result (λ status. status ≡ pos 11) }
+    ensures refused { IfErr result (λ status. status ≡ HQ_NO_MEMORY) }
     ensures notices { (buffer_state buffer.new).notices ≡ (buffer_state buffer.old).notices }
     ensures labels { label_count buffer.new ≡ label_count buffer.old }
     ensures places { SamePlaces (places_of buffer.old) (places_of buffer.new) }
@@ -202,7 +203,8 @@ pub(crate) fn put_data(items: &[HqItem], buffer: &mut CodeBuffer<Global>) -> Res
     requires { AreData items.now }
     ensures within { IfErr result (λ refused. refused.number ≤ length items.now) }
     ensures put { (front : List HqItem) → Behind (label_count buffer.old) front [] (buffer_state buffer.old) (places_of buffer.old) → OnOk result (Behind (label_count buffer.old) front items.now (buffer_state buffer.new) (places_of buffer.new)) }
-    ensures refused { (front : List HqItem) → Behind (label_count buffer.old) front [] (buffer_state buffer.old) (places_of buffer.old) → IfErr result (λ refused. (refused.status ≡ pos 11) ⊎ FirstBehind (label_count buffer.old) front items.now refused.number refused.status) }
+    ensures tested { (front : List HqItem) → Behind (label_count buffer.old) front [] (buffer_state buffer.old) (places_of buffer.old) → OnOk result (NoneBehind (label_count buffer.old) front items.now (length items.now)) }
+    ensures refused { (front : List HqItem) → Behind (label_count buffer.old) front [] (buffer_state buffer.old) (places_of buffer.old) → IfErr result (λ refused. (refused.status ≡ HQ_NO_MEMORY) ⊎ FirstBehind (label_count buffer.old) front items.now refused.number refused.status) }
 {
     for i in 0..items.len() {
         if let Err(status) = put_datum(&items[i], buffer) {

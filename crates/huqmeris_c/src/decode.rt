@@ -1,9 +1,10 @@
 //! Reading.
 
-ghost use Rattle.std.specs.Prelude.{◌≡◌, MatchOption, false, pos, true};
+ghost use Rattle.std.specs.Prelude.{◌≡◌, MatchOption, false, true};
 ghost use Rattle.cax64_machine_code.specs.ReadLine.{read_of};
 ghost use Rattle.cax64_plain.specs.Reading.{IsReading};
 ghost use Rattle.x64_core.specs.Lines.{core_lines};
+ghost use Rattle.cax64_plain.specs.declared.status.TheConstants.{HQ_NONE, HQ_OK};
 
 use cax64_plain::HqReading;
 use cax64_plain::status::{HQ_NONE, HQ_OK};
@@ -28,7 +29,7 @@ pub(crate) fn read(bytes: &[u8], out: &mut HqReading) -> bool
 /// `HQ_NONE` where no line reads what stands there.
 #[unsafe(no_mangle)]
 pub extern "C" fn hq_decode(bytes: &[u8], out: &mut HqReading) -> i32
-    ensures { MatchOption (read_of core_lines bytes.now) ((result ≡ pos 5) × (out.new ≡ out.old)) (λ reading. (result ≡ pos 0) × IsReading reading out.new) }
+    ensures { MatchOption (read_of core_lines bytes.now) ((result ≡ HQ_NONE) × (out.new ≡ out.old)) (λ reading. (result ≡ HQ_OK) × IsReading reading out.new) }
 {
     if read(bytes, out) { HQ_OK } else { HQ_NONE }
 }

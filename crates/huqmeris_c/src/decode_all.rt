@@ -1,9 +1,10 @@
 //! Reading of many instructions.
 
-ghost use Rattle.std.specs.Prelude.{◌≡◌, ◌≤◌, ◌<◌, None, drop, length, pos, take};
+ghost use Rattle.std.specs.Prelude.{◌≡◌, ◌≤◌, ◌<◌, None, drop, length, take};
 ghost use Rattle.cax64_machine_code.specs.ReadLine.{read_of};
 ghost use Rattle.huqmeris_c.specs.InTurn.{InTurn};
 ghost use Rattle.x64_core.specs.Lines.{core_lines};
+ghost use Rattle.cax64_plain.specs.declared.status.TheConstants.{HQ_OK};
 
 use crate::decode::read;
 use cax64_plain::HqReading;
@@ -37,7 +38,7 @@ pub extern "C" fn hq_decode_all(
     count: &mut usize,
     end: &mut usize,
 ) -> i32
-    ensures answer { result ≡ pos 0 }
+    ensures answer { result ≡ HQ_OK }
     ensures reads { InTurn bytes.now (take count.new out.new) (drop end.new bytes.now) }
     ensures others { drop count.new out.new ≡ drop count.new out.old }
     ensures within { (count.new ≤ length out.old) × (end.new ≤ length bytes.now) }

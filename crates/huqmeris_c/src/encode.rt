@@ -1,6 +1,6 @@
 //! Encoding.
 
-ghost use Rattle.std.specs.Prelude.{◌≡◌, ◌≢◌, ◌≤◌, [], IfSome, IsTrue, MatchOption, Some, length, pos, slice_get};
+ghost use Rattle.std.specs.Prelude.{◌≡◌, ◌≢◌, ◌≤◌, [], IfSome, IsTrue, MatchOption, Some, length, slice_get};
 ghost use Rattle.cax64_encoder.specs.EncodesLine.{line_notices_of};
 ghost use Rattle.cax64_encoder.specs.Place.{memory_in};
 ghost use Rattle.cax64_machine_code.specs.Line.{imm_bytes};
@@ -18,6 +18,7 @@ ghost use Rattle.x64_core.specs.Lines.{core_lines};
 ghost use Rattle.x64_core.specs.Shape.{imm_field};
 ghost use Rattle.x64_core.specs.View.{core_view};
 ghost use Rattle.x64_core.specs.declared.instruction.Core.{Core};
+ghost use Rattle.cax64_plain.specs.declared.status.TheConstants.{HQ_BAD_INST, HQ_OK};
 
 use crate::decode::read;
 use crate::words::put_words;
@@ -40,7 +41,7 @@ pub(crate) fn sink() -> FixedSink<24>
 /// an index that is the stack pointer, or else a late offset. 0 where it can.
 #[unsafe(no_mangle)]
 pub extern "C" fn hq_check(inst: &HqInst) -> i32
-    ensures bad { ((c : Core) → plain (core_view c) ≢ inst.now) → result ≡ pos 1 }
+    ensures bad { ((c : Core) → plain (core_view c) ≢ inst.now) → result ≡ HQ_BAD_INST }
     ensures checks { (c : Core) → plain (core_view c) ≡ inst.now → result ≡ check_status (fault_of no_offsets (core_view c)) }
 {
     if let Some(_) = inst.encodable() {
@@ -58,10 +59,10 @@ pub extern "C" fn hq_check(inst: &HqInst) -> i32
 /// The number of bytes that `hq_encode` writes, 1 to 13.
 #[unsafe(no_mangle)]
 pub extern "C" fn hq_length(inst: &HqInst, len: &mut u32) -> i32
-    ensures bad { ((c : Core) → plain (core_view c) ≢ inst.now) → (result ≡ pos 1) × (len.new ≡ len.old) }
+    ensures bad { ((c : Core) → plain (core_view c) ≢ inst.now) → (result ≡ HQ_BAD_INST) × (len.new ≡ len.old) }
     ensures length { (c : Core) → plain (core_view c) ≡ inst.now
         → MatchOption (fault_of no_offsets (core_view c))
-        ((result ≡ pos 0) × (len.new ≡ core_len no_offsets (core_view c)))
+        ((result ≡ HQ_OK) × (len.new ≡ core_len no_offsets (core_view c)))
         (λ fault. (result ≡ fault_status fault) × (len.new ≡ len.old)) }
 {
     if let Some(core) = inst.encodable() {
@@ -168,7 +169,7 @@ pub(crate) fn put_encodable(core: &Core, code: &mut [u8]) -> (u8, u8)
 #[cold]
 #[inline(never)]
 fn encode_any(inst: &HqInst, code: &mut [u8], len: &mut u32, told: &mut HqUse) -> i32
-    ensures bad { ((c : Core) → plain (core_view c) ≢ inst.now) → (result ≡ pos 1) × Unchanged code.old code.new len.old len.new told.old told.new }
+    ensures bad { ((c : Core) → plain (core_view c) ≢ inst.now) → (result ≡ HQ_BAD_INST) × Unchanged code.old code.new len.old len.new told.old told.new }
     ensures puts { (c : Core) → plain (core_view c) ≡ inst.now → PutAs (core_view c) code.old code.new len.old len.new told.old told.new result }
 {
     let Some(core) = inst.core() else {
@@ -181,7 +182,7 @@ fn encode_any(inst: &HqInst, code: &mut [u8], len: &mut u32, told: &mut HqUse) -
 /// `HQ_FULL` where they are too few. No late offset is known.
 #[unsafe(no_mangle)]
 pub extern "C" fn hq_encode(inst: &HqInst, code: &mut [u8], len: &mut u32, told: &mut HqUse) -> i32
-    ensures bad { ((c : Core) → plain (core_view c) ≢ inst.now) → (result ≡ pos 1) × Unchanged code.old code.new len.old len.new told.old told.new }
+    ensures bad { ((c : Core) → plain (core_view c) ≢ inst.now) → (result ≡ HQ_BAD_INST) × Unchanged code.old code.new len.old len.new told.old told.new }
     ensures puts { (c : Core) → plain (core_view c) ≡ inst.now → PutAs (core_view c) code.old code.new len.old len.new told.old told.new result }
 {
     if code.len() >= 16 {

@@ -16,6 +16,7 @@ ghost use Rattle.x64_core.specs.Core.{core_len, fault_of};
 ghost use Rattle.x64_core.specs.Line.{core_line};
 ghost use Rattle.x64_core.specs.Lines.{core_lines};
 ghost use Rattle.x64_core.specs.View.{core_view};
+ghost use Rattle.x64_layout.specs.declared.span.TheConstants.{MOST_SPANS};
 
 use crate::encode::{notice_of, put_encodable, sink};
 use crate::progress::HqDone;
@@ -25,9 +26,7 @@ use cax64_plain::status::{HQ_BAD_INST, HQ_FULL, HQ_OK, fault_status};
 use cax64_plain::{HqInst, HqUse};
 use cax64_sink::FixedSink;
 use x64_core::Core;
-
-/// How many instructions are encoded in one call at most: so many of 13 bytes each have less than 2 to the 31.
-const MOST: usize = 165_191_049;
+use x64_layout::MOST_SPANS;
 
 /// Where a list is stopped at, and why.
 #[derive(Clone, Copy)]
@@ -79,7 +78,7 @@ fn are_ready(insts: &[HqInst]) -> bool
 
 /// Finds how many bytes instructions have, and how many traps and targets they tell, or the first that can't be encoded.
 fn measure(insts: &[HqInst]) -> Result<HqDone, Stop>
-    requires { length insts.now ≤ 165191049 }
+    requires { length insts.now ≤ MOST_SPANS }
     ensures items { IfOk result (λ done. done.items ≡ length insts.now) }
     ensures sound { IfOk result (λ done. AreSound insts.now done.bytes done.uses) }
     ensures stopped { IfErr result (λ stop. StoppedAt insts.now stop.done stop.status) }
@@ -263,7 +262,7 @@ fn put_next(
 /// Puts instructions one behind the other that can be encoded where no late offset is known, as `put_each` does. Before the last
 /// one there is always room for two words.
 fn put_each_ready(insts: &[HqInst], code: &mut [u8], uses: &mut [HqUse]) -> (usize, usize)
-    requires few { length insts.now ≤ 165191049 }
+    requires few { length insts.now ≤ MOST_SPANS }
     requires some { 1 ≤ length insts.now }
     requires ready { AreReady insts.now (length insts.now) }
     requires room { HasRoomFor insts.now (length code.old) (length uses.old) }
@@ -282,7 +281,7 @@ fn put_each_ready(insts: &[HqInst], code: &mut [u8], uses: &mut [HqUse]) -> (usi
 
 /// Puts instructions one behind the other, and says how many bytes they have, and how many traps and targets they tell.
 fn put_each(insts: &[HqInst], code: &mut [u8], uses: &mut [HqUse]) -> (usize, usize)
-    requires few { length insts.now ≤ 165191049 }
+    requires few { length insts.now ≤ MOST_SPANS }
     requires room { HasRoomFor insts.now (length code.old) (length uses.old) }
     ensures { PutEach insts.now code.old code.new uses.old uses.new result.0 result.1 }
 {
@@ -301,7 +300,8 @@ fn put_each(insts: &[HqInst], code: &mut [u8], uses: &mut [HqUse]) -> (usize, us
 ///
 /// A use's `at` counts from the beginning of `code`. At `HQ_OK` `done` has how many instructions, bytes and uses were put, at
 /// `HQ_FULL` how many there would be. Where an instruction is refused, `items` is its number, from 0, and the rest of `done` is
-/// of those before it; the status is that of `hq_check`. `HQ_TOO_MANY` above 165,191,049 instructions. No late offset is known.
+/// of those before it; the status is that of `hq_check`. `HQ_TOO_MANY` above 165,191,049 instructions, and `done` is all 0. No late
+/// offset is known.
 #[unsafe(no_mangle)]
 pub extern "C" fn hq_encode_all(
     insts: &[HqInst],
@@ -309,9 +309,11 @@ pub extern "C" fn hq_encode_all(
     uses: &mut [HqUse],
     done: &mut HqDone,
 ) -> i32
-    ensures { EachPutAs insts.now code.old code.new uses.old uses.new done.old done.new result }
+    ensures { EachPutAs insts.now code.old code.new uses.old uses.new done.new result }
 {
-    if insts.len() > MOST {
+    // So many of 13 bytes each have less than 2 to the 31.
+    if insts.len() > MOST_SPANS {
+        *done = HqDone::NOTHING;
         return HQ_TOO_MANY;
     }
     // Where there is room for the most that they may have, it isn't counted what they have before they are put.

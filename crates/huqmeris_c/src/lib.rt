@@ -1,7 +1,7 @@
 //! Calls from C and from Rust: a static library, whose header and declarations `c/write.py` writes.
 //!
 //! No call has a condition: each tests what it's handed, and answers 0, or a status with which all that it could write is as
-//! before.
+//! before, but for what it tells of itself: `done` of a list, and the length of a text that doesn't fit.
 #![tactic(auto)]
 
 mod assemble;
@@ -11,8 +11,10 @@ mod decode;
 mod decode_all;
 mod encode;
 mod encode_all;
+mod is_proved;
 mod item;
 mod jump;
+mod line_use;
 mod list;
 #[cfg(test)]
 mod list_rows;

@@ -1,9 +1,10 @@
 //! Items as a list that can be laid out.
 
-ghost use Rattle.std.specs.Prelude.{◌≡◌, ◌++◌, ◌⊎◌, ◌∷◌, [], IfErr, IfOk, List, OnOk, pos};
+ghost use Rattle.std.specs.Prelude.{◌≡◌, ◌++◌, ◌⊎◌, ◌∷◌, [], IfErr, IfOk, List, OnOk};
 ghost use Rattle.huqmeris_c.specs.Items.{FirstRefused, NoItem};
 ghost use Rattle.huqmeris_c.specs.Putting.{ListedTo, Makes, MakesEach, NoCode};
 ghost use Rattle.huqmeris_c.specs.declared.item.HqItem.{HqItem};
+ghost use Rattle.huqmeris_c.specs.declared.status.TheConstants.{HQ_NO_MEMORY};
 
 use crate::data_items::{code_len, first_bad};
 use crate::item::{HQ_ITEM_INST, HQ_ITEM_LABEL, HqItem};
@@ -46,7 +47,7 @@ fn item_of(item: &HqItem) -> Result<Item<Core>, i32>
 /// Lists an item behind others.
 fn list_item(item: &HqItem, list: &mut Vec<Item<Core>, Global>) -> Result<(), i32>
     ensures listed { (before : List HqItem) → MakesEach before list.old.items → OnOk result (MakesEach (before ++ item.now ∷ []) list.new.items) }
-    ensures refused { IfErr result (λ status. (status ≡ pos 11) ⊎ NoCode item.now status) }
+    ensures refused { IfErr result (λ status. (status ≡ HQ_NO_MEMORY) ⊎ NoCode item.now status) }
 {
     // The prover wants this type named where a list of instructions is kept over a call.
     let _place = CorePlace::Absent;
@@ -64,7 +65,7 @@ fn list_item(item: &HqItem, list: &mut Vec<Item<Core>, Global>) -> Result<(), i3
 fn list_items(items: &[HqItem], list: &mut Vec<Item<Core>, Global>) -> Result<(), Refused>
     requires { list.old.items ≡ [] }
     ensures listed { OnOk result (MakesEach items.now list.new.items) }
-    ensures refused { IfErr result (λ refused. (refused.status ≡ pos 11) ⊎ FirstRefused (λ before. NoCode) items.now refused.number refused.status) }
+    ensures refused { IfErr result (λ refused. (refused.status ≡ HQ_NO_MEMORY) ⊎ FirstRefused (λ before. NoCode) items.now refused.number refused.status) }
 {
     if list.reserve_exact(items.len()).is_err() {
         return Err(Refused {
@@ -87,7 +88,7 @@ pub(crate) fn list_code(
 ) -> Result<usize, Refused>
     requires { list.old.items ≡ [] }
     ensures listed { IfOk result (λ count. ListedTo items.now count list.new.items) }
-    ensures refused { IfErr result (λ refused. (refused.status ≡ pos 11) ⊎ FirstRefused NoItem items.now refused.number refused.status) }
+    ensures refused { IfErr result (λ refused. (refused.status ≡ HQ_NO_MEMORY) ⊎ FirstRefused NoItem items.now refused.number refused.status) }
 {
     let count = code_len(items);
     if let Err(refused) = list_items(&items[..count], list) {

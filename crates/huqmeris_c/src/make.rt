@@ -1,6 +1,6 @@
 //! Instructions of operands.
 
-ghost use Rattle.std.specs.Prelude.{◌≡◌, ◌≢◌, ◌≤◌, ◌<◌, MatchOption, pos};
+ghost use Rattle.std.specs.Prelude.{◌≡◌, ◌≢◌, ◌≤◌, ◌<◌, MatchOption};
 ghost use Rattle.cax64_plain.specs.Plain.{plain, plain_place};
 ghost use Rattle.cax64_plain.specs.Status.{shape_status};
 ghost use Rattle.huqmeris_c.specs.Given.{imm_given, register_given};
@@ -9,6 +9,7 @@ ghost use Rattle.x64_core.specs.Shape.{shape_of};
 ghost use Rattle.x64_core.specs.View.{place_operand};
 ghost use Rattle.x64_core.specs.declared.lines.TheConstants.{COUNT};
 ghost use Rattle.x64_core.specs.declared.place.CorePlace.{CorePlace};
+ghost use Rattle.cax64_plain.specs.declared.status.TheConstants.{HQ_BAD_LINE, HQ_BAD_PLACE, HQ_OK};
 
 use cax64_plain::status::{HQ_BAD_LINE, HQ_BAD_PLACE, HQ_OK, shape_status};
 use cax64_plain::{HqInst, HqPlace};
@@ -58,11 +59,11 @@ pub extern "C" fn hq_make(
     imm: i64,
     out: &mut HqInst,
 ) -> i32
-    ensures line { COUNT ≤ line → (result ≡ pos 3) × (out.new ≡ out.old) }
-    ensures place { line < COUNT → ((p : CorePlace) → plain_place (place_operand p) ≢ place.now) → (result ≡ pos 2) × (out.new ≡ out.old) }
+    ensures line { COUNT ≤ line → (result ≡ HQ_BAD_LINE) × (out.new ≡ out.old) }
+    ensures place { line < COUNT → ((p : CorePlace) → plain_place (place_operand p) ≢ place.now) → (result ≡ HQ_BAD_PLACE) × (out.new ≡ out.old) }
     ensures makes { line < COUNT → (p : CorePlace) → plain_place (place_operand p) ≡ place.now
         → MatchOption (refusal (shape_of line) (register_given reg) (register_given vvvv) p (imm_given imm))
-        ((result ≡ pos 0) × (out.new ≡ plain (record { op = line; reg = register_given reg; vvvv = register_given vvvv; place = place_operand p; imm = imm_given imm })))
+        ((result ≡ HQ_OK) × (out.new ≡ plain (record { op = line; reg = register_given reg; vvvv = register_given vvvv; place = place_operand p; imm = imm_given imm })))
         (λ why. (result ≡ shape_status why) × (out.new ≡ out.old)) }
 {
     let Some(op) = Op::from_number(line) else {

@@ -1,11 +1,12 @@
 //! Operands of instructions.
 
-ghost use Rattle.std.specs.Prelude.{◌≡◌, ◌≢◌, IfSome, pos, true};
+ghost use Rattle.std.specs.Prelude.{◌≡◌, ◌≢◌, IfSome, true};
 ghost use Rattle.cax64_plain.specs.Plain.{plain, plain_place};
 ghost use Rattle.huqmeris_c.specs.Given.{imm_given, register_given};
 ghost use Rattle.x64_core.specs.Value.{is_imm_value};
 ghost use Rattle.x64_core.specs.View.{core_view};
 ghost use Rattle.x64_core.specs.declared.instruction.Core.{Core};
+ghost use Rattle.cax64_plain.specs.declared.status.TheConstants.{HQ_BAD_INST, HQ_OK};
 
 use crate::make::{HQ_NO_IMM, HQ_NO_REG};
 use cax64_plain::status::{HQ_BAD_INST, HQ_OK};
@@ -41,8 +42,8 @@ pub extern "C" fn hq_operands(
     place: &mut HqPlace,
     imm: &mut i64,
 ) -> i32
-    ensures bad { ((c : Core) → plain (core_view c) ≢ inst.now) → (result ≡ pos 1) × (reg.new ≡ reg.old) × (vvvv.new ≡ vvvv.old) × (place.new ≡ place.old) × (imm.new ≡ imm.old) }
-    ensures registers { (c : Core) → plain (core_view c) ≡ inst.now → (result ≡ pos 0) × (register_given reg.new ≡ (core_view c).reg) × (register_given vvvv.new ≡ (core_view c).vvvv) }
+    ensures bad { ((c : Core) → plain (core_view c) ≢ inst.now) → (result ≡ HQ_BAD_INST) × (reg.new ≡ reg.old) × (vvvv.new ≡ vvvv.old) × (place.new ≡ place.old) × (imm.new ≡ imm.old) }
+    ensures registers { (c : Core) → plain (core_view c) ≡ inst.now → (result ≡ HQ_OK) × (register_given reg.new ≡ (core_view c).reg) × (register_given vvvv.new ≡ (core_view c).vvvv) }
     ensures others { (c : Core) → plain (core_view c) ≡ inst.now → (place.new ≡ plain_place (core_view c).place) × (imm_given imm.new ≡ (core_view c).imm) }
 {
     let Some(core) = inst.core() else {

@@ -1,7 +1,8 @@
 //! Relative fields.
 
-ghost use Rattle.std.specs.Prelude.{◌≡◌, MatchOption, pos};
+ghost use Rattle.std.specs.Prelude.{◌≡◌, MatchOption};
 ghost use Rattle.x64_code_buffer.specs.Field.{patched};
+ghost use Rattle.cax64_plain.specs.declared.status.TheConstants.{HQ_OK, HQ_OUT_OF_RANGE};
 
 use cax64_plain::status::{HQ_OK, HQ_OUT_OF_RANGE};
 use x64_code_buffer::patched_field;
@@ -10,7 +11,7 @@ use x64_code_buffer::patched_field;
 /// place of the field's first byte. `HQ_OUT_OF_RANGE` where that isn't of 32 bits.
 #[unsafe(no_mangle)]
 pub extern "C" fn hq_patched(place: u64, target: u64, stored: i32, field: &mut i32) -> i32
-    ensures { MatchOption (patched place target stored) ((result ≡ pos 9) × (field.new ≡ field.old)) (λ value. (result ≡ pos 0) × (field.new ≡ value)) }
+    ensures { MatchOption (patched place target stored) ((result ≡ HQ_OUT_OF_RANGE) × (field.new ≡ field.old)) (λ value. (result ≡ HQ_OK) × (field.new ≡ value)) }
 {
     match patched_field(place, target, stored) {
         None => HQ_OUT_OF_RANGE,

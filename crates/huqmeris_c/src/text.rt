@@ -1,6 +1,6 @@
 //! Texts.
 
-ghost use Rattle.std.specs.Prelude.{◌≡◌, ◌≢◌, ◌≤◌, ◌<◌, pos};
+ghost use Rattle.std.specs.Prelude.{◌≡◌, ◌≢◌, ◌≤◌, ◌<◌};
 ghost use Rattle.cax64_plain.specs.Plain.{plain};
 ghost use Rattle.huqmeris_c.specs.Text.{FormattedAs, HandedOut, extension_name};
 ghost use Rattle.x64_core.specs.Extension.{extension_of};
@@ -8,6 +8,7 @@ ghost use Rattle.x64_core.specs.View.{core_view};
 ghost use Rattle.x64_core.specs.declared.instruction.Core.{Core};
 ghost use Rattle.x64_core.specs.declared.lines.TheConstants.{COUNT};
 ghost use Rattle.x64_core_text.specs.Text.{mnemonic_of};
+ghost use Rattle.cax64_plain.specs.declared.status.TheConstants.{HQ_BAD_INST, HQ_BAD_LINE};
 
 use crate::status::{HQ_NO_MEMORY, HQ_NO_NAME};
 use cax64_plain::HqInst;
@@ -49,7 +50,7 @@ fn format(alloc: Global, core: &Core, text: &mut [u8], len: &mut usize) -> i32
 /// It asks for memory, and has given all of it back when it answers.
 #[unsafe(no_mangle)]
 pub extern "C" fn hq_format(alloc: Global, inst: &HqInst, text: &mut [u8], len: &mut usize) -> i32
-    ensures bad { ((c : Core) → plain (core_view c) ≢ inst.now) → (result ≡ pos 1) × (text.new ≡ text.old) × (len.new ≡ len.old) }
+    ensures bad { ((c : Core) → plain (core_view c) ≢ inst.now) → (result ≡ HQ_BAD_INST) × (text.new ≡ text.old) × (len.new ≡ len.old) }
     ensures formats { (c : Core) → plain (core_view c) ≡ inst.now → FormattedAs (core_view c) text.old text.new len.old len.new result }
 {
     let Some(core) = inst.core() else {
@@ -61,7 +62,7 @@ pub extern "C" fn hq_format(alloc: Global, inst: &HqInst, text: &mut [u8], len: 
 /// Puts the mnemonic of an instruction at the front of some bytes, as `hq_format` does with its text, but without memory.
 #[unsafe(no_mangle)]
 pub extern "C" fn hq_mnemonic(inst: &HqInst, text: &mut [u8], len: &mut usize) -> i32
-    ensures bad { ((c : Core) → plain (core_view c) ≢ inst.now) → (result ≡ pos 1) × (text.new ≡ text.old) × (len.new ≡ len.old) }
+    ensures bad { ((c : Core) → plain (core_view c) ≢ inst.now) → (result ≡ HQ_BAD_INST) × (text.new ≡ text.old) × (len.new ≡ len.old) }
     ensures is { (c : Core) → plain (core_view c) ≡ inst.now → HandedOut (mnemonic_of (core_view c).op) text.old text.new len.new result }
 {
     let Some(core) = inst.core() else {
@@ -92,7 +93,7 @@ fn name_of(extension: Option<Extension>) -> &'static str
 /// the number.
 #[unsafe(no_mangle)]
 pub extern "C" fn hq_extension(line: u16, text: &mut [u8], len: &mut usize) -> i32
-    ensures line { COUNT ≤ line → (result ≡ pos 3) × (text.new ≡ text.old) × (len.new ≡ len.old) }
+    ensures line { COUNT ≤ line → (result ≡ HQ_BAD_LINE) × (text.new ≡ text.old) × (len.new ≡ len.old) }
     ensures is { line < COUNT → HandedOut (extension_name (extension_of line)) text.old text.new len.new result }
 {
     let Some(op) = Op::from_number(line) else {

@@ -1,7 +1,9 @@
 //! What assembled code tells of traps.
 
-ghost use Rattle.std.specs.Prelude.{◌≡◌, ◌++◌, ◌∷◌, ◌⊎◌, [], IfErr, OnOk, pos};
+ghost use Rattle.std.specs.Prelude.{◌≡◌, ◌++◌, ◌∷◌, ◌⊎◌, [], IfErr, OnOk};
 ghost use Rattle.huqmeris_c.specs.Putting.{traps_in};
+ghost use Rattle.cax64_plain.specs.declared.status.TheConstants.{HQ_OUT_OF_RANGE};
+ghost use Rattle.huqmeris_c.specs.declared.status.TheConstants.{HQ_NO_MEMORY};
 
 use crate::status::HQ_NO_MEMORY;
 use cax64_plain::HqUse;
@@ -12,7 +14,7 @@ use std::alloc::Global;
 /// Lists a notice behind others where it tells a trap.
 fn list_trap(notice: &Notice, list: &mut Vec<HqUse, Global>) -> Result<(), i32>
     ensures listed { OnOk result (list.new.items ≡ list.old.items ++ traps_in (notice.now ∷ [])) }
-    ensures refused { IfErr result (λ status. (status ≡ pos 11) ⊎ (status ≡ pos 9)) }
+    ensures refused { IfErr result (λ status. (status ≡ HQ_NO_MEMORY) ⊎ (status ≡ HQ_OUT_OF_RANGE)) }
 {
     let Notice::Trap(at, _) = *notice else {
         return Ok(());
@@ -30,7 +32,7 @@ fn list_trap(notice: &Notice, list: &mut Vec<HqUse, Global>) -> Result<(), i32>
 pub(crate) fn list_traps(notices: &[Notice], list: &mut Vec<HqUse, Global>) -> Result<(), i32>
     requires { list.old.items ≡ [] }
     ensures listed { OnOk result (list.new.items ≡ traps_in notices.now) }
-    ensures refused { IfErr result (λ status. (status ≡ pos 11) ⊎ (status ≡ pos 9)) }
+    ensures refused { IfErr result (λ status. (status ≡ HQ_NO_MEMORY) ⊎ (status ≡ HQ_OUT_OF_RANGE)) }
 {
     for i in 0..notices.len() {
         if let Err(status) = list_trap(&notices[i], list) {

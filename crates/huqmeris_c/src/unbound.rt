@@ -3,7 +3,7 @@
 ghost use Rattle.std.specs.Prelude.{◌≡◌, ◌↔◌, IfNone, IfSome, IsTrue};
 ghost use Rattle.cax64_sink.specs.declared.DeferredTarget.{DeferredTarget};
 ghost use Rattle.huqmeris_c.specs.Items.{RefersTo};
-ghost use Rattle.huqmeris_c.specs.Putting.{LacksPlace, OpenAt, Opens};
+ghost use Rattle.huqmeris_c.specs.Putting.{LacksPlace, NoneOpens, OpenAt, Opens};
 ghost use Rattle.x64_code_buffer.specs.Buffer.{places_of};
 
 use crate::item::{HQ_ITEM_INST, HqItem};
@@ -53,7 +53,8 @@ fn is_open(item: &HqItem, buffer: &CodeBuffer<Global>) -> bool
 
 /// The number of the first item that refers to what isn't bound.
 pub(crate) fn first_open(items: &[HqItem], buffer: &CodeBuffer<Global>) -> Option<usize>
-    ensures { IfSome result (λ number. OpenAt (places_of buffer.now) items.now number) }
+    ensures open { IfSome result (λ number. OpenAt (places_of buffer.now) items.now number) }
+    ensures none { IfNone result (NoneOpens (places_of buffer.now) items.now) }
 {
     for i in 0..items.len() {
         if is_open(&items[i], buffer) {

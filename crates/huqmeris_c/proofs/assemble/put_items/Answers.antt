@@ -2,9 +2,8 @@ use Rattle.std.proofs.Common.{◌≡◌, ◌+◌, ◌-◌, ◌≤◌, ℤ, List,
 use Rattle.std.proofs.lemmas.Int.{to_z-of_z}
 use Rattle.std.proofs.lemmas.List.{length-drop}
 use Rattle.huqmeris_c.proofs.Splits.{rest_is}
-use Rattle.huqmeris_c.proofs.Unlisted.{code_unlisted, data_unlisted_by, few_listed}
-use Rattle.huqmeris_c.specs.Putting.{ListedTo}
-use Rattle.huqmeris_c.specs.Items.{Unlisted}
+use Rattle.huqmeris_c.proofs.Unlisted.{code_unlisted, data_unlisted_by, few_listed, none_refused_by}
+use Rattle.huqmeris_c.specs.Putting.{Denied, ListedTo}
 use Rattle.huqmeris_c.specs.Data.{code_of}
 use Rattle.x64_assemble.specs.declared.item.Item.{Item}
 use Rattle.x64_core.specs.declared.instruction.Core.{Core}
@@ -25,5 +24,10 @@ pub returns-clause-refused : goal.returns-clause-refused
 returns-clause-refused c =
     let listed : ListedTo c.args.items.now c.in-Ok.count c.deref.result.now = subst (λ (l : List (Item Core)). ListedTo c.args.items.now c.in-Ok.count l) (sym c.deref.ensures.value) c.in-Ok.ensures.listed in
     let small : FitsSigned w32 c.in-Err-put_data.refused.status = search rules in
-    let here : Unlisted c.args.items.now (c.in-Ok.count + c.in-Err-put_data.refused.number) c.in-Err-put_data.refused.status = data_unlisted_by c.args.items.now c.in-Ok.count c.in-Err-put_data.refused.number c.in-Err-put_data.refused.status c.deref.result.now _ (rest_is c.in-Ok.count c.args.items.now) c.put_code.new.buffer c.give_labels.new.buffer listed c.put_code.ensures.labels c.in_default.ensures.given.labels (c.in_default-put_code.ensures.put (code_of c.args.items.now) listed.makes) (λ behind. c.in-Err-put_data.ensures.refused (code_of c.args.items.now) behind) in
-    subst (λ (z : ℤ). Unlisted c.args.items.now (c.in-Ok.count + c.in-Err-put_data.refused.number) z) (sym (to_z-of_z w32 c.in-Err-put_data.refused.status small)) here
+    let here : Denied c.args.items.now (c.in-Ok.count + c.in-Err-put_data.refused.number) c.in-Err-put_data.refused.status = data_unlisted_by c.args.items.now c.in-Ok.count c.in-Err-put_data.refused.number c.in-Err-put_data.refused.status c.deref.result.now _ (rest_is c.in-Ok.count c.args.items.now) c.put_code.new.buffer c.give_labels.new.buffer listed c.put_code.ensures.labels c.in_default.ensures.given.labels (c.in_default-put_code.ensures.put (code_of c.args.items.now) listed.makes) (λ behind. c.in-Err-put_data.ensures.refused (code_of c.args.items.now) behind) in
+    subst (λ (z : ℤ). Denied c.args.items.now (c.in-Ok.count + c.in-Err-put_data.refused.number) z) (sym (to_z-of_z w32 c.in-Err-put_data.refused.status small)) here
+
+pub returns-in-Ok-put_data-clause-tested : goal.returns-in-Ok-put_data-clause-tested
+returns-in-Ok-put_data-clause-tested c =
+    let listed : ListedTo c.args.items.now c.in-Ok.count c.deref.result.now = subst (λ (l : List (Item Core)). ListedTo c.args.items.now c.in-Ok.count l) (sym c.deref.ensures.value) c.in-Ok.ensures.listed in
+    none_refused_by c.args.items.now c.in-Ok.count c.deref.result.now _ (rest_is c.in-Ok.count c.args.items.now) c.put_code.new.buffer c.give_labels.new.buffer listed c.put_code.ensures.labels c.in_default.ensures.given.labels (c.in_default-put_code.ensures.put (code_of c.args.items.now) listed.makes) (λ behind. c.in-Ok-put_data.ensures.tested (code_of c.args.items.now) behind)
