@@ -1,4 +1,4 @@
-use Rattle.std.specs.Prelude.{ℕ, false, slice_index_or}
+use Rattle.std.specs.Prelude.{ℕ, false, if◌then◌else◌, slice_index_or}
 use Rattle.huqmeris_c.specs.declared.line_use.HqFlags.{HqFlags}
 use Rattle.huqmeris_c.specs.declared.line_use.HqOperand.{HqOperand}
 use Rattle.huqmeris_c.specs.declared.line_use.TheConstants as number

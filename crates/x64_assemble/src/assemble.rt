@@ -11,6 +11,7 @@ ghost use Rattle.x64_assemble.specs.Listed.{listed};
 ghost use Rattle.x64_assemble.specs.Putting.{AreBinders, AreFree, CanPut};
 ghost use Rattle.x64_assemble.specs.Refused.{IsFirstRefusal, number_in, refusal_at};
 ghost use Rattle.x64_assemble.specs.declared.errors.LayoutError.{LayoutError};
+ghost use Rattle.x64_layout.specs.declared.span.TheConstants.{MOST_SPANS};
 
 use crate::binders::Binder;
 use crate::errors::LayoutError;
@@ -57,7 +58,7 @@ fn put_least<I: Encode, B: Allocator>(
     rooms: &mut [u8],
     buffer: &mut CodeBuffer<B>,
 ) -> Result<(), LayoutError>
-    requires few { length items.now ≤ 165191049 }
+    requires few { length items.now ≤ MOST_SPANS }
     requires can_put { CanPut (λ i. listed (I.line_meant i) (buffer_state buffer.old).offsets) items.now }
     requires free { AreFree (label_count buffer.old) (places_of buffer.old) items.now }
     requires binders { AreBinders items.now binders.now }
@@ -101,7 +102,7 @@ impl<A: Allocator + Copy> Layout<A> {
 impl<A: Allocator> Layout<A> {
     /// Makes room for so many entries, and for notes of so many labels.
     fn make_room(&mut self, count: usize, labels: usize) -> Result<(), AllocError>
-        requires { count ≤ 165191049 }
+        requires { count ≤ MOST_SPANS }
         ensures spans { OnOk result (count ≤ vec_len self.new.spans) }
         ensures lens { OnOk result (count ≤ vec_len self.new.lens) }
         ensures places { OnOk result (count + 1 ≤ vec_len self.new.places) }
@@ -140,7 +141,7 @@ impl<A: Allocator> Layout<A> {
     ) -> Result<(), LayoutError>
         ensures assembled { (pieces : List Piece) → Laid pieces (length (buffer_state buffer.old).bytes) (buffer_state buffer.old) (places_of buffer.old) → OnOk result (Assembled (λ i. listed (I.line_meant i) (buffer_state buffer.old).offsets) items.now pieces (buffer_state buffer.old) (buffer_state buffer.new) (places_of buffer.old) (places_of buffer.new)) }
         ensures puts { OnOk result (PutsList (λ i. listed (I.line_meant i) (buffer_state buffer.old).offsets) items.now (buffer_state buffer.old) (buffer_state buffer.new) (places_of buffer.old) (places_of buffer.new)) }
-        ensures many { (result ≡ Err LayoutError.TooMany) ↔ (165191049 < length items.now) }
+        ensures many { (result ≡ Err LayoutError.TooMany) ↔ (MOST_SPANS < length items.now) }
         ensures first { IfErr result (λ e. IfSome (number_in e) (λ n. IsFirstRefusal (λ i. (listed (I.line_meant i) (buffer_state buffer.old).offsets).fault) (label_count buffer.old) (places_of buffer.old) items.now n e)) }
         ensures tested { OnOk result ((n : ℕ) → refusal_at (λ i. (listed (I.line_meant i) (buffer_state buffer.old).offsets).fault) (label_count buffer.old) (places_of buffer.old) items.now n ≡ None) }
         ensures unchanged { OnErr result (AsBefore (buffer_state buffer.old) (buffer_state buffer.new)) }

@@ -5,6 +5,7 @@ ghost use Rattle.x64_code_buffer.specs.Buffer.{buffer_state, label_count, places
 ghost use Rattle.x64_assemble.specs.Listed.{listed};
 ghost use Rattle.x64_assemble.specs.Putting.{AreBinders};
 ghost use Rattle.x64_assemble.specs.Refused.{IsFirstRefusal, bind_refusal, refusal_at};
+ghost use Rattle.x64_layout.specs.declared.span.TheConstants.{MOST_SPANS};
 
 use crate::binders::{Binder, spot_in};
 use crate::entry;
@@ -43,7 +44,7 @@ pub(crate) fn test_items<I: Encode, B: Allocator>(
     buffer: &CodeBuffer<B>,
     binders: &mut [Binder],
 ) -> Result<(), LayoutError>
-    requires few { length items.now ≤ 165191049 }
+    requires few { length items.now ≤ MOST_SPANS }
     requires room { label_count buffer.now ≤ length binders.old }
     ensures binders { OnOk result (AreBinders items.now binders.new) }
     ensures tested { OnOk result ((n : ℕ) → refusal_at (λ i. (listed (I.line_meant i) (buffer_state buffer.now).offsets).fault) (label_count buffer.now) (places_of buffer.now) items.now n ≡ None) }
