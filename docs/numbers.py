@@ -16,6 +16,7 @@ from pathlib import Path
 ROOT = Path(__file__).resolve().parent.parent
 sys.path.insert(1, str(ROOT / "table"))
 
+import effects  # noqa: E402
 import words as promises  # noqa: E402
 import write  # noqa: E402  (the table's script, which lies beside what it writes)
 
@@ -156,6 +157,21 @@ def near_differing():
     return sum(map(int, re.findall(r"^ *(\d+) [\w ]+: objdump", near_text("near.txt"), re.M)))
 
 
+def line_uses():
+    return effects.uses_of_lines(ROOT)
+
+
+def said_uses():
+    """The reads and writes that are said of lines, of operands and of flags."""
+    accesses = [use.access for line in line_uses() for use in line.uses if use.home != "Imm"]
+    flags = sum(len(line.read) + len(line.written) for line in line_uses())
+    return sum("Read" in access for access in accesses) + sum("Write" in access for access in accesses) + flags
+
+
+def undefined_flags():
+    return sum(len(line.undefined) for line in line_uses())
+
+
 def executed():
     return sum(count for count, _ in executions().values())
 
@@ -207,6 +223,8 @@ SENTENCES = (
     (rf"\| REX before another prefix, or before a line that takes none \| {NUMBER} \|", near_of("rex")),
     (rf"\| an instruction, or a form of one, that the core hasn't \| {NUMBER} \|", near_of("no line")),
     (rf"\| a digit that processors take for the line's, as 6 for 4 in shifts \| {NUMBER} \|", near_of("digit")),
+    (rf"Each of the {NUMBER} reads and writes", said_uses),
+    (rf"{NUMBER} undefined flags", undefined_flags),
     (rf"\| W or L of VEX that counts for nothing \| {NUMBER} \|", near_of("vex")),
     (rf"Of {NUMBER} strings the three don't say the same", near_differing),
     (rf"all {NUMBER} (?:structs|kinds|variants|instructions)", structs),

@@ -1,6 +1,7 @@
 #!/usr/bin/env python3
 """Runs run_gate.py, and use/test's reading of steps, in checkouts of their own, whose steps and whose `rt` are scripts."""
 
+import os
 import re
 import shutil
 import subprocess
@@ -16,8 +17,9 @@ import watch  # noqa: E402
 
 FIRST = 'print("first: 3 passed")'
 SILENT = 'print("silent: 0 differ")\nprint("not run: nasm is missing")\nprint("silent: 0 differ")'
+READS = 'import sys\nprint(open(sys.argv[1], encoding="utf-8").read().count("rt: low"), "passed")'
 FAILS = 'import sys\nprint("it is wrong")\nsys.exit(1)'
-# What stands for `rt ci`: it starts what is called as the prover is, for a crate, which takes a second of the processor.
+# What stands for `rt ci`: it starts what is called as the prover is, for a crate.
 RT = """\
 #!/usr/bin/env bash
 [ "$1" = version ] && { echo "kit none"; exit 0; }
@@ -28,7 +30,8 @@ echo 'rt: low: its tests are proved'
 echo 'rt: high is kept: an earlier run'
 echo '7 passed, 0 failed'
 """
-RATTLE = "import time\nbegun = time.process_time()\nwhile time.process_time() - begun < 1.6:\n    pass\n"
+# What is called so takes half a second of the processor, says so, and ends with its input.
+RATTLE = "import sys, time\nwhile time.process_time() < 0.5:\n    pass\nprint('ready', flush=True)\nsys.stdin.read()\n"
 
 
 class Tests:
@@ -66,17 +69,35 @@ class Tests:
 
 
 def of_passing(tests):
-    status, lines, shown = tests.gate("# A comment.\npython3 first.py\ntest | python3 fails.py\ngate | rt ci\npython3 silent.py\n", first=FIRST, silent=SILENT, fails=FAILS)
-    tests.holds("all steps pass, and all are counted", status == 0 and lines[-1] == "11 passed, 0 failed", (lines, shown))
+    status, lines, shown = tests.gate("# A comment.\npython3 first.py\ntest | python3 fails.py\ngate | rt ci\npython3 silent.py\npython3 reads.py LOG\n", first=FIRST, silent=SILENT, fails=FAILS, reads=READS)
+    tests.holds("all steps pass, and all are counted", status == 0 and lines[-1] == "13 passed, 0 failed", (lines, shown))
+    tests.holds("what rt ci printed is handed on", "2 passed" in lines, lines)
     tests.holds("what wasn't run stands before the count", lines[-2] == "not run: nasm is missing", lines)
     tests.holds("the commit is told", re.fullmatch(r"gate: commit [0-9a-f]{40}", lines[0]), lines[:1])
     tests.holds("and the machine", re.match(r"gate: machine \d+ processors, .*; kit none$", lines[1]), lines[1:2])
     crates = [line for line in lines if line.startswith("gate: crate ")]
     tests.holds("a crate is kept", crates[:1] == ["gate: crate high: proof 0 s to - min, tests 0 s to - min, edits 0 s, memory 0.0 GB, kept"], crates)
-    of_low = re.fullmatch(r"gate: crate low: proof ([12]) s to 0\.\d min, tests ([12]) s to 0\.\d min, edits 0 s, memory 0\.\d GB", crates[-1])
-    tests.holds("what a crate takes is seen", of_low, crates)
+    of_low = re.fullmatch(r"gate: crate low: proof \d s to [\d.]+ min, tests \d s to [\d.]+ min, edits 0 s, memory [\d.]+ GB", crates[-1])
+    tests.holds("what a crate takes is told", of_low, crates)
     ends = [line for line in lines if line.startswith("gate: ended: ")]
-    tests.holds("each step's end is told", len(ends) == 3 and re.match(r"gate: ended: rt ci: status 0, 7 passed, [\d.]+ s by the clock, [\d.]+ s of processor time$", ends[1]), ends)
+    tests.holds("each step's end is told", len(ends) == 4 and re.match(r"gate: ended: rt ci: status 0, 7 passed, [\d.]+ s by the clock, [\d.]+ s of processor time$", ends[1]), ends)
+
+
+def of_watching(tests):
+    """What a process called as the prover is takes is seen while it runs, and what it took when it has ended."""
+    script = tests.room / "rattle"
+    script.write_text(RATTLE, encoding="utf-8")
+    words = ["bash", "-c", 'exec -a rattle python3 "$0" check --crate-name low', script]
+    watching = watch.Watch(os.getpid())
+    with subprocess.Popen(words, stdin=subprocess.PIPE, stdout=subprocess.PIPE, text=True) as running:
+        running.stdout.readline()
+        watching.look()
+        running.stdin.close()
+    watching.look()
+    watching.start()
+    crates = watching.end()
+    tests.holds("a crate's seconds are seen", list(crates) == ["low"] and 0.4 < crates["low"]["proof"] < 5 and not crates["low"]["tests"], crates)
+    tests.holds("and its memory", 1e6 < crates["low"]["memory"] < 1e9, crates)
 
 
 def of_failing(tests):
@@ -107,6 +128,7 @@ def main():
     with tempfile.TemporaryDirectory(prefix="gate-") as room:
         tests = Tests(room)
         of_passing(tests)
+        of_watching(tests)
         of_failing(tests)
         of_words(tests)
     print(f"test_run_gate: {tests.passed} passed, {tests.failed} failed")
