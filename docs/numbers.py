@@ -211,6 +211,7 @@ SENTENCES = (
     (rf"`reader.tsv` \| {NUMBER} that have a reading, of all {NUMBER} rows \| 0 \| {NUMBER} ", run("reader.tsv"), rows, steps("reader.tsv")),
     (rf"`core.tsv` \| {NUMBER} of {NUMBER}, of all {NUMBER} lines that are the core's own \| 0 \| {NUMBER} ",
      run("core.tsv"), core_cases, core_lines, steps("core.tsv")),
+    (rf"`near.tsv` \| {NUMBER} of [\d,]+, of all {NUMBER} lines \| 0 \| {NUMBER} ", run("near.tsv"), all_lines, steps("near.tsv")),
     (rf"(?:save|So) {NUMBER} (?:cases of the core\.|of its cases)", not_executed),
     (rf"and {NUMBER} cases of the core", core_cases),
     (rf"{NUMBER} strings near (?:those|the core's lines)", near_strings),

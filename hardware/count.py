@@ -11,6 +11,7 @@ from pathlib import Path
 
 import core
 import core_states
+import near
 from cases import cases_of
 from states import Machine, trials_of
 
@@ -37,6 +38,7 @@ FILES = (
     (CRATES / "vectors/data/instructions.tsv", lambda path: cases_of(path)[0], trials_of),
     (CRATES / "vectors/data/reader.tsv", lambda path: cases_of(path)[0], trials_of),
     (CRATES / "core_vectors/data/core.tsv", core.cases_of, core_states.trials_of),
+    (CRATES / "core_vectors/data/near.tsv", lambda path: near.cases_of(path)[0], near.trials_of),
 )
 
 

@@ -111,7 +111,8 @@ def claims_of(line, instruction):
     found = defaultdict(Claim)
     if instruction.kind == "address":
         for number in registers_of_address(instruction):
-            found[Thing("general", number)].is_read, found[Thing("general", number)].mask = True, ALL_64
+            claim = found[Thing("general", number)]
+            claim.is_read, claim.mask, claim.uses = True, ALL_64, ["address"]
     for number, use in enumerate(line.uses):
         there = thing_of(use, instruction)
         if there:
@@ -239,12 +240,15 @@ class Found:
         if len(claim.uses) == 1:
             self.shown.add((claim.uses[0], what))
 
-    def missing(self):
-        """What is said of the line and was never shown."""
+    def said(self):
+        """What is said of the line."""
         said = [(number, what) for number, use in enumerate(self.line.uses) if use.home != "Imm"
                 for what in ("read", "written") if {"read": "Read", "written": "Write"}[what] in use.access]
-        said += [(flag, "read") for flag in self.line.read] + [(flag, "written") for flag in self.line.written]
-        return [(number, what) for number, what in said if (number, what) not in self.shown]
+        return said + [(flag, "read") for flag in self.line.read] + [(flag, "written") for flag in self.line.written]
+
+    def missing(self):
+        """What of it was never shown."""
+        return [one for one in self.said() if one not in self.shown]
 
 
 class Observer:
@@ -412,10 +416,10 @@ class Finder:
         for found, number, what in missing[:40]:
             name = number if isinstance(number, str) else found.line.uses[number]
             print(f"DIFFERS {found.line.name}: never shown: {name} is {what}")
-        shown = sum(len(found.shown) for found in self.found)
+        said = sum(len(found.said()) for found in self.found if found.runs)
         stepped = [found for found in self.found if found.steps]
         print(f"uses: {len(stepped)} of {len(self.found)} lines in {sum(found.steps for found in stepped)} states, each thing changed in "
-              f"turn: {shown} of {shown + len(missing)} reads and writes shown, {len(wrong)} shown that aren't said")
+              f"turn: {said - len(missing)} of {said} reads and writes shown, {len(wrong)} shown that aren't said")
         self.tell_left_out()
         return bool(stepped) and not wrong and not missing
 
