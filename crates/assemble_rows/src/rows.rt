@@ -5,7 +5,7 @@ use cax64_address::amode::Amode;
 use cax64_address::offset::AmodeOffsetPlusKnownOffset;
 use cax64_operand::{Nop, Numbers};
 use cax64_register::Gpr;
-use cax64_sink::{DeferredTarget, Label, Notice, TrapCode};
+use cax64_sink::{CodeSink, DeferredTarget, Label, Notice, TrapCode};
 use lock_a::lock_addl_mr;
 use std::alloc::Global;
 use std::num::NonZeroU8;
@@ -294,4 +294,31 @@ fn a_jump_out_of_the_list_is_left_open(rt: HostRuntime) {
     let code = buffer.finish().ok().expect(&rt, "code");
     let closed = [0xE8, 7, 0, 0, 0, 0x0F, 0x84, 1, 0, 0, 0, 0x90];
     assert!(rt; code.as_slice() == closed.as_slice());
+}
+
+/// Behind data that refers to its own beginning by hand, a list reaches a label that the buffer has bound by four bytes.
+#[test]
+fn a_list_stands_behind_data(rt: HostRuntime) {
+    let mut layout = Layout::new(rt.alloc());
+    let mut buffer = with_labels(rt.alloc()).expect(&rt, "memory");
+    assert!(rt; buffer.bind(Label(2)).is_ok());
+    let top = DeferredTarget::Label(Label(2));
+    assert!(rt; buffer.use_target(top) == Ok(()));
+    assert!(rt; buffer.put4(0) == Ok(()));
+    let pieces = [
+        Piece::Bind(0),
+        Piece::Nops(1, Nop::One),
+        Piece::Jump(Jump::Always, 0),
+        Piece::Jump(Jump::Always, 2),
+    ];
+    let items = items_of(rt.alloc(), &pieces).expect(&rt, "memory");
+    assert!(rt; layout.assemble(&items, &mut buffer) == Ok(()));
+    let told = [Notice::Target(0, top), Notice::Target(8, top)];
+    assert!(rt; buffer.notices() == told.as_slice());
+    assert!(rt; buffer.place_of(DeferredTarget::Label(Label(0))) == Some(4));
+    let code = buffer.finish().ok().expect(&rt, "code");
+    let all = [
+        0xFC, 0xFF, 0xFF, 0xFF, 0x90, 0xEB, 0xFD, 0xE9, 0xF4, 0xFF, 0xFF, 0xFF,
+    ];
+    assert!(rt; code.as_slice() == all.as_slice());
 }
