@@ -2,11 +2,14 @@
 """Builds the archive, out/libhuqmeris.a, and beside it the one that Rattle's own compiler makes, out/libhuqmeris_rattle.a. Each
 has heap.c as a second member, which a program with three functions of its own leaves out; and writes out/huqmeris.pc.
 
-It takes the libraries below as `rt ci` or `rt check` left them in crates/NAME/out/rlib, proves the crate of the exports over
-them, and compiles what was proved twice. `rt lib` in crates/huqmeris_c does the same from the start: after `rt ci` it would
-prove all that is below again.
+usage: c/build.py
 
-The status is 0 where both are built, 1 where something isn't proved, and 2 where a library below isn't there.
+It takes the libraries below as `rt ci`, `rt check` or an earlier run left them in crates/NAME/out/rlib, and has those that aren't
+there proved first, by `rt lib`, which takes some half an hour of processor time from nothing. Then it proves the crate of the exports
+over them, in a few minutes, and compiles what was proved twice. It says what is under way, and at the end how long it took.
+
+The status is 0 where both are built, 1 where something isn't proved, and 2 where there is no toolchain, or a library below isn't there
+in a run of another script that takes what is there.
 """
 
 import os
@@ -15,6 +18,7 @@ import shutil
 import subprocess
 import sys
 import tempfile
+import time
 from pathlib import Path
 
 HERE = Path(__file__).resolve().parent
@@ -78,9 +82,9 @@ def build(crate, folder, direct, archives):
     if not at:
         print(f"{script}: there is no rt in PATH", file=sys.stderr)
         return 2
-    lacking = [name for name in below(direct) if not library(name).exists()]
-    if lacking:
-        print(f"{script}: {lacking[0]} isn't built: run rt ci, or rt lib in crates/{NAME}", file=sys.stderr)
+    names = lacking(direct)
+    if names:
+        print(f"{script}: {names[0]} isn't built: c/build.py or rt ci does it", file=sys.stderr)
         return 2
     words = words_for(at, crate, direct)
     with tempfile.TemporaryDirectory() as room:
@@ -90,6 +94,26 @@ def build(crate, folder, direct, archives):
         for backend, archive in archives:
             if run(at, "build", [*words, "--crate-checked", checked, "--toolchain", f"{at}/toolchain", "--backend", backend, "-o", archive], folder):
                 return 1
+    return 0
+
+
+def lacking(direct):
+    """The libraries below these crates, and these, that aren't there."""
+    return [name for name in below(direct) if not library(name).exists()]
+
+
+def prove_below(direct):
+    """Has the libraries proved that aren't there, each behind those that it stands on, and gives the status."""
+    names, script = lacking(direct), Path(sys.argv[0]).name
+    if names:
+        print(f"{script}: {len(names)} libraries below are proved first: all of them take some half an hour of processor time", flush=True)
+    for number, name in enumerate(names, 1):
+        begun = time.monotonic()
+        done = subprocess.run(["rt", "lib"], cwd=ROOT / "crates" / name, stdout=subprocess.PIPE, stderr=subprocess.STDOUT, text=True, errors="replace", check=False)
+        if done.returncode or not library(name).exists():
+            print(f"{done.stdout}{script}: {name} isn't proved", file=sys.stderr)
+            return 1
+        print(f"{script}: {number} of {len(names)}: {name} is proved: {time.monotonic() - begun:.0f} seconds", flush=True)
     return 0
 
 
@@ -113,18 +137,29 @@ def write_pc(out):
     (out / "huqmeris.pc").write_text(text.replace("@include@", str(HERE)).replace("@lib@", str(out)).replace("@version@", version), encoding="utf-8")
 
 
-def main():
+def main(words):
+    if words:
+        print(__doc__, file=sys.stderr)
+        return 2
+    if not kit():
+        print("build.py: there is no rt in PATH", file=sys.stderr)
+        return 2
+    begun, direct = time.monotonic(), used()[NAME]
     OUT.mkdir(exist_ok=True)
     archives = [str(OUT / "libhuqmeris.a"), str(OUT / "libhuqmeris_rattle.a")]
-    status = build(NAME, FOLDER, used()[NAME], zip(("llvm", "rattle"), archives))
+    status = prove_below(direct)
+    if not status:
+        print(f"build.py: {NAME} is proved, and compiled twice: that takes a few minutes", flush=True)
+        status = build(NAME, FOLDER, direct, zip(("llvm", "rattle"), archives))
     if status:
         return status
     if with_heap(archives):
         print("build.py: heap.c isn't added", file=sys.stderr)
         return 1
     write_pc(OUT)
+    print(f"build.py: {' and '.join(str(Path(it).relative_to(ROOT)) for it in archives)} are built: {time.monotonic() - begun:.0f} seconds")
     return 0
 
 
 if __name__ == "__main__":
-    sys.exit(main())
+    sys.exit(main(sys.argv[1:]))

@@ -148,6 +148,44 @@ extern "C" {
 #define HQ_ITEM_BYTES 21u
 /* An item: padding, which is data too: zeros, up to a multiple of 2 to the number, at most 6, from the first byte on. */
 #define HQ_ITEM_ALIGN 22u
+/* Where an operand is: a register in the reg field. */
+#define HQ_HOME_REG 0u
+/* Where an operand is: a register in vvvv. */
+#define HQ_HOME_VVVV 1u
+/* Where an operand is: the register or memory of the place. */
+#define HQ_HOME_PLACE 2u
+/* Where an operand is: a register that the line fixes, and that stands nowhere in the bytes. */
+#define HQ_HOME_FIXED 3u
+/* Where an operand is: the immediate. */
+#define HQ_HOME_IMM 4u
+/* Where an operand is: memory of the stack, which stands nowhere in the bytes. */
+#define HQ_HOME_STACK 5u
+/* What registers an operand may be: none. It's memory, or the immediate. */
+#define HQ_CLASS_NONE 0u
+/* What registers an operand may be: general ones. */
+#define HQ_CLASS_GENERAL 1u
+/* What registers an operand may be: vector registers. */
+#define HQ_CLASS_VECTOR 2u
+/* What is done with an operand: nothing, as with the memory of `lea`. */
+#define HQ_ACCESS_NONE 0u
+/* What is done with an operand: it's read. */
+#define HQ_ACCESS_READ 1u
+/* What is done with an operand: it's written, and nothing of what it was stays. */
+#define HQ_ACCESS_WRITE 2u
+/* What is done with an operand: it's read and written, or written so that it or a part of it may stay. */
+#define HQ_ACCESS_READ_WRITE 3u
+/* The flag CF. */
+#define HQ_FLAG_CF 1u
+/* The flag PF. */
+#define HQ_FLAG_PF 4u
+/* The flag AF. */
+#define HQ_FLAG_AF 16u
+/* The flag ZF. */
+#define HQ_FLAG_ZF 64u
+/* The flag SF. */
+#define HQ_FLAG_SF 128u
+/* The flag OF. */
+#define HQ_FLAG_OF 2048u
 /* No register is given. */
 #define HQ_NO_REG 256u
 /* No immediate is given. */
@@ -940,6 +978,47 @@ _Static_assert(offsetof(hq_item, number) == 4, "hq_item.number");
 _Static_assert(offsetof(hq_item, inst) == 8, "hq_item.inst");
 #endif
 
+/* An operand of a line, or a register or memory that it uses beside its operands. */
+typedef struct hq_operand {
+    /* Where it is: `HQ_HOME_REG` and the like. */
+    uint8_t home;
+    /* The register's, where the line fixes one, else 0. */
+    uint8_t number;
+    /* What registers it may be: `HQ_CLASS_GENERAL` and the like. */
+    uint8_t registers;
+    /* What is done with it: `HQ_ACCESS_READ` and the like. */
+    uint8_t access;
+    /* How many bits it has: 8 to 128. */
+    uint8_t bits;
+    /* Whether it's among the operands that a text has: 0 or 1. */
+    uint8_t printed;
+} hq_operand;
+#if !defined(__cplusplus) && __STDC_VERSION__ >= 201112L
+_Static_assert(sizeof(hq_operand) == 6, "hq_operand");
+_Static_assert(offsetof(hq_operand, home) == 0, "hq_operand.home");
+_Static_assert(offsetof(hq_operand, number) == 1, "hq_operand.number");
+_Static_assert(offsetof(hq_operand, registers) == 2, "hq_operand.registers");
+_Static_assert(offsetof(hq_operand, access) == 3, "hq_operand.access");
+_Static_assert(offsetof(hq_operand, bits) == 4, "hq_operand.bits");
+_Static_assert(offsetof(hq_operand, printed) == 5, "hq_operand.printed");
+#endif
+
+/*
+ * The flags that a line reads, writes and leaves undefined: sums of `HQ_FLAG_CF` and the like, each at its place in EFLAGS. A flag
+ * that is read, and written or undefined too, may be one that the line leaves as it was.
+ */
+typedef struct hq_flags {
+    uint16_t read;
+    uint16_t written;
+    uint16_t undefined;
+} hq_flags;
+#if !defined(__cplusplus) && __STDC_VERSION__ >= 201112L
+_Static_assert(sizeof(hq_flags) == 6, "hq_flags");
+_Static_assert(offsetof(hq_flags, read) == 0, "hq_flags.read");
+_Static_assert(offsetof(hq_flags, written) == 2, "hq_flags.written");
+_Static_assert(offsetof(hq_flags, undefined) == 4, "hq_flags.undefined");
+#endif
+
 /*
  * Assembles items into the front of some bytes, all of them or nothing: instructions, places of labels, and jumps to them;
  * behind them data, which instructions refer to as constants or labels. The first item that is data begins it: behind that no
@@ -1018,8 +1097,24 @@ int32_t hq_format(const hq_inst *inst, uint8_t *HQ_RESTRICT text, size_t text_le
  */
 int32_t hq_inst_of_reading(const hq_reading *reading, hq_inst *HQ_RESTRICT out);
 
+/* Whether what stands in this archive was proved: 1 where it was, 0 where it was only compiled. */
+uint32_t hq_is_proved(void);
+
 /* The number of bytes that `hq_encode` writes, 1 to 13. */
 int32_t hq_length(const hq_inst *inst, uint32_t *HQ_RESTRICT len);
+
+/* The flags that a line reads, writes and leaves undefined. `HQ_BAD_LINE` where no line has the number. */
+int32_t hq_line_flags(uint16_t line, hq_flags *HQ_RESTRICT flags);
+
+/*
+ * The operand of this index of a line, counted from 0: first those of its bytes and those that it fixes, in the manual's order,
+ * and then the registers and memory that it uses beside them, as a push does with the stack. `HQ_NONE` where there are no more,
+ * `HQ_BAD_LINE` where no line has the number.
+ *
+ * Base and index of memory are read too. A write of 8 or 16 bits leaves the others of a register, and one of 32 bits makes the
+ * upper half 0.
+ */
+int32_t hq_line_operand(uint16_t line, size_t index, hq_operand *HQ_RESTRICT operand);
 
 /*
  * Makes the instruction of a line with these operands, where they are those that it takes: a register in reg and in vvvv

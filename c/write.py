@@ -26,7 +26,7 @@ from core_lines import CORE, core_of  # noqa: E402
 from judging import table_of  # noqa: E402
 
 STRUCT_FILES = [f"crates/cax64_plain/src/{name}.rt" for name in ("place", "inst", "reading", "told")]
-STRUCT_FILES += ["crates/huqmeris_c/src/progress.rt", "crates/huqmeris_c/src/item.rt"]
+STRUCT_FILES += [f"crates/huqmeris_c/src/{name}.rt" for name in ("progress", "item", "line_use")]
 STATUS_FILES = ["crates/cax64_plain/src/status.rt", "crates/huqmeris_c/src/status.rt"]
 CONSTANT_FILES = ["crates/huqmeris_c/src/version.rt", *STATUS_FILES, *STRUCT_FILES, "crates/huqmeris_c/src/make.rt"]
 EXPORT_FOLDER = "crates/huqmeris_c/src"

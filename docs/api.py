@@ -1,11 +1,17 @@
 #!/usr/bin/env python3
 """Writes docs/API.md, the reference of public items, from the sources; with --check tells whether it is as they have it.
 
-Each item of the facade and of the code buffer has its path, its documentation, its signature and the clauses of its
-contract, by name. Run at the top: python3 docs/api.py [--check]
+Each item of the facade, of the code buffer, of the core and of the layouts has its path, its documentation, its signature and
+the clauses of its contract, by name. An item that requires something says in its documentation what a build that wasn't proved
+does where that doesn't hold. Those of docs/silent.txt don't say it yet: no item comes to them, and one that says it is taken
+away, so they only get fewer.
+
+Run at the top: python3 docs/api.py [--check]. The status is 0 where the page is as the sources have it, or was written, and
+each such item says so; and else 1, with a sentence for each.
 """
 import re
 import sys
+import textwrap
 from pathlib import Path
 
 ROOT = Path(__file__).resolve().parent.parent
@@ -33,6 +39,22 @@ SECTIONS = (
     ("Prefixes by themselves", "rex::RexPrefix vex::VexPrefix evex::EvexPrefix"),
     ("Laws", "laws"),
 )
+
+# The crates beside the facade whose public items all stand on the page, each with its heading.
+CRATES = (
+    ("The core", "x64_core"),
+    ("The core from bytes", "x64_core_reader"),
+    ("Texts of the core", "x64_core_text"),
+    ("The core of data, and back", "x64_core_data"),
+    ("What is encoded by a line", "x64_encode"),
+    ("Lists in their least layout", "x64_assemble"),
+    ("The least layout", "x64_layout"),
+)
+# Modules of constants alone, of which there is a table.
+CONSTANTS = "ops::"
+
+# Items with a condition that don't say yet what a build that wasn't proved does where it doesn't hold, a name a line.
+SILENT = ROOT / "docs/silent.txt"
 
 
 def read(path):
@@ -112,6 +134,8 @@ class Crate:
 
     def __init__(self, name):
         self.types, self.functions, self.methods, self.modules = {}, {}, {}, {}
+        # the names of each module, in its order
+        self.names = {}
         source = ROOT / "crates" / name / "src"
         for path in sorted(source.rglob("*.rt")):
             module = "::".join(path.relative_to(source).with_suffix("").parts)
@@ -125,16 +149,21 @@ class Crate:
                 doc.append(line[3:].strip())
             elif re.match(r"pub (fn|unsafe fn) ", line):
                 item, at = function(lines, at, doc)
-                self.functions[re.match(r"pub (?:unsafe )?fn (\w+)", item.head)[1]] = item
+                name = re.match(r"pub (?:unsafe )?fn (\w+)", item.head)[1]
+                self.functions[name] = item
+                self.names.setdefault(module, []).append(name)
                 doc = []
                 continue
-            elif re.match(r"pub (struct|enum|trait) (\w+)", line):
+            elif match := re.match(r"pub (?:struct|enum|trait) (\w+)", line):
+                self.names.setdefault(module, []).append(match[1])
                 at = self.read_type(lines, at, doc)
                 doc = []
                 continue
             elif re.match(r"pub (type|const) (\w+)", line):
                 item = Item(doc, line.rstrip(";"), [])
-                self.types[re.match(r"pub \w+ (\w+)", line)[1]] = item
+                name = re.match(r"pub \w+ (\w+)", line)[1]
+                self.types[name] = item
+                self.names.setdefault(module, []).append(name)
                 self.modules.setdefault(module, []).append(item)
                 doc = []
             elif re.match(r"impl\b", line) and " for " not in line.split("{")[0]:
@@ -192,7 +221,40 @@ def shown_clauses(item, indent):
         yield f"{indent}- {kind} {f'**{name}** ' if name else ''}`{text}`"
 
 
-def shown_function(item, level):
+class Conditions:
+    """The items of the page that require something: whether their documentation says what follows where it doesn't hold."""
+
+    def __init__(self):
+        self.said = {}
+        self.silent = [line for line in SILENT.read_text(encoding="utf-8").splitlines() if line and line[0] != "#"]
+
+    def see(self, path, item):
+        if any(kind == "requires" for kind, _, _ in item.clauses):
+            self.said[path] = "that wasn't proved" in " ".join(item.doc)
+
+    def new(self):
+        """Items that don't say it, and aren't among those of before."""
+        for path, is_said in self.said.items():
+            if not is_said and path not in self.silent:
+                yield f"{path} doesn't say what a build that wasn't proved does where its condition doesn't hold"
+
+    def gone(self):
+        """Those of before that say it now, or have no condition any more."""
+        return [path for path in self.silent if self.said.get(path, True)]
+
+    def take_away(self):
+        """Leaves those out that are gone."""
+        gone = self.gone()
+        kept = [line for line in SILENT.read_text(encoding="utf-8").splitlines() if line not in gone]
+        SILENT.write_text("\n".join(kept) + "\n", encoding="utf-8")
+        self.silent = [path for path in self.silent if path not in gone]
+
+
+CONDITIONS = Conditions()
+
+
+def shown_function(path, item, level):
+    CONDITIONS.see(path, item)
     yield f"{level} `{item.head}`"
     yield ""
     if item.doc:
@@ -215,7 +277,8 @@ def shown_type(path, item, methods):
     yield "```"
     yield ""
     for function_ in [*item.within, *methods]:
-        yield from shown_function(function_, "####")
+        name = re.search(r"\bfn (\w+)", function_.head)
+        yield from shown_function(f"{path}::{name[1]}" if name else path, function_, "####")
 
 
 def shown(crates, path, source, name):
@@ -229,7 +292,7 @@ def shown(crates, path, source, name):
         item = crate.functions[name]
         yield f"### `{path}`"
         yield ""
-        yield from shown_function(item, "####")
+        yield from shown_function(path, item, "####")
     elif path in crate.modules:
         yield f"### `{path}`"
         yield ""
@@ -238,6 +301,62 @@ def shown(crates, path, source, name):
         yield ""
     else:
         raise SystemExit(f"api: {path} has no definition in {source}")
+
+
+def modules_of(crate, file="lib"):
+    """The public modules of a crate, each below the one that it stands in."""
+    within = "" if file == "lib" else f"{file}/"
+    for name in re.findall(r"(?m)^pub mod (\w+);", read(f"crates/{crate}/src/{file}.rt")):
+        yield f"{within}{name}".replace("/", "::")
+        if (ROOT / f"crates/{crate}/src/{within}{name}").is_dir():
+            yield from modules_of(crate, f"{within}{name}")
+
+
+def constants(crates, crate, modules):
+    """A table of the constants of some modules, a row for each type that they have in a module."""
+    rows, count = [], 0
+    for module in modules:
+        about = re.search(r"(?m)^//! (.*)$", read(f"crates/{crate}/src/{module.replace('::', '/')}.rt"))[1]
+        first, found = f"`{module.split('::')[-1]}`: {about}", {}
+        for name in crates[crate].names.get(module, []):
+            if match := name in crates[crate].types and re.match(r"pub const \w+: ([^=]*?) =", crates[crate].types[name].head):
+                found.setdefault(match[1], []).append(f"`{name}`")
+        for of_type, names in found.items():
+            rows.append(f"| {first} | `{of_type}` | {', '.join(names)} |")
+            first, count = "", count + len(names)
+    yield f"### `{crate}::{CONSTANTS.rstrip(':')}`"
+    yield ""
+    yield f"The {count} constants, one for each line of the core. A constant's type says which operands its line takes."
+    yield ""
+    yield "| Module | Type | Constants |"
+    yield "|---|---|---|"
+    yield from rows
+    yield ""
+    lists = [f"`{module.split('::')[-1]}::{name}`" for module in modules for name in crates[crate].names.get(module, [])
+             if name in crates[crate].functions]
+    if lists:
+        yield f"Functions that list those of one group: {', '.join(lists)}."
+        yield ""
+
+
+def below_root(crates, crate):
+    """The items of a crate's public modules that its root doesn't have."""
+    crates.setdefault(crate, Crate(crate))
+    root, modules = uses(crate), list(modules_of(crate))
+    for module in modules:
+        if not f"{module}::".startswith(CONSTANTS):
+            for name in crates[crate].names.get(module, []):
+                if (crate, name) not in root.values():
+                    yield from shown(crates, f"{crate}::{module}::{name}", crate, name)
+    if tables := [module for module in modules if module.startswith(CONSTANTS)]:
+        yield from constants(crates, crate, tables)
+
+
+def whole(crates, crate):
+    """All public items of a crate: those of its root, and then those of its public modules."""
+    for name, (source, item) in uses(crate).items():
+        yield from shown(crates, f"{crate}::{name}", source, item)
+    yield from below_root(crates, crate)
 
 
 def instructions(crates, public):
@@ -266,9 +385,14 @@ def page():
     yield ""
     yield "<!-- Written by docs/api.py from the sources. -->"
     yield ""
-    yield f"Items of `{FACADE}`, and in *The code buffer* those of `{BUFFER}`. Behind a signature stand the clauses of the"
-    yield "contract, by name: what a call requires, and what it ensures. [PROVING.md](PROVING.md) says where the words of"
-    yield "clauses stand."
+    yield from textwrap.wrap(
+        f"Items of `{FACADE}`; in *The code buffer* those of `{BUFFER}`; and behind these, with their crate, all public items of "
+        + ", ".join(f"`{crate}`" for _, crate in CRATES[:-1]) + f" and `{CRATES[-1][1]}`. Not here are the crates below, of which "
+        "the facade gives what it has, and the calls from C, which stand in `c/huqmeris.h` and [C.md](C.md).", 119,
+        break_long_words=False, break_on_hyphens=False)
+    yield ""
+    yield "Behind a signature stand the clauses of the contract, by name: what a call requires, and what it ensures."
+    yield "[PROVING.md](PROVING.md) says where the words of clauses stand."
     yield ""
     for title, names in SECTIONS:
         yield f"## {title}"
@@ -280,6 +404,12 @@ def page():
                 yield from shown(crates, each, source, name)
                 left.discard(each)
                 left -= {other for other in left if public.get(other) == (source, name)}
+        if title == "The code buffer":
+            yield from below_root(crates, BUFFER)
+    for title, crate in CRATES:
+        yield f"## {title}"
+        yield ""
+        yield from whole(crates, crate)
     yield from instructions(crates, public)
     if left:
         raise SystemExit(f"api: no section has {', '.join(sorted(left))}")
@@ -291,12 +421,16 @@ def main(words):
         return 2
     text = re.sub(r"\n{3,}", "\n\n", "\n".join(page()).rstrip("\n") + "\n")
     stands = PAGE.read_text(encoding="utf-8") if PAGE.exists() else ""
-    if words:
-        print(f"api: docs/API.md is {'as the sources have it' if stands == text else 'not as the sources have it'}")
-        return 0 if stands == text else 1
-    PAGE.write_text(text, encoding="utf-8")
-    print(f"api: {len(text.splitlines())} lines")
-    return 0
+    if not words:
+        CONDITIONS.take_away()
+        PAGE.write_text(text, encoding="utf-8")
+    told = [*CONDITIONS.new(), *(f"{path} is to be taken from docs/silent.txt" for path in CONDITIONS.gone())]
+    count = len(told)
+    told.append(f"api: of {len(CONDITIONS.said)} items with a condition {len(CONDITIONS.silent)} don't say yet what follows without it")
+    is_same = not words or stands == text
+    told.append(f"api: docs/API.md is {'as the sources have it' if is_same else 'not as the sources have it'}")
+    print("\n".join(told))
+    return 0 if is_same and not count else 1
 
 
 if __name__ == "__main__":

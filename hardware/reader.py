@@ -1,5 +1,5 @@
-"""A reader by the table's codes, for one thing alone: to tell of wrong bytes that nothing noticed whether they read as the
-right ones do."""
+"""A reader by the table's codes, for two things: to tell of wrong bytes that nothing noticed whether they read as the right
+ones do, and which operands strings have that disassemblers read as a line."""
 
 import sys
 from pathlib import Path
@@ -9,6 +9,7 @@ ROOT = Path(__file__).resolve().parent.parent
 sys.path.insert(0, str(ROOT / "table"))
 
 import rows  # noqa: E402
+from core_lines import core_of  # noqa: E402
 from judging import table_of  # noqa: E402
 
 from fields import Memory, Register, Relative, View  # noqa: E402
@@ -96,10 +97,24 @@ def tail_of(prefix, data):
     return reg, Memory(base, index, factor, signed(data[at:at + width])), data[at + width:]
 
 
+def text_of(name):
+    return (ROOT / "table" / name).read_text(encoding="utf-8")
+
+
+def all_rows():
+    return table_of(ROOT, text_of("instructions.txt"))[0].rows
+
+
+def all_lines():
+    """The rows and the lines of the core behind them, as the core numbers them."""
+    return [*all_rows(), *core_of(text_of("core.txt"), all_rows())[0].lines]
+
+
 class Reader:
-    def __init__(self):
-        table, _ = table_of(ROOT, (ROOT / "table/instructions.txt").read_text(encoding="utf-8"))
-        self.rows = table.rows
+    """By the rows of the table, or by other lines."""
+
+    def __init__(self, lines=None):
+        self.rows = lines or all_rows()
 
     def read(self, data):
         """The reading at the front of some bytes, or None."""
@@ -108,6 +123,18 @@ class Reader:
             return next((self.read_row(row, prefix, data, behind) for row in self.rows if self.matches(row, prefix, behind)), None)
         except IndexError:
             return None
+
+    def read_row_of(self, number, data):
+        """The operands of bytes that are known to be a line."""
+        prefix, behind = prefix_of(data)
+        return self.read_row(self.rows[number], prefix, data, behind)
+
+    def immediate_size(self, number):
+        return self.rows[number].immediate.size // 8 if self.rows[number].immediate else 0
+
+    def before_tail(self, number, data):
+        """How many bytes stand before ModR/M."""
+        return len(data) - len(prefix_of(data)[1]) + len(self.rows[number].code.opcode_bytes)
 
     def matches(self, row, prefix, behind):
         code = row.code

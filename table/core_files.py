@@ -2,8 +2,9 @@
 
 from itertools import groupby
 
-from core_lines import CORE, CoreGroup, immediate_type, shape_of
-from formatting import CALL_WIDTH, in_order, use
+from core_lines import CORE, immediate_type, shape_of
+from effects import FLAGS as FLAG_PLACES
+from formatting import filled, in_order, use
 from rows import hexadecimal, packed, uses_8bit
 
 SPECS = "crates/x64_core/specs/Lines.antt"
@@ -12,13 +13,12 @@ HEADS = "crates/x64_core/src/heads.rt"
 SHAPES = "crates/x64_core/src/shapes.rt"
 KIND_LISTS = "crates/x64_core/src/kind_lists.rt"
 KIND_SPANS = "crates/x64_core/src/kind_spans.rt"
+FLAGS = "crates/x64_core/src/flags.rt"
 EXTENSION_TABLE = "crates/x64_core/src/extension.rt"
 OPS = "crates/x64_core/src/ops"
 
-HOMES = {"memory": "Place", "general or memory": "Place", "vector or memory": "Place", "immediate": "Imm"}
-CLASSES = {"general": "General", "general or memory": "General", "fixed": "General", "vector": "Vector",
-           "vector or memory": "Vector", "memory": "None", "immediate": "None"}
-VECTOR_BITS = 128
+# How many constants a law speaks of at most: what it takes the prover grows with the square of them, to gigabytes.
+MOST_OF_A_LAW = 64
 
 SETS = {(): "no_legacy", ("F0",): "F0", ("66", "F0"): "F0_66", ("66",): "only_66", ("F2",): "only_F2", ("F3",): "only_F3"}
 
@@ -158,44 +158,34 @@ def shapes(lines):
     return ["#[rattlefmt::skip]", *found, "];"]
 
 
-def home_of(operand, line):
-    """Where an operand is: the first register in the bytes stands in reg, the second in vvvv."""
-    if operand.kind == "fixed":
-        return f"Fixed({operand.number})"
-    if operand.is_register:
-        return "Reg" if operand == line.registers[0] else "Vvvv"
-    return HOMES[operand.kind]
-
-
-def access_of(operand, line):
-    """What is done with an operand. In the table of rows memory alone is an address; each row with such an operand is locked
-    or an exchange, and reads and writes what stands there."""
-    is_row = not isinstance(line.group, CoreGroup)
-    return "ReadWrite" if is_row and operand.kind == "memory" else operand.access
-
-
-def kind_record(operand, line):
+def kind_record(use):
     """What an operand is, as the code has it."""
-    return (f"Kind {{ home: Home::{home_of(operand, line)}, class: Class::{CLASSES[operand.kind]}, "
-            f"access: Access::{access_of(operand, line)}, bits: {operand.size or VECTOR_BITS}, "
-            f"is_printed: {str(not operand.implicit).lower()} }}")
+    home = f"Fixed({use.number})" if use.home == "Fixed" else use.home
+    return (f"Kind {{ home: Home::{home}, class: Class::{use.kind}, access: Access::{use.access}, bits: {use.bits}, "
+            f"is_printed: {str(use.is_printed).lower()} }}")
 
 
-def kind_list(line):
-    return tuple(kind_record(operand, line) for operand in line.operands if operand.kind != "nop")
-
-
-def kinds(lines):
+def kinds(uses):
     """The different lists of operands, one behind the other, and for each line where its list stands."""
     firsts, records = {}, []
-    for line in lines:
-        found = kind_list(line)
-        if found not in firsts:
-            firsts[found] = len(records)
-            records += found
-    spans = [f"    Span {{ first: {firsts[kind_list(line)]}, count: {len(kind_list(line))} }}, // {line.name}" for line in lines]
+    for line in uses:
+        if line.uses not in firsts:
+            firsts[line.uses] = len(records)
+            records += map(kind_record, line.uses)
+    spans = [f"    Span {{ first: {firsts[line.uses]}, count: {len(line.uses)} }}, // {line.name}" for line in uses]
     return (["#[rattlefmt::skip]", f"pub(crate) static KINDS: [Kind; {len(records)}] = [", *(f"    {record}," for record in records), "];"],
-            ["#[rattlefmt::skip]", f"pub(crate) static SPANS: [Span; {len(lines)}] = [", *spans, "];"])
+            ["#[rattlefmt::skip]", f"pub(crate) static SPANS: [Span; {len(uses)}] = [", *spans, "];"])
+
+
+def flag_bits(names):
+    """A set of flags, each at its place."""
+    return f"{sum(1 << FLAG_PLACES[name] for name in names):#05x}"
+
+
+def flags(uses):
+    """The flags that each line reads, writes and leaves undefined."""
+    found = [f"    flags!({flag_bits(line.read)}, {flag_bits(line.written)}, {flag_bits(line.undefined)}), // {line.name}" for line in uses]
+    return ["#[rattlefmt::skip]", f"static FLAGS: [Flags; {len(uses)}] = [", *found, "];"]
 
 
 def extensions(lines):
@@ -228,24 +218,34 @@ def constant(line, number):
     ]
 
 
-def group_function(name, doc, lines, first):
-    """The lines of a group, which are those of their numbers."""
-    calls = [f"{constant_name(line)}.op()" for line in lines]
-    is_short = len(calls) == 1 or len(", ".join(calls)) <= CALL_WIDTH
-    body = [f"    [{', '.join(calls)}]"] if is_short else ["    [", *(f"        {call}," for call in calls), "    ]"]
+def law(name, lines, first):
+    """That constants are the lines from the first one's number on, in their order."""
     return [
-        f"/// {doc}",
-        f"pub fn {name}() -> [Op; {len(lines)}]",
+        "",
+        "/// Each constant is the line behind that of the one before it.",
+        "#[rattlefmt::skip]",
+        f"fn {name}() -> [Op; {len(lines)}]",
         f"    ensures {{ map (λ op. op.number) result ≡ range_with_len {first} {len(lines)} }}",
         "{",
-        *body,
+        "    [",
+        *filled([f"{constant_name(line)}.op()" for line in lines], "        "),
+        "    ]",
         "}",
     ]
 
 
+def laws(lines, first):
+    """Laws of all constants of a file, each of as many as a law has at most."""
+    count = -(-len(lines) // MOST_OF_A_LAW)
+    size = -(-len(lines) // count)
+    for at in range(0, len(lines), size):
+        name = "in_order" if count == 1 else f"in_order_from_{lines[at].name}"
+        yield from law(name, lines[at:at + size], first + at)
+
+
 def constants(about, groups):
-    """A file of constants: of each group its name, what it is about, its lines and the number of the first."""
-    lines = [line for _, _, found, _ in groups for line in found]
+    """A file of constants: of each group what it is about, and its lines; and the number of the first line."""
+    lines = [line for _, found, _ in groups for line in found]
     macros = sorted({"with_imm" if line.immediate else "without_imm" for line in lines})
     text = [
         f"//! {about}",
@@ -257,20 +257,19 @@ def constants(about, groups):
         "use crate::op::Op;",
         *(["use std::marker::PhantomData;"] if "with_imm" in macros else []),
     ]
-    for name, doc, found, first in groups:
-        text.append("")
+    for doc, found, number in groups:
+        text += ["", f"// {doc}", ""]
         for place, line in enumerate(found):
-            text += constant(line, first + place)
-        text += ["", *group_function(name, doc, found, first)]
-    return text
+            text += constant(line, number + place)
+    return [*text, *laws(lines, groups[0][2])]
 
 
 def groups_of_rows(rows):
-    """Rows that stand together and are of one group, by the name of the first."""
+    """Rows that stand together and are of one group, with the number of the first."""
     first = 0
     for group, found in groupby(rows, lambda row: row.group):
         found = list(found)
-        yield f"from_{found[0].name}", group.doc, found, first
+        yield group.doc, found, first
         first += len(found)
 
 
@@ -280,7 +279,7 @@ def groups_of_file(core, file, rows):
     for group in core.groups:
         found = [line for line in core.lines if line.group == group]
         if group.file == file and found:
-            yield group.name, group.doc, found, numbers_of[found[0].name]
+            yield group.doc, found, numbers_of[found[0].name]
 
 
 def ops_module(files):
@@ -288,15 +287,16 @@ def ops_module(files):
     return [f"pub mod {file};" for file in in_order(["rows", *files])]
 
 
-def write(table, core, sources):
+def write(table, core, uses, sources):
     lines = [*table.rows, *core.lines]
     sources.whole(SPECS, spec(core), CORE)
     sources.part(NUMBERS, "numbers", numbers(lines))
     sources.part(HEADS, "heads", heads(lines))
     sources.part(SHAPES, "shapes", shapes(lines))
-    lists, spans = kinds(lines)
+    lists, spans = kinds(uses)
     sources.part(KIND_LISTS, "kinds", lists)
     sources.part(KIND_SPANS, "spans", spans)
+    sources.part(FLAGS, "flags", flags(uses))
     sources.part(EXTENSION_TABLE, "extensions", extensions(lines))
     sources.part(f"{OPS}.rt", "files", ops_module(core.files))
     about = "The rows of the assembler, which come first in the core."

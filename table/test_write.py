@@ -46,6 +46,14 @@ file control: Ends.
 {RETURN}
 """
 
+RETURNS = "retq_* | rsp:rw stack64 | | | all | RET"
+
+# The first line is that of the addition and the jump, the third that of the return.
+EFFECTS = f"""lock_addl_* jmp_d8 | | CF | ZF OF | AF | ADD
+movq_* | | | | | MOV
+{RETURNS}
+"""
+
 # What stands before an opcode of one byte, and is none, here behind W0. (Intel SDM, volume 2, 2.1.1, 2.2.1, 2.3.)
 PREFIXES = (0x26, 0x2E, 0x36, 0x3E, *range(0x40, 0x50), 0x62, *range(0x64, 0x68), 0xC4, 0xC5, 0xF0, 0xF2, 0xF3)
 
@@ -171,6 +179,29 @@ BARE_CORES = (
 )
 
 
+# What stands in the place of the return's line of effects, and the sentence that it gets with the name before it.
+BAD_EFFECTS = (
+    ("retq_* | | | | RET", "retq_*: it has 5 columns, and a line has 6: lines, operands, read, written, undefined, page"),
+    (RETURNS.replace("| RET", "|"), "retq_*: it names no lines, or no page of the manual"),
+    (RETURNS.replace("retq_*", ""), "a line: it names no lines, or no page of the manual"),
+    (RETURNS.replace("rsp:rw", "rsp:q"),
+     "retq_*: rsp:q is no word for what a line does beside its operands, as rsp:rw, stack64:w or idle"),
+    (RETURNS.replace("rsp:rw", "rax"),
+     "retq_*: rax is no word for what a line does beside its operands, as rsp:rw, stack64:w or idle"),
+    (RETURNS.replace("stack64", "stack32"),
+     "retq_*: stack32 is no word for what a line does beside its operands, as rsp:rw, stack64:w or idle"),
+    ("retq_* | | CF DF | | | RET", "retq_*: DF is no flag, as CF PF AF ZF SF OF, and no `all`, which stands alone"),
+    ("retq_* | | all CF | | | RET", "retq_*: all is no flag, as CF PF AF ZF SF OF, and no `all`, which stands alone"),
+    ("retq_* | | CF CF | | | RET", "retq_*: CF stands twice in a column"),
+    ("retq_* | | | CF ZF | ZF | RET", "retq_*: ZF is written, and undefined too"),
+    ("retq_* | idle | | | | RET", "retq_*: it says idle of retq_i, which has no place"),
+    ("retq_i ret* | | | | | RET", "ret*: it names retq_i, as line 3 does with retq_i"),
+    (RETURNS + "\nmov* | | | | | MOV", "mov*: it names movq_rm, as line 2 does with movq_*"),
+    (RETURNS.replace("retq_*", "retq_* leave*"), "leave*: it is no pattern of a line's name"),
+    (RETURNS + " ", "retq_*: a space stands at its end"),
+)
+
+
 def named(line):
     """What a line of the core is called where it is refused."""
     if line.startswith("["):
@@ -212,6 +243,7 @@ class Checkout:
             shutil.copy(script, self.root / "table")
         self.put("table/instructions.txt", table)
         self.put("table/core.txt", CORE)
+        self.put("table/effects.txt", EFFECTS)
         for path, text in pages("before.txt").items():
             self.put(path, text)
 
@@ -309,6 +341,19 @@ class Tests:
                 self.same(sentence, checkout.run(), (2, [sentence]))
             self.same("what a refused core leaves", checkout.files(), before)
 
+    def bad_effects(self):
+        with tempfile.TemporaryDirectory() as folder:
+            checkout = Checkout(folder, TABLE)
+            before = checkout.files()
+            for line, sentence in BAD_EFFECTS:
+                checkout.put("table/effects.txt", EFFECTS.replace(RETURNS, line))
+                place = 4 if "\n" in line else 3
+                self.same(sentence, checkout.run(), (2, [f"table/effects.txt:{place}: {sentence}"]))
+            checkout.put("table/effects.txt", EFFECTS.replace(f"{RETURNS}\n", ""))
+            sentence = "no pattern names the line, so what it does beside its operands isn't said"
+            self.same(sentence, checkout.run(), (2, [f"table/effects.txt: retq_i: {sentence}"]))
+            self.same("what refused effects leave", checkout.files(), before)
+
     def bare_tables(self):
         with tempfile.TemporaryDirectory() as folder:
             checkout = Checkout(folder, TABLE)
@@ -382,6 +427,7 @@ def main():
     tests = Tests()
     tests.bad_tables()
     tests.bad_cores()
+    tests.bad_effects()
     tests.bare_tables()
     tests.unusable_files()
     tests.two_instructions()

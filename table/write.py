@@ -1,5 +1,6 @@
 #!/usr/bin/env python3
-"""Writes the sources that follow from table/instructions.txt and table/core.txt, or with --check tells which ones differ.
+"""Writes the sources that follow from table/instructions.txt, table/core.txt and table/effects.txt, or with --check tells which
+ones differ.
 
 All that is to be written is made and judged before the first file is touched, and each file is then replaced at once. The
 status is 0 where all is as it has to be, 1 where --check found a difference, and 2 where a line of a table can't be, a
@@ -23,6 +24,7 @@ import signatures
 import structs
 import texts
 from core_lines import CORE, core_of
+from effects import EFFECTS, uses_of
 from judging import table_of
 from parts import TABLE
 
@@ -37,7 +39,7 @@ def refuse(table, line, name, sentence):
     complain(f"{table}:{line}: {name}: {sentence}" if line else f"{table}: {name}: {sentence}")
 
 
-def sources_of(table, core):
+def sources_of(table, core, uses):
     """All files and parts that the tables give."""
     sources = parts.Sources()
     structs.write(table, sources)
@@ -49,7 +51,7 @@ def sources_of(table, core):
     classes.write(table, sources, parts.text_of(ROOT, classes.SOURCE))
     fixed.write(table, sources)
     facade.write(table, sources)
-    core_files.write(table, core, sources)
+    core_files.write(table, core, uses, sources)
     core_reader.write(table, core, sources)
     core_text.write(table, core, sources)
     return sources
@@ -68,7 +70,12 @@ def wanted():
             refuse(CORE, *sentence)
         if sentences:
             return None
-        sources = sources_of(table, core)
+        uses, sentences = uses_of(parts.text_of(ROOT, EFFECTS), [*table.rows, *core.lines])
+        for sentence in sentences:
+            refuse(EFFECTS, *sentence)
+        if sentences:
+            return None
+        sources = sources_of(table, core, uses)
         return parts.texts(ROOT, sources), list(parts.left_over(ROOT, sources, (TABLE, CORE)))
     except index.Unplaced as unplaced:
         refuse(TABLE, unplaced.row.line, unplaced.row.name, unplaced)

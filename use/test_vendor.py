@@ -52,6 +52,37 @@ class Tests:
         left = [path for path in folder.rglob("*") if path.name in ("must-fail", "out")]
         self.holds("no edits and no results are copied", not left, left)
 
+    def copies_a_static_library(self, folder):
+        done = vendor(folder, "huqmeris_c")
+        here = folder / "crates/huqmeris_c"
+        self.holds("a static library is copied", done[0] == 0 and (here / "src/lib.rt").exists() and (here / "proofs/Lib.antt").exists(), done)
+        lines = (folder / "crates.txt").read_text(encoding="utf-8").splitlines()
+        ours = [line for line in (HERE.parent / "crates.txt").read_text(encoding="utf-8").splitlines() if line.startswith("huqmeris_c ")]
+        self.holds("its line says that it is one", ours and lines.count(ours[0]) == 1, lines)
+        again = vendor(folder, "huqmeris_c")
+        self.holds("once is enough for it too", again[0] == 0 and " 0 of their files copied" in again[1], again)
+        (folder / "crates.txt").write_text("\n".join(line.replace("huqmeris_c staticlib:", "huqmeris_c:") for line in lines) + "\n", encoding="utf-8")
+        done = vendor(folder, "huqmeris_c")
+        self.holds("another line of it is refused", done[0] == 2 and "has another line of huqmeris_c" in done[2], done)
+        (folder / "crates.txt").write_text("\n".join(lines) + "\n", encoding="utf-8")
+        for words in ("huqmeris_c staticlib", "staticlib", ""):
+            done = vendor(folder, words)
+            self.holds(f"'{words}' is no crate", done[0] == 2 and " is no crate of this library" in done[2], done)
+
+    def keeps_the_licence(self, folder):
+        for name in ("LICENSE", "NOTICE"):
+            file = folder / "licenses/huqmeris" / name
+            before = file.read_bytes()
+            file.write_bytes(before + b"and more\n")
+            (folder / "crates/nop/src/lib.rt").unlink()
+            done = vendor(folder)
+            self.holds(f"a {name} that differs is refused", done[0] == 2 and f"{name} is there, and differs" in done[2], done)
+            self.holds(f"a {name} that differs stays", file.read_bytes() == before + b"and more\n")
+            self.holds("and nothing is copied", not (folder / "crates/nop/src/lib.rt").exists())
+            file.write_bytes(before)
+            vendor(folder)
+            self.holds("the next call copies it", (folder / "crates/nop/src/lib.rt").exists())
+
     def refuses(self, folder):
         file = folder / CHANGED
         before = file.read_text(encoding="utf-8")
@@ -82,6 +113,8 @@ def main():
         subprocess.check_call(["git", "init", "-q", folder])
         tests.copies(folder)
         tests.refuses(folder)
+        tests.copies_a_static_library(folder)
+        tests.keeps_the_licence(folder)
         tests.runs(folder)
     print(f"test_vendor: {tests.passed} passed" + (f", {tests.failed} failed" if tests.failed else ""))
     return 1 if tests.failed else 0

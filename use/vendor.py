@@ -5,14 +5,14 @@ usage: use/vendor.py DEST [CRATE..]     CRATE: cranelift_assembler_x64 if none i
 
 It copies each crate that CRATE stands on, and CRATE, to DEST/crates: sources, definitions and proofs, and no tests, edits or
 results of checks; LICENSE and NOTICE go to DEST/licenses/huqmeris. In DEST/crates.txt it completes what is missing. What
-stands there already has to be the same: where a file or a line of crates.txt differs, it says which and copies nothing. The
-status is 0, or 2 where something was refused.
+stands there already has to be the same: where a file, one of these two, or a line of crates.txt differs, it says which and copies
+nothing. The status is 0, or 2 where something was refused.
 """
 
-import os
 import subprocess
 import sys
 from pathlib import Path
+from typing import NamedTuple
 
 ROOT = Path(__file__).resolve().parent.parent
 FACADE = "cranelift_assembler_x64"
@@ -25,20 +25,31 @@ class Refused(Exception):
     """Why nothing is copied."""
 
 
+class Crate(NamedTuple):
+    """A line of crates.txt: words behind the name, as `staticlib`, and what the crate stands on."""
+
+    words: list
+    below: list
+
+    def line(self, name):
+        return f"{' '.join([name, *self.words])}: {' '.join(self.below)}".rstrip()
+
+
 def listed(text):
-    """The crates of a crates.txt, in their order: what each stands on."""
+    """The crates of a crates.txt, in their order."""
     found = {}
     for line in text.splitlines():
-        name, colon, below = line.split("#")[0].partition(":")
-        if colon:
-            found[name.strip()] = below.split()
+        head, colon, below = line.split("#")[0].partition(":")
+        if colon and head.strip():
+            name, *words = head.split()
+            found[name] = Crate(words, below.split())
     return found
 
 
 def below(crates, name, found):
     """Puts a crate behind all that it stands on."""
     if name not in found:
-        for other in crates[name]:
+        for other in crates[name].below:
             if other in crates:
                 below(crates, other, found)
         found.append(name)
@@ -63,19 +74,22 @@ def files_of(name):
                 yield file
 
 
+def is_missing(file, to):
+    """Whether a file isn't there yet. One that differs is refused."""
+    if to.exists() and to.read_bytes() != file.read_bytes():
+        raise Refused(f"{to} is there, and differs")
+    return not to.exists()
+
+
 def to_copy(destination, crates):
-    """The files that aren't there yet, and the lines that crates.txt lacks."""
+    """The files that aren't there yet, and the crates that crates.txt lacks."""
     files, found = [], destination / "crates.txt"
     stands = listed(found.read_text(encoding="utf-8")) if found.exists() else {}
-    for name, stands_on in crates.items():
-        if name in stands and stands[name] != stands_on:
-            raise Refused(f"{found} has another line of {name}: {' '.join(stands[name])}")
-        for file in files_of(name):
-            to = destination / file.relative_to(ROOT)
-            if not to.exists():
-                files.append((file, to))
-            elif to.read_bytes() != file.read_bytes():
-                raise Refused(f"{to} is there, and differs")
+    for name, crate in crates.items():
+        if name in stands and stands[name] != crate:
+            raise Refused(f"{found} has another line of {name}: {stands[name].line(name)}")
+        copies = [(file, destination / file.relative_to(ROOT)) for file in files_of(name)]
+        files += [pair for pair in copies if is_missing(*pair)]
         ours = {file.relative_to(ROOT) for file in files_of(name)}
         for part in PARTS:
             for other in sorted((destination / "crates" / name / part).rglob("*")):
@@ -98,16 +112,16 @@ def commit():
 def copy(destination, names):
     crates = wanted(names)
     files, missing = to_copy(destination, crates)
-    files += [(ROOT / name, destination / "licenses/huqmeris" / name) for name in LEGAL]
-    for file, to in files:
+    legal = [(ROOT / name, destination / "licenses/huqmeris" / name) for name in LEGAL]
+    for file, to in files + [pair for pair in legal if is_missing(*pair)]:
         to.parent.mkdir(parents=True, exist_ok=True)
         to.write_bytes(file.read_bytes())
     found = destination / "crates.txt"
     text = found.read_text(encoding="utf-8") if found.exists() else HEAD
     text += "" if text.endswith("\n") else "\n"
-    found.write_text(text + "".join(f"{name}: {' '.join(crates[name])}".rstrip() + "\n" for name in missing), encoding="utf-8")
+    found.write_text(text + "".join(f"{crates[name].line(name)}\n" for name in missing), encoding="utf-8")
     lines = sum(file.read_bytes().count(b"\n") for name in crates for file in files_of(name))
-    print(f"vendor: {len(crates)} crates of {lines} lines, {len(files) - len(LEGAL)} of their files copied, of {commit()}")
+    print(f"vendor: {len(crates)} crates of {lines} lines, {len(files)} of their files copied, of {commit()}")
 
 
 def main(words):

@@ -6,8 +6,10 @@
 pub mod sys;
 
 pub use sys::hq_done as Done;
+pub use sys::hq_flags as LineFlags;
 pub use sys::hq_inst as Inst;
 pub use sys::hq_item as Item;
+pub use sys::hq_operand as LineOperand;
 pub use sys::hq_place as Place;
 pub use sys::hq_reading as Reading;
 pub use sys::hq_use as Use;
@@ -197,6 +199,25 @@ pub fn extension(line: u16, text: &mut [u8]) -> Result<&str, (Status, usize)> {
     text_in(text, status, len)
 }
 
+/// What a line reads and writes but flags: its operands, and the registers and memory that it uses beside them. Nothing where no line
+/// has the number.
+pub fn line_operands(line: u16) -> impl Iterator<Item = LineOperand> {
+    (0..).map_while(move |index| {
+        let mut out = LineOperand::default();
+        // SAFETY: `out` is ours alone.
+        let status = unsafe { sys::hq_line_operand(line, index, &mut out) };
+        (status == sys::HQ_OK).then_some(out)
+    })
+}
+
+/// The flags that a line reads, writes and leaves undefined.
+pub fn line_flags(line: u16) -> Result<LineFlags, Status> {
+    let mut out = LineFlags::default();
+    // SAFETY: `out` is ours alone.
+    let status = unsafe { sys::hq_line_flags(line, &mut out) };
+    Status::of(status).map(|()| out)
+}
+
 impl Reading {
     /// The instruction that is read as this.
     pub fn inst(&self) -> Result<Inst, Status> {
@@ -258,7 +279,7 @@ impl Iterator for Readings<'_> {
 
 #[cfg(test)]
 mod tests {
-    use crate::{Done, Inst, Item, Operands, Place, Readings, Status, Use, assemble, encode_all, extension, sys};
+    use crate::{Done, Inst, Item, LineFlags, Operands, Place, Readings, Status, Use, assemble, encode_all, extension, line_flags, line_operands, sys};
 
     fn ret() -> Inst {
         Inst::new(sys::HQ_LINE_RETQ_ZO, None, None, Place::default(), None).unwrap()
@@ -277,6 +298,20 @@ mod tests {
         assert_eq!((stopped.status, stopped.done.items, code[0]), (Status(sys::HQ_BAD_INST), 1, 0xC3));
         let stopped = encode_all(&[lea, lea], &mut code, &mut uses).unwrap_err();
         assert_eq!((stopped.status, stopped.done.bytes), (Status(sys::HQ_FULL), 14));
+    }
+
+    #[test]
+    fn says_what_lines_do() {
+        let accesses = line_operands(sys::HQ_LINE_LEAVEQ_ZO).map(|o| (o.home, o.number, o.access));
+        assert!(accesses.eq([
+            (sys::HQ_HOME_FIXED, 4, sys::HQ_ACCESS_WRITE),
+            (sys::HQ_HOME_FIXED, 5, sys::HQ_ACCESS_READ_WRITE),
+            (sys::HQ_HOME_STACK, 0, sys::HQ_ACCESS_READ),
+        ]));
+        assert_eq!(line_operands(sys::HQ_LINE_COUNT).count(), 0);
+        let flags = LineFlags { read: sys::HQ_FLAG_CF, written: 0, undefined: 0 };
+        assert_eq!(line_flags(sys::HQ_LINE_SETB_M), Ok(flags));
+        assert_eq!(line_flags(sys::HQ_LINE_COUNT), Err(Status(sys::HQ_BAD_LINE)));
     }
 
     #[test]

@@ -130,6 +130,44 @@ pub const HQ_ITEM_CONSTANT: u32 = 20;
 pub const HQ_ITEM_BYTES: u32 = 21;
 /// An item: padding, which is data too: zeros, up to a multiple of 2 to the number, at most 6, from the first byte on.
 pub const HQ_ITEM_ALIGN: u32 = 22;
+/// Where an operand is: a register in the reg field.
+pub const HQ_HOME_REG: u8 = 0;
+/// Where an operand is: a register in vvvv.
+pub const HQ_HOME_VVVV: u8 = 1;
+/// Where an operand is: the register or memory of the place.
+pub const HQ_HOME_PLACE: u8 = 2;
+/// Where an operand is: a register that the line fixes, and that stands nowhere in the bytes.
+pub const HQ_HOME_FIXED: u8 = 3;
+/// Where an operand is: the immediate.
+pub const HQ_HOME_IMM: u8 = 4;
+/// Where an operand is: memory of the stack, which stands nowhere in the bytes.
+pub const HQ_HOME_STACK: u8 = 5;
+/// What registers an operand may be: none. It's memory, or the immediate.
+pub const HQ_CLASS_NONE: u8 = 0;
+/// What registers an operand may be: general ones.
+pub const HQ_CLASS_GENERAL: u8 = 1;
+/// What registers an operand may be: vector registers.
+pub const HQ_CLASS_VECTOR: u8 = 2;
+/// What is done with an operand: nothing, as with the memory of `lea`.
+pub const HQ_ACCESS_NONE: u8 = 0;
+/// What is done with an operand: it's read.
+pub const HQ_ACCESS_READ: u8 = 1;
+/// What is done with an operand: it's written, and nothing of what it was stays.
+pub const HQ_ACCESS_WRITE: u8 = 2;
+/// What is done with an operand: it's read and written, or written so that it or a part of it may stay.
+pub const HQ_ACCESS_READ_WRITE: u8 = 3;
+/// The flag CF.
+pub const HQ_FLAG_CF: u16 = 1;
+/// The flag PF.
+pub const HQ_FLAG_PF: u16 = 4;
+/// The flag AF.
+pub const HQ_FLAG_AF: u16 = 16;
+/// The flag ZF.
+pub const HQ_FLAG_ZF: u16 = 64;
+/// The flag SF.
+pub const HQ_FLAG_SF: u16 = 128;
+/// The flag OF.
+pub const HQ_FLAG_OF: u16 = 2048;
 /// No register is given.
 pub const HQ_NO_REG: u16 = 256;
 /// No immediate is given.
@@ -873,6 +911,38 @@ pub struct hq_item {
 
 const _: () = assert!(size_of::<hq_item>() == 32 && align_of::<hq_item>() == 4);
 
+/// An operand of a line, or a register or memory that it uses beside its operands.
+#[repr(C)]
+#[derive(Clone, Copy, Debug, Default, PartialEq, Eq, Hash)]
+pub struct hq_operand {
+    /// Where it is: `HQ_HOME_REG` and the like.
+    pub home: u8,
+    /// The register's, where the line fixes one, else 0.
+    pub number: u8,
+    /// What registers it may be: `HQ_CLASS_GENERAL` and the like.
+    pub registers: u8,
+    /// What is done with it: `HQ_ACCESS_READ` and the like.
+    pub access: u8,
+    /// How many bits it has: 8 to 128.
+    pub bits: u8,
+    /// Whether it's among the operands that a text has: 0 or 1.
+    pub printed: u8,
+}
+
+const _: () = assert!(size_of::<hq_operand>() == 6 && align_of::<hq_operand>() == 1);
+
+/// The flags that a line reads, writes and leaves undefined: sums of `HQ_FLAG_CF` and the like, each at its place in EFLAGS. A flag
+/// that is read, and written or undefined too, may be one that the line leaves as it was.
+#[repr(C)]
+#[derive(Clone, Copy, Debug, Default, PartialEq, Eq, Hash)]
+pub struct hq_flags {
+    pub read: u16,
+    pub written: u16,
+    pub undefined: u16,
+}
+
+const _: () = assert!(size_of::<hq_flags>() == 6 && align_of::<hq_flags>() == 2);
+
 #[link(name = "huqmeris", kind = "static")]
 unsafe extern "C" {
     /// Assembles items into the front of some bytes, all of them or nothing: instructions, places of labels, and jumps to them;
@@ -926,8 +996,19 @@ unsafe extern "C" {
     /// `HQ_NO_INST` where there is none, as of a high byte, of a place relative to the end and of memory without a base;
     /// `HQ_BAD_READING` where the integers are no reading. The length isn't looked at.
     pub unsafe fn hq_inst_of_reading(reading: *const hq_reading, out: *mut hq_inst) -> i32;
+    /// Whether what stands in this archive was proved: 1 where it was, 0 where it was only compiled.
+    pub safe fn hq_is_proved() -> u32;
     /// The number of bytes that `hq_encode` writes, 1 to 13.
     pub unsafe fn hq_length(inst: *const hq_inst, len: *mut u32) -> i32;
+    /// The flags that a line reads, writes and leaves undefined. `HQ_BAD_LINE` where no line has the number.
+    pub unsafe fn hq_line_flags(line: u16, flags: *mut hq_flags) -> i32;
+    /// The operand of this index of a line, counted from 0: first those of its bytes and those that it fixes, in the manual's order,
+    /// and then the registers and memory that it uses beside them, as a push does with the stack. `HQ_NONE` where there are no more,
+    /// `HQ_BAD_LINE` where no line has the number.
+    ///
+    /// Base and index of memory are read too. A write of 8 or 16 bits leaves the others of a register, and one of 32 bits makes the
+    /// upper half 0.
+    pub unsafe fn hq_line_operand(line: u16, index: usize, operand: *mut hq_operand) -> i32;
     /// Makes the instruction of a line with these operands, where they are those that it takes: a register in reg and in vvvv
     /// where one stands there, a register or memory in the rest of the tail, an immediate in the line's range. Registers aren't
     /// tested.

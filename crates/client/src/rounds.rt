@@ -31,9 +31,9 @@ pub fn until_equal<I: Instruction, A: Allocator>(
     let Ok(()) = buffer.bind(top) else {
         return Err(SinkError::Full);
     };
-    buffer.push_long_jump(Jump::If(Condition::E), DeferredTarget::Label(end))?;
+    buffer.push_jump(Jump::If(Condition::E), DeferredTarget::Label(end))?;
     buffer.push(body)?;
-    buffer.push_long_jump(Jump::Always, DeferredTarget::Label(top))?;
+    buffer.push_jump(Jump::Always, DeferredTarget::Label(top))?;
     let Ok(()) = buffer.bind(end) else {
         return Err(SinkError::Full);
     };

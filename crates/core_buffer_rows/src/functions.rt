@@ -13,21 +13,20 @@ use x64_core::ops::arithmetic::{ADDQ_MI_SXB, CMPQ_RM};
 use x64_core::ops::control::RETQ_ZO;
 use x64_core::ops::moves::{LEAQ_RM, MOVQ_RM};
 use x64_core::ops::multiplication::IMULQ_RM;
-use x64_core_buffer::PushCore;
 
 /// `fn(a, b) { if a < b { a * b + 1 } else { b } }`, with `a` in `rdi` and `b` in `rsi`, checked.
 fn checked(buffer: &mut CodeBuffer<Global>, otherwise: Label) -> Option<()> {
-    buffer.push_core_checked(&CMPQ_RM.regs(RDI, RSI)).ok()?;
+    buffer.push_checked(&CMPQ_RM.regs(RDI, RSI)).ok()?;
     buffer
         .push_jump(Jump::If(Condition::Ge), DeferredTarget::Label(otherwise))
         .ok()?;
-    buffer.push_core_checked(&MOVQ_RM.regs(RAX, RDI)).ok()?;
-    buffer.push_core_checked(&IMULQ_RM.regs(RAX, RSI)).ok()?;
-    buffer.push_core_checked(&ADDQ_MI_SXB.reg(RAX, 1)).ok()?;
-    buffer.push_core_checked(&RETQ_ZO.bare()).ok()?;
+    buffer.push_checked(&MOVQ_RM.regs(RAX, RDI)).ok()?;
+    buffer.push_checked(&IMULQ_RM.regs(RAX, RSI)).ok()?;
+    buffer.push_checked(&ADDQ_MI_SXB.reg(RAX, 1)).ok()?;
+    buffer.push_checked(&RETQ_ZO.bare()).ok()?;
     buffer.bind(otherwise).ok()?;
-    buffer.push_core_checked(&MOVQ_RM.regs(RAX, RSI)).ok()?;
-    buffer.push_core_checked(&RETQ_ZO.bare()).ok()
+    buffer.push_checked(&MOVQ_RM.regs(RAX, RSI)).ok()?;
+    buffer.push_checked(&RETQ_ZO.bare()).ok()
 }
 
 fn push_all(buffer: &mut CodeBuffer<Global>, insts: &[Core]) -> Option<()> {
@@ -81,13 +80,11 @@ fn a_function_that_its_caller_tests(rt: HostRuntime) {
 fn mixed(buffer: &mut CodeBuffer<Global>) -> Option<()> {
     let call: callq_m<Numbers> = callq_m::new(GprMem::Mem(at(FIRST)));
     let label = buffer.new_label().ok()?;
-    buffer.push_core_checked(&LEAQ_RM.mem(RAX, at(FIRST))).ok()?;
+    buffer.push_checked(&LEAQ_RM.mem(RAX, at(FIRST))).ok()?;
     buffer.push_checked(&call).ok()?;
-    buffer
-        .push_core_checked(&ADDQ_MI_SXB.mem(at(POOL), 1))
-        .ok()?;
+    buffer.push_checked(&ADDQ_MI_SXB.mem(at(POOL), 1)).ok()?;
     buffer.bind(label).ok()?;
-    buffer.push_core_checked(&RETQ_ZO.bare()).ok()?;
+    buffer.push_checked(&RETQ_ZO.bare()).ok()?;
     buffer.bind_constant(Constant(7)).ok()
 }
 

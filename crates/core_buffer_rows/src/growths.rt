@@ -64,6 +64,6 @@ impl Grows for Ten {
 
 #[test]
 fn each_growth_is_refused_in_turn(rt: HostRuntime) {
-    assert!(rt; is_refused(rt.alloc(), &Ten { is_checked: false }, 7));
-    assert!(rt; is_refused(rt.alloc(), &Ten { is_checked: true }, 7));
+    assert!(rt; is_refused(rt.alloc(), &Ten { is_checked: false }, 5));
+    assert!(rt; is_refused(rt.alloc(), &Ten { is_checked: true }, 5));
 }

@@ -8,7 +8,6 @@ use x64_code_buffer::CodeBuffer;
 use x64_core::ops::arithmetic::ADDQ_RM;
 use x64_core::ops::control::RETQ_ZO;
 use x64_core::ops::moves::{LEAQ_RM, MOVQ_RM};
-use x64_core_buffer::PushCore;
 
 /// A virtual register is a fault, and the buffer isn't touched: it asks for no memory either.
 #[test]
@@ -16,8 +15,8 @@ fn a_virtual_register(rt: HostRuntime) {
     let heap = TestHeap::holding(rt.alloc(), 0);
     let mut buffer = CodeBuffer::new(&heap);
     let fault = |at: u8| Err(EncodeError::Fault(Fault::Register(at)));
-    assert!(rt; buffer.push_core_checked(&ADDQ_RM.regs(16, 7)) == fault(0));
-    assert!(rt; buffer.push_core_checked(&MOVQ_RM.regs(RAX, 200)) == fault(1));
+    assert!(rt; buffer.push_checked(&ADDQ_RM.regs(16, 7)) == fault(0));
+    assert!(rt; buffer.push_checked(&MOVQ_RM.regs(RAX, 200)) == fault(1));
     assert!(rt; heap.requests() == 0);
     assert!(rt; buffer.bytes().is_empty() && buffer.notices().is_empty());
 }
@@ -28,7 +27,7 @@ fn a_late_offset(rt: HostRuntime) {
     let mut buffer = CodeBuffer::new(rt.alloc());
     let lea = LEAQ_RM.mem(RAX, late(7, 9));
     let unknown = Err(EncodeError::Fault(Fault::Unknown(9)));
-    assert!(rt; buffer.push_core_checked(&lea) == unknown);
+    assert!(rt; buffer.push_checked(&lea) == unknown);
     buffer.set_offset(9, -1);
     assert!(rt; push(&mut buffer, &lea) == Ok(()));
     assert!(rt; buffer.bytes() == [0x48, 0x8D, 0x47, 0xFF].as_slice());

@@ -7,7 +7,7 @@ use cax64_sink::{Constant, DeferredTarget, KnownOffset, Label, SinkError};
 use std::alloc::Allocator;
 use x64_code_buffer::CodeBuffer;
 use x64_core::Core;
-use x64_core_buffer::PushCore;
+use x64_encode::Encode;
 
 pub const RAX: u8 = 0;
 
@@ -36,16 +36,22 @@ pub fn late(base: u8, offset: KnownOffset) -> Amode<u8> {
     }
 }
 
-/// Pushes an instruction. One that can't be encoded is as good as a full sink.
-pub fn push<P: PushCore>(sink: &mut P, inst: &Core) -> Result<(), SinkError> {
-    if !inst.is_encodable(&*sink) {
+/// Pushes what a line encodes. What can't be encoded is as good as a full sink.
+pub fn push<I: Encode, A: Allocator>(
+    buffer: &mut CodeBuffer<A>,
+    inst: &I,
+) -> Result<(), SinkError> {
+    if !inst.is_encodable(&*buffer) {
         return Err(SinkError::Full);
     }
-    sink.push_core(inst)
+    buffer.push(inst)
 }
 
-pub fn push_checked<P: PushCore>(sink: &mut P, inst: &Core) -> Result<(), EncodeError> {
-    sink.push_core_checked(inst)
+pub fn push_checked<I: Encode, A: Allocator>(
+    buffer: &mut CodeBuffer<A>,
+    inst: &I,
+) -> Result<(), EncodeError> {
+    buffer.push_checked(inst)
 }
 
 /// The bytes of a buffer that can be finished.

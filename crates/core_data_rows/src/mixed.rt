@@ -23,7 +23,6 @@ use x64_core::ops::rows::{JGE_D32, JMP_D32};
 use x64_core::ops::scalar::{ADDSD_A, CVTSI2SDQ_A, MOVSD_C_M};
 use x64_core::ops::shifts::{SARL_MI, SHLQ_MC};
 use x64_core::{Core, Op};
-use x64_core_buffer::PushCore;
 use x64_core_data::row_op;
 use x64_core_reader::read_core;
 
@@ -41,7 +40,7 @@ impl Mixed {
     }
 
     fn core(&mut self, core: &Core) -> Option<()> {
-        self.buffer.push_core_checked(core).ok()?;
+        self.buffer.push_checked(core).ok()?;
         self.lines.push(core.op()).ok()
     }
 

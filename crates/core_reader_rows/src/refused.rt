@@ -1,7 +1,8 @@
 //! What the core doesn't have, and readings of which it has no instruction.
 
-use crate::words::{is_put_again, reading, reads};
+use crate::words::{is_put_again, reading, reads, register};
 use cax64_machine_code::reading::{Place, RegView};
+use x64_core::ops::control::{POPQ_M, POPW_M, PUSHQ_I32, PUSHQ_M, PUSHW_I16, PUSHW_M};
 use x64_core::ops::moves::{MOVB_MR, MOVQ_RM};
 use x64_core::ops::rows::{NOP_2B, VCVTPD2PS_A};
 use x64_core_reader::{CoreReading, read_core};
@@ -23,6 +24,80 @@ fn what_a_line_lacks(rt: HostRuntime) {
     assert!(rt; read_core(&[0xF3, 0x48, 0x8B, 0xC7]).is_none());
     assert!(rt; read_core(&[0x48, 0x8D, 0xC7]).is_none());
     assert!(rt; read_core(&[0x40, 0x90]).is_none());
+}
+
+/// W before a push or pop of two bytes makes it one of eight, with 66 too, and that stands in no line. GNU's, LLVM's and Zydis's
+/// disassemblers read `push $0x4030201` of seven bytes, `push %rsi` and `pop %rcx`.
+#[test]
+fn words_with_w(rt: HostRuntime) {
+    assert!(rt; read_core(&[0x66, 0x48, 0x68, 1, 2, 3, 4]).is_none());
+    assert!(rt; read_core(&[0x66, 0x48, 0xFF, 0xF6]).is_none());
+    assert!(rt; read_core(&[0x66, 0x48, 0x8F, 0xC1]).is_none());
+}
+
+/// Without W they are of two bytes, behind another bit of REX too: `pushw 0x201`, `pushw si`, `pushw r14w`, `popw cx`, `popw r9w`.
+#[test]
+fn words_without_w(rt: HostRuntime) {
+    let none = None;
+    let word = reading(PUSHW_I16.op(), 4, 0, none, None, Some(0x201));
+    assert!(rt; reads(&[0x66, 0x68, 1, 2], word));
+    let longer = reading(PUSHW_I16.op(), 5, 0, none, None, Some(0x201));
+    assert!(rt; reads(&[0x66, 0x40, 0x68, 1, 2], longer));
+    assert!(rt;
+        reads(
+            &[0x66, 0xFF, 0xF6],
+            reading(PUSHW_M.op(), 3, 1, none, register(6), None)
+        )
+    );
+    assert!(rt;
+        reads(
+            &[0x66, 0x41, 0xFF, 0xF6],
+            reading(PUSHW_M.op(), 4, 1, none, register(14), None)
+        )
+    );
+    assert!(rt;
+        reads(
+            &[0x66, 0x8F, 0xC1],
+            reading(POPW_M.op(), 3, 1, none, register(1), None)
+        )
+    );
+    assert!(rt;
+        reads(
+            &[0x66, 0x41, 0x8F, 0xC1],
+            reading(POPW_M.op(), 4, 1, none, register(9), None)
+        )
+    );
+}
+
+/// Those of eight bytes read with W and without: `push 0x4030201`, `push rsi`, `pop rcx`.
+#[test]
+fn whole_words(rt: HostRuntime) {
+    let none = None;
+    let number = Some(0x403_0201);
+    assert!(rt;
+        reads(
+            &[0x68, 1, 2, 3, 4],
+            reading(PUSHQ_I32.op(), 5, 0, none, None, number)
+        )
+    );
+    assert!(rt;
+        reads(
+            &[0x48, 0x68, 1, 2, 3, 4],
+            reading(PUSHQ_I32.op(), 6, 0, none, None, number)
+        )
+    );
+    assert!(rt;
+        reads(
+            &[0x48, 0xFF, 0xF6],
+            reading(PUSHQ_M.op(), 3, 1, none, register(6), None)
+        )
+    );
+    assert!(rt;
+        reads(
+            &[0x48, 0x8F, 0xC1],
+            reading(POPQ_M.op(), 3, 1, none, register(1), None)
+        )
+    );
 }
 
 /// `movb [rdi], ah` and `movq rax, [5]`, of which there is no instruction of the core.
@@ -47,14 +122,7 @@ fn what_is_no_instruction(rt: HostRuntime) {
 /// `vcvtpd2ps xmm1, xmm2`, whose L is 0: with L 1 it's another instruction, which isn't in the table.
 #[test]
 fn with_vex(rt: HostRuntime) {
-    let expected = reading(
-        VCVTPD2PS_A.op(),
-        4,
-        1,
-        Some(1),
-        crate::words::register(2),
-        None,
-    );
+    let expected = reading(VCVTPD2PS_A.op(), 4, 1, Some(1), register(2), None);
     assert!(rt; reads(&[0xC5, 0xF9, 0x5A, 0xCA], expected));
     assert!(rt; is_put_again(&[0xC5, 0xF9, 0x5A, 0xCA]));
     assert!(rt; read_core(&[0xC5, 0xFD, 0x5A, 0xCA]).is_none());

@@ -2,6 +2,8 @@
 #![tactic(auto)]
 
 #[cfg(test)]
+mod asked;
+#[cfg(test)]
 mod compiled;
 #[cfg(test)]
 mod made;
@@ -11,5 +13,7 @@ mod refused;
 mod renamed;
 #[cfg(test)]
 mod rows;
+#[cfg(test)]
+mod uses;
 #[cfg(test)]
 mod words;

@@ -8,9 +8,12 @@ code isn't looked at. GNU as encodes the text, and has to give the form of the n
 {store}) or the choice of operands sees to. What objdump, llvm-mc and Zydis say of the bytes has to be the same text, but
 for suffixes, spellings of numbers, and names that are listed below. The status is 1 where one of them says otherwise.
 
+Nine forms no assembler gives by themselves, since a shorter one or another one means the same: registers of mov with an
+immediate, of push and pop, memory of movq of a vector register. Twenty of each stand behind the others. GNU as encodes
+another instruction with the same prefixes, operands and digit, and the opcode is exchanged, or it takes REX.W as a word.
+
 A line of core.tsv: the number of the line and its name, the register in reg, what the rest of the tail names, the
-immediate, the bytes, the text that GNU as was given. Of forms that no assembler gives, since a shorter one or another one means the same, there are
-no cases: registers of mov with an immediate, of push and pop, memory of movq of a vector register.
+immediate, the bytes, the text of the instruction.
 """
 
 import random
@@ -34,9 +37,15 @@ NAMES = {
 }
 FIXED = ("al", "cl", "ax", "eax", "rax", "dx", "edx", "rdx", "rcx", "rbx")
 
-# Lines whose register form, or memory form, no assembler gives.
-MEMORY_ALONE = {"movb_mi", "movw_mi", "movl_mi", "pushw_m", "pushq_m", "popw_m", "popq_m"}
-REGISTER_ALONE = {"movq_a", "movq_b"}
+# Lines whose register form no assembler gives, each with the mnemonic and the opcode of one with the same digit, and its own
+# opcode. (Intel SDM, volume 2, `MOV`, `PUSH`, `POP`, `TEST`, `DIV` and `INC`.)
+MEMORY_ALONE = {
+    "movb_mi": ("testb", 0xF6, 0xC6), "movw_mi": ("testw", 0xF7, 0xC7), "movl_mi": ("testl", 0xF7, 0xC7),
+    "pushw_m": ("divw", 0xF7, 0xFF), "pushq_m": ("divl", 0xF7, 0xFF),
+    "popw_m": ("incw", 0xFF, 0x8F), "popq_m": ("incl", 0xFF, 0x8F),
+}
+# Lines whose memory form no assembler gives but by that of 32 bits and REX.W.
+REGISTER_ALONE = {"movq_a": "rex.w movd", "movq_b": "rex.w movd"}
 
 
 def lines_of(path, columns):
@@ -126,8 +135,10 @@ def random_memory(rng):
 
 
 class Case:
-    def __init__(self, rng, number, name, operands, front):
-        self.number, self.name, self.front = number, name, front
+    """Operands by chance. `is_other` asks for the form that no assembler gives."""
+
+    def __init__(self, rng, number, name, operands, front, is_other=False):
+        self.number, self.name, self.front, self.is_other = number, name, front, is_other
         self.reg = self.place = self.imm = "-"
         texts = []
         accumulates = any(operand.what == "fixed" and not operand.implicit for operand in operands)
@@ -149,8 +160,10 @@ class Case:
             number = rng.randrange(16)
             self.reg = str(number)
             return f"%{NAMES[operand.bits][number]}"
-        memory = operand.what == "mem" or self.name in MEMORY_ALONE
-        if not memory and (self.name in REGISTER_ALONE or rng.random() < 0.5):
+        alone = REGISTER_ALONE if self.is_other else MEMORY_ALONE
+        others = MEMORY_ALONE if self.is_other else REGISTER_ALONE
+        memory = operand.what == "mem" or self.name in alone
+        if not memory and (self.name in others or rng.random() < 0.5):
             # With an immediate, the accumulator has a form of its own.
             number = rng.randrange(1, 16) if "_mi" in self.name else rng.randrange(16)
             self.place = f"r{number}"
@@ -162,7 +175,28 @@ class Case:
         return f"{self.mnemonic} {', '.join(self.operands)}".strip()
 
     def assembled(self):
-        return f"{self.front}{self.text()}"
+        """What GNU as is given."""
+        if not self.is_other:
+            return f"{self.front}{self.text()}"
+        if self.name in REGISTER_ALONE:
+            return f"{REGISTER_ALONE[self.name]} {', '.join(self.operands)}"
+        mnemonic = MEMORY_ALONE[self.name][0]
+        operands = [shortened(operand) for operand in self.operands] if mnemonic.endswith("l") else self.operands
+        return f"{mnemonic} {', '.join(operands)}"
+
+    def exchanged(self, code):
+        """The bytes of what GNU as was given as those of this case."""
+        if not self.is_other or self.name in REGISTER_ALONE:
+            return code
+        _, before, after = MEMORY_ALONE[self.name]
+        at = code.index(before)
+        return code[:at] + bytes([after]) + code[at + 1:]
+
+
+def shortened(operand):
+    """A register of 64 bits as its lower half, which has its number."""
+    name = operand.removeprefix("%")
+    return f"%{NAMES[32][NAMES[64].index(name)]}" if name in NAMES[64] else operand
 
 
 def front_of(name, operands):
@@ -190,7 +224,8 @@ def encode(cases):
         run("objcopy", "-O", "binary", "-j", ".text", objects, raw)
         code = Path(raw).read_bytes()
     places[f"L{len(cases)}"] = len(code)
-    return [code[places[f"L{number}"]:places[f"L{number + 1}"]] for number in range(len(cases))]
+    codes = [code[places[f"L{number}"]:places[f"L{number + 1}"]] for number in range(len(cases))]
+    return [case.exchanged(code) for case, code in zip(cases, codes)]
 
 
 def by_objdump(codes):
@@ -328,14 +363,18 @@ def differences(cases, codes):
                 yield f"{name}: {code.hex(' ')} is {text!r}, and was {case.text()!r} of {case.name}"
 
 
+def cases_of(seed):
+    """Twenty of each line, and of each form that no assembler gives, whose operands don't depend on the others'."""
+    lines = [(number, name, [Operand(operand) for operand in operands])
+             for number, (name, operands) in enumerate(lines_of(TABLE / "core.txt", 4), port_count())]
+    rng, others = random.Random(seed), random.Random(f"other forms {seed}")
+    cases = [Case(rng, *line, front_of(*line[1:])) for line in lines for _ in range(TRIES)]
+    return cases + [Case(others, *line, "", True) for line in lines if line[1] in {*MEMORY_ALONE, *REGISTER_ALONE}
+                    for _ in range(TRIES)]
+
+
 def main(seed=SEED):
-    rng = random.Random(int(seed))
-    first = port_count()
-    cases = []
-    for number, (name, operands) in enumerate(lines_of(TABLE / "core.txt", 4), first):
-        operands = [Operand(operand) for operand in operands]
-        front = front_of(name, operands)
-        cases += [Case(rng, number, name, operands, front) for _ in range(TRIES)]
+    cases = cases_of(int(seed))
     codes = encode(cases)
     found = list(differences(cases, codes))
     for difference in found[:40]:

@@ -9,6 +9,7 @@ pub mod Data
 pub mod Traps
 pub mod Items
 pub mod Text
+pub mod LineUse
 -- Steps of the proofs.
 pub mod PutCode
 pub mod Listed

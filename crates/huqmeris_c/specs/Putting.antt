@@ -21,7 +21,7 @@ use Rattle.huqmeris_c.specs.declared.item.TheConstants.{HQ_ITEM_ALIGN, HQ_ITEM_B
 use Rattle.huqmeris_c.specs.declared.progress.HqDone.{HqDone}
 use Rattle.huqmeris_c.specs.declared.status.TheConstants.{HQ_BAD_ITEM, HQ_BAD_LABEL, HQ_BOUND_TWICE, HQ_NO_MEMORY, HQ_TOO_MANY, HQ_UNBOUND}
 use Rattle.x64_assemble.specs.Assembled as laid_out
-use Rattle.x64_assemble.specs.Listed.{Listed}
+use Rattle.x64_assemble.specs.Listed.{Listed, listed}
 use Rattle.x64_assemble.specs.Refused.{refusal_at}
 use Rattle.x64_assemble.specs.declared.errors.LayoutError.{LayoutError}
 use Rattle.x64_assemble.specs.declared.errors.LayoutError.TheVariants as refusal
@@ -32,10 +32,9 @@ use Rattle.x64_code_buffer.specs.Buffer.{StaysFilled, buffer_state, label_count,
 use Rattle.x64_code_buffer.specs.Laid.{Laid}
 use Rattle.x64_code_buffer.specs.declared.buffer.CodeBuffer.{CodeBuffer}
 use Rattle.x64_code_buffer.specs.declared.errors.BindError.TheVariants.{Unknown, Twice, NoMemory}
-use Rattle.x64_core.specs.Core.{fault_of}
+use Rattle.x64_core.specs.Core.{core_meant, fault_of}
 use Rattle.x64_core.specs.View.{core_view}
 use Rattle.x64_core.specs.declared.instruction.Core.{Core}
-use Rattle.x64_core_assemble.specs.Listed.{core_listed}
 use Rattle.x64_layout.specs.declared.span.TheConstants.{MOST_SPANS}
 
 -- the item that these integers are, and of its instruction that there is no other
@@ -61,7 +60,7 @@ pub record Begun {A : Type 0} (count : ℕ) (b : CodeBuffer A) : Type 0 where
 
 -- what an instruction of a list becomes, and why it can't be put
 abbrev pub core_becomes : Core → Listed
-core_becomes core = core_listed (core_view core) no_offsets
+core_becomes core = listed (core_meant (core_view core)) no_offsets
 
 abbrev pub core_fault : Core → Option Fault
 core_fault core = fault_of no_offsets (core_view core)

@@ -23,7 +23,6 @@ use std::alloc::Global;
 use x64_assemble::{Item, Layout, LayoutError};
 use x64_code_buffer::{BindError, CodeBuffer};
 use x64_core::Core;
-use x64_core_assemble::ByCore;
 use x64_layout::MOST_SPANS;
 
 /// What is told of a list that can't be put.
@@ -82,7 +81,7 @@ fn put_code(
     ensures refused { (code : List HqItem) → MakesEach code list.now → length code ≤ MOST_SPANS → IfErr result (λ refused. (refused.status ≡ HQ_NO_MEMORY) ⊎ FirstRefused (CantBePut (label_count buffer.old)) code refused.number refused.status) }
     ensures labels { label_count buffer.new ≡ label_count buffer.old }
 {
-    match Layout::new(alloc).assemble_by::<ByCore, Core, Global>(list, buffer) {
+    match Layout::new(alloc).assemble(list, buffer) {
         Ok(()) => Ok(()),
         Err(error) => Err(told_of(&error)),
     }

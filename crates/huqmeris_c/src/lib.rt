@@ -11,8 +11,10 @@ mod decode;
 mod decode_all;
 mod encode;
 mod encode_all;
+mod is_proved;
 mod item;
 mod jump;
+mod line_use;
 mod list;
 #[cfg(test)]
 mod list_rows;

@@ -29,6 +29,7 @@ use Rattle.x64_assemble.specs.declared.errors.LayoutError.TheVariants as refusal
 use Rattle.x64_assemble.specs.declared.item.Item.{Item}
 use Rattle.x64_assemble.specs.declared.item.Item.TheVariants as item
 use Rattle.x64_assemble.proofs.Items.{counted, entries_push, entries_most}
+use Rattle.x64_layout.specs.declared.span.TheConstants.{MOST_SPANS}
 
 -- One item of a list.
 
@@ -196,7 +197,7 @@ jump_at len items k jump to lens is layout =
 pub answer_ok : (given number : ℕ) (o : Option ℕ) → number < given → o ≡ None → bind_answer given number o ≡ Ok tt
 answer_ok given number o below none = rw (none, lt-ltb number given below) refl
 
-pub spans_are : {I : Type 0} (len : I → ℕ) (items : List (Item I)) (noted : List Span) → noted ≡ spans_of len items items → All (IsSpan (entries items)) noted → length items ≤ 165191049 → AreSpans noted
+pub spans_are : {I : Type 0} (len : I → ℕ) (items : List (Item I)) (noted : List Span) → noted ≡ spans_of len items items → All (IsSpan (entries items)) noted → length items ≤ MOST_SPANS → AreSpans noted
 spans_are len items noted e each few =
     let as_many : length noted ≡ entries items = ap length e ∙ spans_few len items items in
     record {

@@ -1,4 +1,4 @@
-use Rattle.std.proofs.Common.{◌≡◌, ℕ, ◌+◌, ◌-◌, ◌<◌, ◌≤◌, ◌⊎◌, inl, inr, arith, refl, ◌∙◌, ap, sym, subst, Option, Some, None, List, [], ◌∷◌, ◌++◌, length, drop, sum, get_or, append_assoc, append-nil, Bool, true, false}
+use Rattle.std.proofs.Common.{◌≡◌, ℕ, ◌+◌, ◌-◌, ◌<◌, ◌≤◌, ◌⊎◌, inl, inr, arith, refl, ◌∙◌, ap, sym, subst, Option, Some, None, List, [], ◌∷◌, ◌++◌, length, length-append, drop, sum, get_or, append_assoc, append-nil, Bool, true, false}
 use Rattle.std.specs.Prelude.{◌==◌, if◌then◌else◌, slice_index}
 use Rattle.std.specs.Option.{option_or}
 use Rattle.std.proofs.lemmas.Bool.{cases_eq, eq-eqb, ne_eqb}
@@ -11,6 +11,7 @@ use Rattle.cax64_sink.specs.declared.DeferredTarget.{DeferredTarget}
 use Rattle.cax64_sink.specs.declared.DeferredTarget.TheVariants as target
 use Rattle.cax64_sink.specs.declared.Label.{Label}
 use Rattle.cax64_sink.specs.declared.Notice.{Notice}
+use Rattle.x64_code_buffer.proofs.Laying.{pieces_more}
 use Rattle.x64_code_buffer.specs.Binding.{AddsBinding}
 use Rattle.x64_code_buffer.specs.Laid.{Laid, Piece, reading_in}
 use Rattle.x64_layout.specs.Layout.{place_in}
@@ -21,12 +22,9 @@ use Rattle.x64_assemble.specs.Putting.{Put}
 use Rattle.x64_assemble.specs.declared.item.Item.{Item}
 use Rattle.x64_assemble.specs.declared.item.Item.TheVariants as item
 use Rattle.x64_assemble.proofs.Items.{counted, entries_push, spot_push}
-use Rattle.x64_assemble.proofs.Told.{item_told, laid_total, pieces_append, pieces_length, pieces_push, told_bind, told_push}
+use Rattle.x64_assemble.proofs.Told.{item_told, pieces_length, pieces_total, told_bind, told_push}
 
 -- A list on its way into a buffer, one item longer.
-
-last_length : (ps : List Piece) (p : Piece) (s t : State) (old new : DeferredTarget → Option ℕ) (n : ℕ) → Laid ps (length s.bytes) s old → Laid (ps ++ p ∷ []) (length t.bytes) t new → length t.bytes ≡ length s.bytes + n → (reading_in p).length ≡ n
-last_length ps p s t old new n h k more = omega (arith, laid_total ps s old h, laid_total (ps ++ p ∷ []) t new k, pieces_push ps p)
 
 -- what an item is read as, if it is an entry
 abbrev pub ItemReads : {I : Type 0} → (I → Listed) → List ℕ → List (Item I) → ℕ → Item I → Piece → Type 0
@@ -82,7 +80,13 @@ no_label xs x target.None one h = tt
 -- Nothing is put yet.
 pub put_none : {I : Type 0} (meant : I → Listed) (lens : List ℕ) (all : List (Item I)) (s : State) (places : DeferredTarget → Option ℕ) → HasRoom s.byte_room (13 + sum lens) → HasRoom s.notice_room (1 + length all) → Put meant lens all [] s s places places
 put_none meant lens all s places bytes notices = record {
-  laid = λ pieces h. ([], refl, subst (λ (z : List Piece). Laid z (length s.bytes) s places) (sym (append-nil pieces)) h, sym (append-nil s.notices));
+  more = [];
+  added = [];
+  reads = refl;
+  read = refl;
+  bytes = sym (append-nil s.bytes);
+  told = sym (append-nil s.notices);
+  laid = λ pieces h. subst (λ (z : List Piece). Laid z (length s.bytes) s places) (sym (append-nil pieces)) h;
   size = omega arith;
   bound = λ label spot is. cc;
   others = λ goes_to none. refl;
@@ -100,18 +104,22 @@ put_entry {I = I} meant lens all xs x s u t old mid new one within few held got 
     let room : HasRoom t.byte_room (13 + sum (drop (entries xs + 1) lens)) = got.byte_room (13 + sum (drop (entries xs + 1) lens)) (subst (HasRoom u.byte_room) bytes held.byte_room) in
     let notices : 1 + (length all - length xs) ≡ 1 + (length all - length (xs ++ x ∷ [])) + 1 = omega (arith, length_push xs x) in
     let at : length t.bytes ≡ length s.bytes + place_in lens (entries xs + 1) = omega (arith, got.more, held.size, place_more lens (entries xs)) in
+    let p : Piece = got.piece in
+    let longer : length t.bytes ≡ length u.bytes + length got.added = ap length got.bytes ∙ length-append u.bytes got.added in
+    let len : (reading_in p).length ≡ slice_index lens (entries xs) = omega (arith, got.is.length, got.more, longer) in
+    let held_bytes : length u.bytes ≡ length s.bytes + length held.added = ap length held.bytes ∙ length-append s.bytes held.added in
+    let here : length u.bytes ≡ length s.bytes + pieces_length held.more = omega (arith, held_bytes, pieces_total held.more held.added held.read) in
     record {
-      laid = λ pieces h.
-          let before = held.laid pieces h in
-          let next = got.laid (pieces ++ before.0) before.2 in
-          let len : (reading_in next.0).length ≡ slice_index lens (entries xs) = last_length (pieces ++ before.0) next.0 u t mid new (slice_index lens (entries xs)) before.2 next.2 got.more in
-          let all_reads : EachReads meant lens all 0 (xs ++ x ∷ []) (before.0 ++ next.0 ∷ []) = reads_push meant lens all 0 (entries xs) xs before.0 x next.0 (omega arith) before.1 next.1 len in
-          let here : length u.bytes ≡ length s.bytes + pieces_length before.0 = omega (arith, laid_total (pieces ++ before.0) u mid before.2, pieces_append pieces before.0, laid_total pieces s old h) in
-          let told : t.notices ≡ s.notices ++ all_told meant all (length s.bytes) (xs ++ x ∷ []) (before.0 ++ next.0 ∷ []) =
-          next.3 ∙ ap (λ (z : List Notice). z ++ item_told meant all x (length u.bytes) next.0) before.3 ∙ append_assoc s.notices (all_told meant all (length s.bytes) xs before.0) (item_told meant all x (length u.bytes) next.0)
-          ∙ ap (λ (n : ℕ). s.notices ++ (all_told meant all (length s.bytes) xs before.0 ++ item_told meant all x n next.0)) here
-          ∙ ap (λ (z : List Notice). s.notices ++ z) (sym (told_push meant lens all 0 (length s.bytes) xs before.0 x next.0 before.1)) in
-          (before.0 ++ next.0 ∷ [], all_reads, subst (λ (z : List Piece). Laid z (length t.bytes) t new) (append_assoc pieces before.0 (next.0 ∷ [])) next.2, told);
+      more = held.more ++ p ∷ [];
+      added = held.added ++ got.added;
+      reads = reads_push meant lens all 0 (entries xs) xs held.more x p (omega arith) held.reads got.piece_reads len;
+      read = pieces_more held.more p held.added got.added held.read got.is.reads got.is.length got.is.least;
+      bytes = got.bytes ∙ ap (λ (z : List ℕ). z ++ got.added) held.bytes ∙ append_assoc s.bytes held.added got.added;
+      told =
+          got.told ∙ ap (λ (z : List Notice). z ++ item_told meant all x (length u.bytes) p) held.told ∙ append_assoc s.notices (all_told meant all (length s.bytes) xs held.more) (item_told meant all x (length u.bytes) p)
+          ∙ ap (λ (n : ℕ). s.notices ++ (all_told meant all (length s.bytes) xs held.more ++ item_told meant all x n p)) here
+          ∙ ap (λ (z : List Notice). s.notices ++ z) (sym (told_push meant lens all 0 (length s.bytes) xs held.more x p held.reads));
+      laid = λ pieces h. subst (λ (z : List Piece). Laid z (length t.bytes) t new) (append_assoc pieces held.more (p ∷ [])) (got.laid (pieces ++ held.more) (held.laid pieces h));
       size = subst (λ (n : ℕ). length t.bytes ≡ length s.bytes + place_in lens n) (sym e) at;
       bound = λ label spot is. got.places (target.Label (record { 0 = label })) ∙ held.bound label spot (sym (spot_same label xs x one) ∙ is);
       others = λ goes_to none. got.places goes_to ∙ held.others goes_to (no_label xs x goes_to one none);
@@ -164,9 +172,13 @@ put_bind meant lens all xs bound s u t old mid new free adds same stays held =
     let e : entries xs ≡ entries (xs ++ item.Bind bound ∷ []) = omega (arith, entries_push xs (item.Bind bound)) in
     subst (λ (z : State). Put meant lens all (xs ++ item.Bind bound ∷ []) s z old new) (sym same)
     (record {
-      laid = λ pieces h.
-          let before = held.laid pieces h in
-          (before.0, reads_bind meant lens all 0 xs before.0 bound before.1, subst (λ (z : State). Laid (pieces ++ before.0) (length u.bytes) z new) same (stays (pieces ++ before.0) (length u.bytes) before.2), before.3 ∙ ap (λ (z : List Notice). s.notices ++ z) (sym (told_bind meant lens all 0 (length s.bytes) xs before.0 bound before.1)));
+      more = held.more;
+      added = held.added;
+      reads = reads_bind meant lens all 0 xs held.more bound held.reads;
+      read = held.read;
+      bytes = held.bytes;
+      told = held.told ∙ ap (λ (z : List Notice). s.notices ++ z) (sym (told_bind meant lens all 0 (length s.bytes) xs held.more bound held.reads));
+      laid = λ pieces h. subst (λ (z : State). Laid (pieces ++ held.more) (length u.bytes) z new) same (stays (pieces ++ held.more) (length u.bytes) (held.laid pieces h));
       size = subst (λ (n : ℕ). length u.bytes ≡ length s.bytes + place_in lens n) e held.size;
       bound = λ label spot is. bound_by meant lens all xs bound s u old mid new label spot free adds held is (cases_eq label bound.0);
       others = λ goes_to none. others_bind meant lens all xs bound s u old mid new goes_to free adds held none;

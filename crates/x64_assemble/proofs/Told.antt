@@ -1,21 +1,24 @@
-use Rattle.std.proofs.Common.{◌≡◌, ℕ, ◌+◌, arith, refl, ◌∙◌, ap, sym, Bool, true, Option, Some, None, List, [], ◌∷◌, ◌++◌, map, length, drop, append_assoc, append-nil}
+use Rattle.std.proofs.Common.{◌≡◌, ℕ, ◌+◌, ◌-◌, arith, refl, ◌∙◌, ap, sym, ℤ, Bool, true, Option, Some, None, List, [], ◌∷◌, ◌++◌, map, length, drop, append_assoc, append-nil}
 use Rattle.std.specs.Prelude.{if◌then◌else◌}
 use Rattle.std.proofs.Math.Seq.{take-length}
-use Rattle.std.proofs.lemmas.List.{append_cancel_left, length-drop}
+use Rattle.std.proofs.lemmas.List.{length-drop}
 use Rattle.cax64_address.specs.declared.amode.Amode.{Amode}
 use Rattle.cax64_address.specs.declared.amode.Amode.TheVariants.{ImmReg, ImmRegRegShift, RipRelative}
-use Rattle.cax64_encoder.specs.Instruction.{AddsInstruction}
-use Rattle.cax64_encoder.specs.Meant.{Meant}
-use Rattle.cax64_encoder.specs.Notices.{notices_of}
+use Rattle.cax64_encoder.specs.EncodesLine.{line_notices_of}
+use Rattle.cax64_encoder.specs.Relative.{relative_in, unsettled}
+use Rattle.cax64_machine_code.specs.ReadLine.{LineReading}
+use Rattle.cax64_machine_code.specs.Reading.{PartsOf}
+use Rattle.cax64_machine_code.specs.declared.line.ImmField.{ImmField}
+use Rattle.cax64_machine_code.specs.declared.line.Line.{Line}
+use Rattle.cax64_machine_code.specs.declared.reading.Place.{Place}
+use Rattle.cax64_machine_code.specs.declared.reading.Place.TheVariants.{Reg, Mem, Rip}
 use Rattle.cax64_sink.specs.Sink.{State}
 use Rattle.cax64_sink.specs.declared.DeferredTarget.{DeferredTarget}
 use Rattle.cax64_sink.specs.declared.Label.{Label}
 use Rattle.cax64_sink.specs.declared.Notice.{Notice}
 use Rattle.cax64_sink.specs.declared.Notice.TheVariants.{Target}
-use Rattle.x64_code_buffer.proofs.Laying.{uses_more}
-use Rattle.x64_code_buffer.specs.Filled.{places_told}
-use Rattle.x64_code_buffer.specs.Laid.{Laid, LinesRead, Piece, piece_field, piece_fields, reading_in, readings_in}
-use Rattle.x64_code_buffer.specs.Use.{uses_of}
+use Rattle.x64_code_buffer.specs.Laid.{Laid, LinesRead, Piece, line_field_at, line_field_place, line_imm_behind, open_jump, reading_in, readings_in, whole}
+use Rattle.x64_encode.specs.Encode.{AddsMeant, LineMeant, ReadsRelativeBy}
 use Rattle.x64_assemble.specs.Assembled.{EachReads, all_told, jump_told, spot_of}
 use Rattle.x64_assemble.specs.Listed.{Listed, inst_told, use_told}
 use Rattle.x64_assemble.specs.declared.item.Item.{Item}
@@ -28,17 +31,9 @@ abbrev pub pieces_length : List Piece → ℕ
 pieces_length [] = 0
 pieces_length (p ∷ ps) = (reading_in p).length + pieces_length ps
 
-pieces_total : (ps : List Piece) (a : List ℕ) → LinesRead (readings_in ps) a → length a ≡ pieces_length ps
+pub pieces_total : (ps : List Piece) (a : List ℕ) → LinesRead (readings_in ps) a → length a ≡ pieces_length ps
 pieces_total [] a h = ap length h
 pieces_total (q ∷ ps) a h = omega (arith, h.2, length-drop (reading_in q).length a, pieces_total ps (drop (reading_in q).length a) h.3)
-
-pub pieces_push : (ps : List Piece) (p : Piece) → pieces_length (ps ++ p ∷ []) ≡ pieces_length ps + (reading_in p).length
-pieces_push [] p = omega arith
-pieces_push (q ∷ ps) p = omega (arith, pieces_push ps p)
-
-pub pieces_append : (ps qs : List Piece) → pieces_length (ps ++ qs) ≡ pieces_length ps + pieces_length qs
-pieces_append [] qs = omega arith
-pieces_append (p ∷ ps) qs = omega (arith, pieces_append ps qs)
 
 pub laid_total : (ps : List Piece) (s : State) (places : DeferredTarget → Option ℕ) → Laid ps (length s.bytes) s places → length s.bytes ≡ pieces_length ps
 laid_total ps s places h =
@@ -47,38 +42,37 @@ laid_total ps s places h =
 
 -- One entry.
 
-fields_more : (at : ℕ) (ps : List Piece) (p : Piece) → piece_fields at (ps ++ p ∷ []) ≡ piece_fields at ps ++ piece_field (at + pieces_length ps) p
-fields_more at [] p =
-    let e : at + 0 ≡ at = omega arith in
-    rw (e, append-nil (piece_field at p)) refl
-fields_more at (q ∷ ps) p =
-    let n : ℕ = (reading_in q).length in
-    let e : at + n + pieces_length ps ≡ at + (n + pieces_length ps) = omega arith in
-    ap (λ (z : List ℕ). piece_field at q ++ z) (fields_more (at + n) ps p ∙ ap (λ (k : ℕ). piece_fields (at + n) ps ++ piece_field k p) e)
-    ∙ sym (append_assoc (piece_field at q) (piece_fields (at + n) ps) (piece_field (at + (n + pieces_length ps)) p))
+-- a place that counts from its instruction's end has a field
+field_there : (at x : ℕ) (r : LineReading) (o : Option Place) (z : ℤ) → relative_in o ≡ Some z → x ≡ at + line_field_place r → x ∷ [] ≡ line_field_at at r o
+field_there at x r None z relative e = cc
+field_there at x r (Some (Reg view)) z relative e = cc
+field_there at x r (Some (Mem base index disp)) z relative e = cc
+field_there at x r (Some (Rip disp)) z relative e = ap (λ (n : ℕ). n ∷ []) e
 
--- where a use was told with a piece, it is at the piece's field
-field_told : (ps : List Piece) (p : Piece) (x : ℕ) (goes_to : DeferredTarget) (s t : State) (old new : DeferredTarget → Option ℕ) → t.notices ≡ s.notices ++ Target x goes_to ∷ [] → Laid ps (length s.bytes) s old → Laid (ps ++ p ∷ []) (length t.bytes) t new → x ∷ [] ≡ piece_field (length s.bytes) p
-field_told ps p x goes_to s t old new notices h k =
-    let before : piece_fields 0 ps ++ x ∷ [] ≡ places_told (uses_of t.notices) = ap (λ (z : List ℕ). z ++ x ∷ []) (sym h.told) ∙ sym (uses_more s.notices (Target x goes_to ∷ [])) ∙ ap (λ (z : List Notice). places_told (uses_of z)) (sym notices) in
-    let total : 0 + pieces_length ps ≡ length s.bytes = omega (arith, laid_total ps s old h) in
-    let behind : places_told (uses_of t.notices) ≡ piece_fields 0 ps ++ piece_field (length s.bytes) p = k.told ∙ fields_more 0 ps p ∙ ap (λ (n : ℕ). piece_fields 0 ps ++ piece_field n p) total in
-    append_cancel_left (piece_fields 0 ps) (x ∷ []) (piece_field (length s.bytes) p) (before ∙ behind)
-
-pub tells_use : (x : ℕ) (goes_to : DeferredTarget) (s t : State) (old new : DeferredTarget → Option ℕ) → t.notices ≡ s.notices ++ Target x goes_to ∷ [] → (ps : List Piece) (p : Piece) → Laid ps (length s.bytes) s old → Laid (ps ++ p ∷ []) (length t.bytes) t new → t.notices ≡ s.notices ++ use_told goes_to (length s.bytes) p
-tells_use x goes_to s t old new notices ps p h k = notices ∙ ap (λ (z : List ℕ). s.notices ++ map (λ (field : ℕ). Target field goes_to) z) (field_told ps p x goes_to s t old new notices h k)
+-- the use of a target is told at the field of the piece
+pub told_use : (M : Type 0) (at : ℕ) (r : LineReading) (goes_to : DeferredTarget) (imm : ImmField) → relative_in r.place ≡ unsettled {M = M} (Some (RipRelative goes_to)) imm → Target (at + (r.length - r.tail - line_imm_behind r) + 1) goes_to ∷ [] ≡ use_told goes_to at (whole r)
+told_use M at r goes_to imm relative =
+    ap (λ (z : List ℕ). map (λ (field : ℕ). Target field goes_to) z) (field_there at (at + (r.length - r.tail - line_imm_behind r) + 1) r r.place _ relative (omega arith))
 
 pub tells_nothing : (s t : State) → t.notices ≡ s.notices → t.notices ≡ s.notices ++ []
 tells_nothing s t notices = notices ∙ sym (append-nil s.notices)
 
-pub tells_inst : {M : Type 0} (m : Meant M) (s t : State) (old new : DeferredTarget → Option ℕ) → s.records ≡ true → AddsInstruction m s t → (ps : List Piece) (p : Piece) → Laid ps (length s.bytes) s old → Laid (ps ++ p ∷ []) (length t.bytes) t new → t.notices ≡ s.notices ++ inst_told m.memory (length s.bytes) p
-tells_inst {M = M} m s t old new records adds ps p h k = by_memory m.memory (adds.notices ∙ ap (λ (z : Bool). if z then s.notices ++ notices_of m.memory (length s.bytes) adds.reads.reading else s.notices) records)
+pub tells_jump : (goes_to : DeferredTarget) (s t : State) (r : LineReading) (added : List ℕ) → r.length ≡ length added → t.notices ≡ s.notices ++ Target (length s.bytes + length added - 4) goes_to ∷ [] → t.notices ≡ s.notices ++ use_told goes_to (length s.bytes) (open_jump r)
+tells_jump goes_to s t r added len notices = notices ∙ ap (λ (n : ℕ). s.notices ++ Target (length s.bytes + n - 4) goes_to ∷ []) (sym len)
+
+pub tells_inst : {M : Type 0} (m : LineMeant M) (s t : State) → s.records ≡ true → ReadsRelativeBy m → (adds : AddsMeant m s t) → t.notices ≡ s.notices ++ inst_told m.memory (length s.bytes) (whole adds.reads.reading)
+tells_inst {M = M} m s t records relative adds =
+    let place : r.place ≡ m.parts.place = ap (λ (p : PartsOf Line). p.place) adds.reads.same in
+    by_memory m.memory (ap relative_in place ∙ relative) (adds.notices ∙ ap (λ (z : Bool). if z then s.notices ++ line_notices_of m.memory (length s.bytes) r else s.notices) records)
   where
-    by_memory : (o : Option (Amode M)) → t.notices ≡ s.notices ++ notices_of o (length s.bytes) adds.reads.reading → t.notices ≡ s.notices ++ inst_told o (length s.bytes) p
-    by_memory None e = e
-    by_memory (Some (ImmReg base simm32 trap)) e = e
-    by_memory (Some (ImmRegRegShift base index scale simm32 trap)) e = e
-    by_memory (Some (RipRelative goes_to)) e = tells_use _ goes_to s t old new e ps p h k
+    r : LineReading
+    r = adds.reads.reading
+
+    by_memory : (o : Option (Amode M)) → relative_in r.place ≡ unsettled o m.parts.row.imm → t.notices ≡ s.notices ++ line_notices_of o (length s.bytes) r → t.notices ≡ s.notices ++ inst_told o (length s.bytes) (whole r)
+    by_memory None is e = e
+    by_memory (Some (ImmReg base simm32 trap)) is e = e
+    by_memory (Some (ImmRegRegShift base index scale simm32 trap)) is e = e
+    by_memory (Some (RipRelative goes_to)) is e = e ∙ ap (λ (z : List Notice). s.notices ++ z) (told_use M (length s.bytes) r goes_to m.parts.row.imm is)
 
 -- A list that is one item longer.
 

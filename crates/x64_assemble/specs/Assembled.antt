@@ -3,6 +3,7 @@ use Rattle.std.specs.Prelude.{◌≡◌, ℕ, suc, ◌+◌, ℤ, pos, ◌-ℤ◌
 use Rattle.cax64_machine_code.specs.Reading.{PartsOf}
 use Rattle.cax64_machine_code.specs.Rows.{line_of}
 use Rattle.cax64_machine_code.specs.declared.line.Line.{Line}
+use Rattle.cax64_machine_code.specs.declared.reading.Reading.{Reading}
 use Rattle.cax64_machine_code.specs.declared.row.Row.{Row}
 use Rattle.cax64_sink.specs.Sink.{State}
 use Rattle.cax64_sink.specs.declared.DeferredTarget.{DeferredTarget}
@@ -10,7 +11,9 @@ use Rattle.cax64_sink.specs.declared.DeferredTarget.TheVariants as target
 use Rattle.cax64_sink.specs.declared.Label.{Label}
 use Rattle.cax64_sink.specs.declared.Notice.{Notice}
 use Rattle.x64_code_buffer.specs.Jump.{jump_parts, long_row, short_row}
-use Rattle.x64_code_buffer.specs.Laid.{Laid, Piece, open_jump, parts_in, reading_in, whole}
+use Rattle.x64_code_buffer.specs.Filled.{Filled, FilledBefore, places_told}
+use Rattle.x64_code_buffer.specs.Laid.{Laid, LaidBefore, LinesRead, Piece, open_jump, parts_in, reading_in, readings_in, whole}
+use Rattle.x64_code_buffer.specs.Use.{uses_of}
 use Rattle.x64_code_buffer.specs.declared.jump.Jump.{Jump}
 use Rattle.x64_code_buffer.specs.declared.jump.Jump.TheVariants.{Always, Call, If}
 use Rattle.x64_layout.specs.Layout.{IsLeast, place_in}
@@ -39,7 +42,8 @@ long_len Call = 5
 long_len Always = 5
 long_len (If condition) = 6
 
--- a jump to a label of the list has two lengths; a call, and a jump to another label, one
+-- a jump to a label of the list has two lengths; a call, and a jump to another label, one: the longer form's, even where the
+-- buffer has bound that label
 abbrev pub span_of : Jump → Option ℕ → Span
 span_of jump None = record { least = long_len jump; more = 0; spot = None }
 span_of Call (Some spot) = record { least = 5; more = 0; spot = None }
@@ -119,3 +123,22 @@ pub record Assembled {I : Type 0} (meant : I → Listed) (items : List (Item I))
   pub bound : (label spot : ℕ) → spot_of label items ≡ Some spot → new (target.Label (record { 0 = label })) ≡ Some (length before.bytes + place_in lens spot)
   pub others : (target : DeferredTarget) → IsNoLabelOf items target → new target ≡ old target
   pub length : length after.bytes ≡ length before.bytes + sum lens
+
+-- A buffer has got a list, whatever stood in it: behind its bytes those of one piece for each instruction and jump, which read
+-- so; behind what was told what each of these tells, in order; each label of the list is bound to the place of its spot, and no
+-- other binding changes; the lengths are the least. Whatever it was filled with or laid out in up to some place, it is still, but
+-- that the uses of the list are told besides.
+pub record PutsList {I : Type 0} (meant : I → Listed) (items : List (Item I)) (before after : State) (old new : DeferredTarget → Option ℕ) : Type 0 where
+  pub lens : List ℕ
+  pub least : IsLeast (spans_of (λ i. (meant i).len) items items) lens
+  pub pieces : List Piece
+  pub reads : EachReads meant lens items 0 items pieces
+  pub added : List ℕ
+  pub read : LinesRead (readings_in pieces) added
+  pub bytes : after.bytes ≡ before.bytes ++ added
+  pub told : after.notices ≡ before.notices ++ all_told meant items (length before.bytes) items pieces
+  pub bound : (label spot : ℕ) → spot_of label items ≡ Some spot → new (target.Label (record { 0 = label })) ≡ Some (length before.bytes + place_in lens spot)
+  pub others : (target : DeferredTarget) → IsNoLabelOf items target → new target ≡ old target
+  pub filled : (readings : List Reading) (n : ℕ) → Filled readings n before old → FilledBefore (places_told (uses_of (all_told meant items (length before.bytes) items pieces))) readings n after new
+  pub laid : (front : List Piece) (n : ℕ) → Laid front n before old → LaidBefore (places_told (uses_of (all_told meant items (length before.bytes) items pieces))) front n after new
+  pub length : length added ≡ sum lens

@@ -6,7 +6,7 @@ use Rattle.cax64_sink.specs.Sink.{State}
 use Rattle.cax64_sink.specs.declared.Label.{Label}
 use Rattle.cax64_sink.specs.declared.DeferredTarget.{DeferredTarget}
 use Rattle.cax64_sink.specs.declared.DeferredTarget.TheVariants as target
-use Rattle.x64_code_buffer.specs.Laid.{Laid, Piece}
+use Rattle.x64_code_buffer.specs.Laid.{Laid, LinesRead, Piece, readings_in}
 use Rattle.x64_layout.specs.Layout.{place_in}
 use Rattle.x64_assemble.specs.Assembled.{EachReads, IsNoLabelOf, all_told, entries, spot_of}
 use Rattle.x64_assemble.specs.Listed.{Listed}
@@ -38,7 +38,13 @@ AreFree given places items = (k : ℕ) (label : Label) → slice_get items k ≡
 
 -- A buffer has got the first items of a list, and has room for the others, and 13 bytes and a notice more.
 pub record Put {I : Type 0} (meant : I → Listed) (lens : List ℕ) (all done : List (Item I)) (s t : State) (old new : DeferredTarget → Option ℕ) : Type 0 where
-  pub laid : (pieces : List Piece) → Laid pieces (length s.bytes) s old → (more : List Piece) × EachReads meant lens all 0 done more × Laid (pieces ++ more) (length t.bytes) t new × (t.notices ≡ s.notices ++ all_told meant all (length s.bytes) done more)
+  pub more : List Piece
+  pub added : List ℕ
+  pub reads : EachReads meant lens all 0 done more
+  pub read : LinesRead (readings_in more) added
+  pub bytes : t.bytes ≡ s.bytes ++ added
+  pub told : t.notices ≡ s.notices ++ all_told meant all (length s.bytes) done more
+  pub laid : (pieces : List Piece) → Laid pieces (length s.bytes) s old → Laid (pieces ++ more) (length t.bytes) t new
   pub size : length t.bytes ≡ length s.bytes + place_in lens (entries done)
   pub bound : (label spot : ℕ) → spot_of label done ≡ Some spot → new (target.Label (record { 0 = label })) ≡ Some (length s.bytes + place_in lens spot)
   pub others : (target : DeferredTarget) → IsNoLabelOf done target → new target ≡ old target

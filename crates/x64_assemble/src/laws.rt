@@ -4,16 +4,15 @@ ghost use Rattle.std.specs.Prelude.{◌≡◌, ◌+◌, ℕ, pos, List, Some, le
 ghost use Rattle.cax64_machine_code.specs.Address.{modulo_64_bits};
 ghost use Rattle.cax64_sink.specs.Sink.{State};
 ghost use Rattle.cax64_sink.specs.declared.DeferredTarget.{DeferredTarget};
-ghost use Rattle.std.specs.Prelude.{Option, ℤ};
+ghost use Rattle.std.specs.Prelude.{Option};
 ghost use Rattle.x64_code_buffer.specs.Laid.{Piece, led_to};
 ghost use Rattle.x64_layout.specs.Layout.{place_in};
 ghost use Rattle.x64_assemble.specs.Assembled.{Assembled, distance_in, spot_of};
+ghost use Rattle.x64_assemble.specs.Listed.{Listed};
 ghost use Rattle.x64_assemble.specs.declared.item.Item.{Item};
-
-use crate::put_by::PutBy;
 
 /// A jump of a list to a label of the list leads to the place that the label is bound to: where the n-th entry ends, its
 /// distance added. It does nothing: its clause is the law.
-pub fn a_jump_leads_to_its_label<W: PutBy<I>, I>()
-    ensures { (offsets : ℕ → Option ℤ) (items : List (Item I)) (pieces : List Piece) (before after : State) (old new : DeferredTarget → Option ℕ) (put : Assembled (λ i. W.listed i offsets) items pieces before after old new) (n label spot : ℕ) → spot_of label items ≡ Some spot → led_to (Some (distance_in put.lens n spot)) (length before.bytes + place_in put.lens (n + 1)) ≡ option_map (λ place. modulo_64_bits (pos place)) (new (DeferredTarget.Label (record { 0 = label }))) }
+pub fn a_jump_leads_to_its_label<I>()
+    ensures { (meant : I → Listed) (items : List (Item I)) (pieces : List Piece) (before after : State) (old new : DeferredTarget → Option ℕ) (put : Assembled meant items pieces before after old new) (n label spot : ℕ) → spot_of label items ≡ Some spot → led_to (Some (distance_in put.lens n spot)) (length before.bytes + place_in put.lens (n + 1)) ≡ option_map (λ place. modulo_64_bits (pos place)) (new (DeferredTarget.Label (record { 0 = label }))) }
 {}

@@ -3,16 +3,15 @@
 
 mod assemble;
 mod binders;
+mod entry;
 mod errors;
 mod item;
 pub mod laws;
 mod message;
 mod put;
-mod put_by;
 mod spans;
 mod tested;
 
 pub use assemble::Layout;
 pub use errors::LayoutError;
 pub use item::Item;
-pub use put_by::{ByRow, PutBy};

@@ -5,15 +5,16 @@ ghost use Rattle.cax64_sink.specs.Room.{HasRoom};
 ghost use Rattle.x64_code_buffer.specs.Buffer.{buffer_state, label_count, places_of};
 ghost use Rattle.x64_layout.specs.Layout.{AreSpans, ArePlaces, IsLayout, Stands};
 ghost use Rattle.x64_assemble.specs.Assembled.{JumpReads, jump_told, span_of, spans_of};
-ghost use Rattle.x64_assemble.specs.Listed.{GotEntry};
+ghost use Rattle.x64_assemble.specs.Listed.{GotEntry, listed};
 ghost use Rattle.x64_assemble.specs.Putting.{AreBinders, AreFree, CanPut, Put};
 
 use crate::binders::{Binder, spot_in};
+use crate::entry;
 use crate::item::Item;
-use crate::put_by::PutBy;
 use cax64_sink::{DeferredTarget, Label};
 use std::alloc::Allocator;
 use x64_code_buffer::{CodeBuffer, Jump};
+use x64_encode::Encode;
 
 /// Puts a jump that is the n-th entry: by its distance to its spot, or open where the list doesn't bind its label.
 fn put_jump<B: Allocator>(
@@ -51,30 +52,30 @@ fn put_jump<B: Allocator>(
 }
 
 /// Puts the items of a list, which were tested and laid out, where there is room for all.
-pub(crate) fn put_items<W: PutBy<I>, I, B: Allocator>(
+pub(crate) fn put_items<I: Encode, B: Allocator>(
     items: &[Item<I>],
     binders: &[Binder],
     lens: &[u8],
     places: &[u32],
     buffer: &mut CodeBuffer<B>,
 )
-    requires can_put { CanPut (λ i. W.listed i (buffer_state buffer.old).offsets) items.now }
+    requires can_put { CanPut (λ i. listed (I.line_meant i) (buffer_state buffer.old).offsets) items.now }
     requires free { AreFree (label_count buffer.old) (places_of buffer.old) items.now }
     requires binders { AreBinders items.now binders.now }
-    requires spans { AreSpans (spans_of (λ i. (W.listed i (buffer_state buffer.old).offsets).len) items.now items.now) }
-    requires layout { IsLayout (spans_of (λ i. (W.listed i (buffer_state buffer.old).offsets).len) items.now items.now) lens.now }
+    requires spans { AreSpans (spans_of (λ i. (listed (I.line_meant i) (buffer_state buffer.old).offsets).len) items.now items.now) }
+    requires layout { IsLayout (spans_of (λ i. (listed (I.line_meant i) (buffer_state buffer.old).offsets).len) items.now items.now) lens.now }
     requires places { ArePlaces lens.now places.now }
     requires as_many { length places.now ≡ length lens.now + 1 }
     requires byte_room { HasRoom (buffer_state buffer.old).byte_room (13 + sum lens.now) }
     requires notice_room { HasRoom (buffer_state buffer.old).notice_room (1 + length items.now) }
-    ensures put { Put (λ i. W.listed i (buffer_state buffer.old).offsets) lens.now items.now items.now (buffer_state buffer.old) (buffer_state buffer.new) (places_of buffer.old) (places_of buffer.new) }
+    ensures put { Put (λ i. listed (I.line_meant i) (buffer_state buffer.old).offsets) lens.now items.now items.now (buffer_state buffer.old) (buffer_state buffer.new) (places_of buffer.old) (places_of buffer.new) }
     ensures labels { label_count buffer.new ≡ label_count buffer.old }
 {
     let mut n = 0;
     for item in items {
         match item {
             Item::Inst(inst) => {
-                W::put(inst, buffer);
+                entry::put(inst, buffer);
                 n += 1;
             }
             Item::Jump(jump, label) => {

@@ -4,16 +4,15 @@ use Rattle.std.proofs.lemmas.Bool.{cases_lt}
 use Rattle.std.proofs.lemmas.List.{length-append, take-append-le}
 use Rattle.cax64_address.specs.declared.amode.Amode.{Amode}
 use Rattle.cax64_address.specs.declared.amode.Amode.TheVariants.{ImmReg, ImmRegRegShift, RipRelative}
-use Rattle.cax64_encoder.specs.Instruction.{AddsInstruction}
-use Rattle.cax64_encoder.specs.Meant.{Meant}
-use Rattle.cax64_encoder.specs.Notices.{notices_of, trap_notice}
-use Rattle.cax64_encoder.specs.Relative.{ReadsRelative, relative_in, unsettled}
+use Rattle.cax64_encoder.specs.EncodesLine.{line_notices_of}
+use Rattle.cax64_encoder.specs.Notices.{memory_notices, trap_notice}
+use Rattle.cax64_encoder.specs.Relative.{relative_in, unsettled}
 use Rattle.cax64_machine_code.specs.Line.{imm_bytes}
-use Rattle.cax64_machine_code.specs.Reading.{Parts, read}
-use Rattle.cax64_machine_code.specs.ReadLine.{parts_as}
-use Rattle.cax64_machine_code.specs.Rows.{line_of}
+use Rattle.cax64_machine_code.specs.Reading.{PartsOf, read}
+use Rattle.cax64_machine_code.specs.ReadLine.{LineReading}
 use Rattle.cax64_machine_code.specs.Sequence.{read_all}
 use Rattle.cax64_machine_code.specs.declared.line.ImmField.{ImmField}
+use Rattle.cax64_machine_code.specs.declared.line.Line.{Line}
 use Rattle.cax64_machine_code.specs.declared.reading.Place.{Place}
 use Rattle.cax64_machine_code.specs.declared.reading.Place.TheVariants.{Reg, Mem, Rip}
 use Rattle.cax64_machine_code.specs.declared.reading.Reading.{Reading}
@@ -31,16 +30,18 @@ use Rattle.cax64_sink.specs.declared.DeferredTarget.{DeferredTarget}
 use Rattle.cax64_sink.specs.declared.DeferredTarget.TheVariants as target
 use Rattle.cax64_sink.specs.declared.Label.{Label}
 use Rattle.cax64_sink.specs.declared.Notice.{Notice}
+use Rattle.cax64_sink.specs.declared.Notice.TheVariants.{Target}
 use Rattle.cax64_sink.specs.declared.SinkError.{SinkError}
 use Rattle.cax64_sink.specs.declared.TrapCode.{TrapCode}
 use Rattle.x64_code_buffer.specs.Binding.{AddsBinding}
-use Rattle.x64_code_buffer.specs.Buffer.{StaysFilled, buffer_state, places_of}
-use Rattle.x64_code_buffer.specs.Filled.{imm_behind, field_place, Unpatched, ReadsEach, field_at, places_told}
-use Rattle.x64_code_buffer.specs.Laid.{Piece, whole, whole_pieces, PieceBegins, Laid, LaidOn}
+use Rattle.x64_code_buffer.specs.Buffer.{StaysBefore, StaysFilled, buffer_state, places_of}
+use Rattle.x64_code_buffer.specs.Filled.{Unpatched, ReadsEach, places_told}
+use Rattle.x64_code_buffer.specs.Laid.{Piece, whole, whole_pieces, line_field_at, line_field_place, line_imm_behind, PieceBegins, Laid, LaidOn}
 use Rattle.x64_code_buffer.specs.Use.{Use, uses_of}
 use Rattle.x64_code_buffer.specs.declared.buffer.CodeBuffer.{CodeBuffer}
 use Rattle.x64_code_buffer.proofs.Laying.{uses_more, laid_whole}
-use Rattle.x64_code_buffer.proofs.Pieces.{filled_is_laid, laid_is_filled, reads_by_line, same_field}
+use Rattle.x64_code_buffer.proofs.Pieces.{filled_is_laid, laid_is_filled}
+use Rattle.x64_encode.specs.Encode.{AddsMeant, LineMeant, ReadsRelativeBy}
 
 -- Unpatched places.
 
@@ -57,7 +58,7 @@ no_use : (trap : Option TrapCode) (at : ℕ) → uses_of (trap_notice trap at) �
 no_use None at = refl
 no_use (Some code) at = refl
 
-told_by : {M : Type 0} (memory : Option (Amode M)) (imm : ImmField) (place : Option Place) (at : ℕ) (r : Reading) → relative_in place ≡ unsettled memory imm → places_told (uses_of (notices_of memory at r)) ≡ field_at at r place
+told_by : {M : Type 0} (memory : Option (Amode M)) (imm : ImmField) (place : Option Place) (at : ℕ) (r : LineReading) → relative_in place ≡ unsettled memory imm → places_told (uses_of (line_notices_of memory at r)) ≡ line_field_at at r place
 told_by None imm None at r h = refl
 told_by None imm (Some (Reg view)) at r h = refl
 told_by None imm (Some (Mem base index disp)) at r h = refl
@@ -74,7 +75,7 @@ told_by (Some (RipRelative target)) imm None at r h = cc
 told_by (Some (RipRelative target)) imm (Some (Reg view)) at r h = cc
 told_by (Some (RipRelative target)) imm (Some (Mem b i disp)) at r h = cc
 told_by (Some (RipRelative target)) imm (Some (Rip disp)) at r h =
-    let e : at + (r.length - r.tail - imm_behind r) + 1 ≡ at + field_place r = omega arith in
+    let e : at + (r.length - r.tail - line_imm_behind r) + 1 ≡ at + line_field_place r = omega arith in
     ap (λ (n : ℕ). n ∷ []) e
 
 -- A buffer that stays laid out.
@@ -200,23 +201,6 @@ put_roomier acts pieces n s t r places only run h =
 
 -- An instruction that is put once there is room.
 
-pub adds_from : {M : Type 0} {m : Meant M} (s u t : State) → u.bytes ≡ s.bytes → u.notices ≡ s.notices → u.records ≡ s.records → AddsInstruction m u t → AddsInstruction m s t
-adds_from {m = m} s u t bytes notices records h =
-    let told : (if u.records then u.notices ++ notices_of m.memory (length u.bytes) h.reads.reading else u.notices) ≡ (if s.records then s.notices ++ notices_of m.memory (length s.bytes) h.reads.reading else s.notices) =
-    ap (λ (z : List ℕ). if u.records then u.notices ++ notices_of m.memory (length z) h.reads.reading else u.notices) bytes
-    ∙ ap (λ (z : List Notice). if u.records then z ++ notices_of m.memory (length s.bytes) h.reads.reading else z) notices
-    ∙ ap (λ (z : Bool). if z then s.notices ++ notices_of m.memory (length s.bytes) h.reads.reading else s.notices) records in
-    record {
-      added = h.added;
-      bytes = h.bytes ∙ ap (λ (z : List ℕ). z ++ h.added) bytes;
-      are_bytes = h.are_bytes;
-      reads = h.reads;
-      notices = h.notices ∙ told;
-      shortest = h.shortest;
-      length = h.length;
-      exact = h.exact;
-    }
-
 -- a room that is no smaller, and then falls by so many
 pub falls_after_none : (r q p : Room) (n : ℕ) → FallsBy r q 0 → FallsBy q p n → FallsBy r p n
 falls_after_none r q p n first second k h = second k (first (k + n) (less_room r (k + n) (k + n + 0) (omega arith) h))
@@ -225,19 +209,60 @@ pub if_ok : {E P Q : Type 0} (r : Result (Unit {0}) E) → (P → Q) → OnOk r 
 if_ok (Ok tt) f h = f h
 if_ok (Err e) f h = tt
 
-pub pushed : {M : Type 0} (m : Meant M) (pieces : List Piece) (s t : State) (old new : DeferredTarget → Option ℕ) → s.records ≡ true → ReadsRelative m → ((target : DeferredTarget) → new target ≡ old target) → Laid pieces (length s.bytes) s old → AddsInstruction m s t → LaidOn whole (parts_as (line_of m.parts.row) m.parts) pieces t new
-unfolding reads_by_line
-pushed m pieces s t old new records relative same h adds =
-    let r = adds.reads.reading in
-    let told : List Notice = notices_of m.memory (length s.bytes) r in
+pub meant_laid : {M : Type 0} (m : LineMeant M) (pieces : List Piece) (s t : State) (old new : DeferredTarget → Option ℕ) → s.records ≡ true → ((target : DeferredTarget) → new target ≡ old target) → ReadsRelativeBy m → Laid pieces (length s.bytes) s old → AddsMeant m s t → LaidOn whole m.parts pieces t new
+meant_laid m pieces s t old new records same relative h adds =
+    let reads = adds.reads in
+    let r : LineReading = reads.reading in
+    let told : List Notice = line_notices_of m.memory (length s.bytes) r in
     let notices : t.notices ≡ s.notices ++ told = adds.notices ∙ ap (λ (z : Bool). if z then s.notices ++ told else s.notices) records in
-    let row : r.row ≡ m.parts.row = ap (λ (p : Parts). p.row) adds.reads.same in
-    let place : r.place ≡ m.parts.place = ap (λ (p : Parts). p.place) adds.reads.same in
-    let is : relative_in r.place ≡ unsettled m.memory (line_of r.row).imm = ap relative_in place ∙ relative ∙ ap (λ z. unsettled m.memory (line_of z).imm) (sym row) in
-    laid_whole (parts_as (line_of m.parts.row) m.parts) pieces s t old new adds.added told (reads_by_line m.parts adds.added adds.reads) adds.bytes notices
-    (told_by m.memory (line_of r.row).imm r.place (length s.bytes) r is ∙ same_field (length s.bytes) r r.place)
-    (unpatched_by m.memory (line_of r.row).imm r.place is) same h
+    let line : r.line ≡ m.parts.row = ap (λ (p : PartsOf Line). p.row) reads.same in
+    let place : r.place ≡ m.parts.place = ap (λ (p : PartsOf Line). p.place) reads.same in
+    let is : relative_in r.place ≡ unsettled m.memory r.line.imm = ap relative_in place ∙ relative ∙ ap (λ (l : Line). unsettled m.memory l.imm) (sym line) in
+    laid_whole m.parts pieces s t old new adds.added told reads adds.bytes notices
+    (told_by m.memory r.line.imm r.place (length s.bytes) r is)
+    (unpatched_by m.memory r.line.imm r.place is) same h
+
+-- it has a notice at most
+pub few_notices : {M : Type 0} (memory : Option (Amode M)) → memory_notices memory ≤ 1
+few_notices None = omega arith
+few_notices (Some (ImmReg base simm32 None)) = omega arith
+few_notices (Some (ImmReg base simm32 (Some code))) = omega arith
+few_notices (Some (ImmRegRegShift base index scale simm32 None)) = omega arith
+few_notices (Some (ImmRegRegShift base index scale simm32 (Some code))) = omega arith
+few_notices (Some (RipRelative target)) = omega arith
+
+-- and thirteen bytes
+pub few_bytes : {M : Type 0} (m : LineMeant M) (s t : State) → AddsMeant m s t → m.len ≤ 13
+few_bytes m s t adds = omega (arith, adds.length, adds.reads.length, adds.reads.most)
 
 pub on_err : {E P : Type 0} (r : Result (Unit {0}) E) → P → OnErr r P
 on_err (Ok tt) h = tt
 on_err (Err e) h = h
+
+-- A use that is told behind the others, where nothing is put.
+
+told_last : (records : Bool) (s t : State) (at : ℕ) (goes_to : DeferredTarget) → records ≡ true → t.notices ≡ (if records then s.notices ++ Target at goes_to ∷ [] else s.notices) → places_told (uses_of t.notices) ≡ places_told (uses_of s.notices) ++ at ∷ []
+told_last true s t at goes_to is h = ap (λ (z : List Notice). places_told (uses_of z)) h ∙ uses_more s.notices (Target at goes_to ∷ [])
+told_last false s t at goes_to is h = cc
+
+pub stays_before : {A : Type 0} (old new : CodeBuffer A) (at : ℕ) (goes_to : DeferredTarget) → (buffer_state old).records ≡ true → (buffer_state new).bytes ≡ (buffer_state old).bytes → (buffer_state new).notices ≡ (if (buffer_state old).records then (buffer_state old).notices ++ Target at goes_to ∷ [] else (buffer_state old).notices) → ((target : DeferredTarget) → places_of new target ≡ places_of old target) → StaysBefore (at ∷ []) old new
+stays_before old new at goes_to records bytes notices same =
+    let s : State = buffer_state old in
+    let t : State = buffer_state new in
+    let told : places_told (uses_of t.notices) ≡ places_told (uses_of s.notices) ++ at ∷ [] = told_last s.records s t at goes_to records notices in
+    record {
+      filled = λ readings n h. record {
+        within = rw bytes h.within;
+        reads = rw bytes h.reads;
+        unpatched = h.unpatched;
+        told = told ∙ ap (λ (z : List ℕ). z ++ at ∷ []) h.told;
+        bound = λ target place e. rw bytes (h.bound target place (sym (same target) ∙ e));
+      };
+      laid = λ pieces n h. record {
+        within = rw bytes h.within;
+        reads = rw bytes h.reads;
+        opened = h.opened;
+        told = told ∙ ap (λ (z : List ℕ). z ++ at ∷ []) h.told;
+        bound = λ target place e. rw bytes (h.bound target place (sym (same target) ∙ e));
+      };
+    }

@@ -33,7 +33,7 @@ last_read a b r none reads len least =
     let left : drop r.length b ≡ [] = ap (λ (n : ℕ). drop n b) len ∙ nothing_left b in
     rw (none, all) (reads, least, omega arith, left)
 
-pieces_more : (ps : List Piece) (p : Piece) (a b : List ℕ) → LinesRead (readings_in ps) a → ((rest : List ℕ) → read_line (reading_in p).line (b ++ rest) ≡ Some (reading_in p)) → (reading_in p).length ≡ length b → 1 ≤ (reading_in p).length → LinesRead (readings_in (ps ++ p ∷ [])) (a ++ b)
+pub pieces_more : (ps : List Piece) (p : Piece) (a b : List ℕ) → LinesRead (readings_in ps) a → ((rest : List ℕ) → read_line (reading_in p).line (b ++ rest) ≡ Some (reading_in p)) → (reading_in p).length ≡ length b → 1 ≤ (reading_in p).length → LinesRead (readings_in (ps ++ p ∷ [])) (a ++ b)
 pieces_more [] p a b h reads len least = last_read a b (reading_in p) h reads len least
 pieces_more (q ∷ ps) p a b h reads len least =
     let n = (reading_in q).length in
@@ -96,7 +96,7 @@ laid_more p ps s t old new added told reads size least opened bytes notices fiel
 line_is : (meant : PartsOf Line) (added : List ℕ) (reads : ReadsLineAs meant added) → reads.reading.line ≡ meant.row
 line_is meant added reads = ap (λ (p : PartsOf Line). p.row) reads.same
 
-reads_itself : (meant : PartsOf Line) (added : List ℕ) (reads : ReadsLineAs meant added) (rest : List ℕ) → read_line reads.reading.line (added ++ rest) ≡ Some reads.reading
+pub reads_itself : (meant : PartsOf Line) (added : List ℕ) (reads : ReadsLineAs meant added) (rest : List ℕ) → read_line reads.reading.line (added ++ rest) ≡ Some reads.reading
 reads_itself meant added reads rest = ap (λ (l : Line). read_line l (added ++ rest)) (line_is meant added reads) ∙ reads.reads rest
 
 -- An instruction that reads as it is meant, whose relative place is unpatched and told.

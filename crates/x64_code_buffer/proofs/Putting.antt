@@ -2,7 +2,7 @@ use Rattle.std.proofs.Common.{◌≡◌, ℕ, ◌+◌, ◌≤◌, arith, refl, �
 use Rattle.std.proofs.lemmas.List.{length-take-le, take-append-le, take-take}
 use Rattle.std.specs.Prelude.{if◌then◌else◌, is_ok, IsErr, IsOk, OnErr, OnOk}
 use Rattle.cax64_sink.proofs.Rooms.{falls_by_none, less_room}
-use Rattle.cax64_sink.specs.Call.{Action, Step, put}
+use Rattle.cax64_sink.specs.Call.{Action, Step, bytes_of, notice_of, put}
 use Rattle.cax64_sink.specs.Room.{FallsBy, HasRoom, Room}
 use Rattle.cax64_sink.specs.Sink.{State}
 use Rattle.cax64_sink.specs.declared.Notice.{Notice}
@@ -118,3 +118,12 @@ if_err P (Err e) h = h e refl
 
 pub step_refused : (act : Action) (s t : State) (r : Result (Unit {0}) SinkError) (e : SinkError) → r ≡ Err e → Step act s t r → (t.bytes ≡ s.bytes) × (t.notices ≡ s.notices)
 step_refused act s t r e is step = let f : Step act s t (Err e) = rw is at step in (f.bytes, f.notices)
+
+-- and one that wasn't
+
+pub if_ok_is : {E : Type 0} (P : Type 0) (r : Result (Unit {0}) E) → (r ≡ Ok tt → P) → OnOk r P
+if_ok_is P (Ok tt) h = h refl
+if_ok_is P (Err e) h = tt
+
+pub step_taken : (act : Action) (s t : State) (r : Result (Unit {0}) SinkError) → r ≡ Ok tt → Step act s t r → (t.bytes ≡ s.bytes ++ bytes_of act) × (t.notices ≡ (if s.records then s.notices ++ notice_of act (length s.bytes) else s.notices))
+step_taken act s t r is step = let f : Step act s t (Ok tt) = rw is at step in (f.bytes, f.notices)

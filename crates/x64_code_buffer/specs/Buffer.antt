@@ -8,8 +8,8 @@ use Rattle.cax64_sink.specs.Sink.{State}
 use Rattle.cax64_sink.specs.declared.DeferredTarget.{DeferredTarget}
 use Rattle.x64_code_buffer.specs.Binding.{SamePlaces, place_bound}
 use Rattle.x64_code_buffer.specs.Label.{spare_labels}
-use Rattle.x64_code_buffer.specs.Filled.{Filled}
-use Rattle.x64_code_buffer.specs.Laid.{Piece, Laid}
+use Rattle.x64_code_buffer.specs.Filled.{Filled, FilledBefore}
+use Rattle.x64_code_buffer.specs.Laid.{Piece, Laid, LaidBefore}
 use Rattle.x64_code_buffer.specs.declared.buffer.CodeBuffer.{CodeBuffer}
 
 -- it as a sink
@@ -46,6 +46,12 @@ keeps_labels_on a b c h k = record {
 pub record StaysFilled {A : Type 0} (old new : CodeBuffer A) : Type 0 where
   pub filled : (readings : List Reading) (n : ℕ) → Filled readings n (buffer_state old) (places_of old) → Filled readings n (buffer_state new) (places_of new)
   pub laid : (pieces : List Piece) (n : ℕ) → Laid pieces n (buffer_state old) (places_of old) → Laid pieces n (buffer_state new) (places_of new)
+
+-- With whatever the old one was filled, the new one is but that uses at these places are told besides; and so of the pieces
+-- that it was laid out in.
+pub record StaysBefore {A : Type 0} (more : List ℕ) (old new : CodeBuffer A) : Type 0 where
+  pub filled : (readings : List Reading) (n : ℕ) → Filled readings n (buffer_state old) (places_of old) → FilledBefore more readings n (buffer_state new) (places_of new)
+  pub laid : (pieces : List Piece) (n : ℕ) → Laid pieces n (buffer_state old) (places_of old) → LaidBefore more pieces n (buffer_state new) (places_of new)
 
 -- Bytes, notices and offsets are as before, and the rooms no smaller.
 pub record AsBefore (old new : State) : Type 0 where

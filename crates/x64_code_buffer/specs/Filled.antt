@@ -67,6 +67,14 @@ pub record Filled (readings : List Reading) (n : ℕ) (s : State) (places : Defe
   pub told : places_told (uses_of s.notices) ≡ fields_from 0 readings
   pub bound : (target : DeferredTarget) (place : ℕ) → places target ≡ Some place → (Begins 0 readings place ⊎ (n ≤ place)) × (place ≤ length s.bytes)
 
+-- It is so but that uses at these places are told besides, behind the others.
+pub record FilledBefore (more : List ℕ) (readings : List Reading) (n : ℕ) (s : State) (places : DeferredTarget → Option ℕ) : Type 0 where
+  pub within : n ≤ length s.bytes
+  pub reads : ReadsEach readings (take n s.bytes)
+  pub unpatched : EachUnpatched readings
+  pub told : places_told (uses_of s.notices) ≡ fields_from 0 readings ++ more
+  pub bound : (target : DeferredTarget) (place : ℕ) → places target ≡ Some place → (Begins 0 readings place ⊎ (n ≤ place)) × (place ≤ length s.bytes)
+
 -- It is filled to its end with one reading more, of what is meant.
 pub record FilledOn (meant : Parts) (readings : List Reading) (s : State) (places : DeferredTarget → Option ℕ) : Type 0 where
   pub reading : Reading

@@ -95,6 +95,14 @@ pub record Laid (pieces : List Piece) (n : ℕ) (s : State) (places : DeferredTa
   pub told : places_told (uses_of s.notices) ≡ piece_fields 0 pieces
   pub bound : (target : DeferredTarget) (place : ℕ) → places target ≡ Some place → (PieceBegins 0 pieces place ⊎ (n ≤ place)) × (place ≤ length s.bytes)
 
+-- It is so but that uses at these places are told besides, behind the others.
+pub record LaidBefore (more : List ℕ) (pieces : List Piece) (n : ℕ) (s : State) (places : DeferredTarget → Option ℕ) : Type 0 where
+  pub within : n ≤ length s.bytes
+  pub reads : LinesRead (readings_in pieces) (take n s.bytes)
+  pub opened : EachOpen pieces
+  pub told : places_told (uses_of s.notices) ≡ piece_fields 0 pieces ++ more
+  pub bound : (target : DeferredTarget) (place : ℕ) → places target ≡ Some place → (PieceBegins 0 pieces place ⊎ (n ≤ place)) × (place ≤ length s.bytes)
+
 -- It is laid out to its end with one piece more, which reads as what is meant.
 pub record LaidOn (kind : LineReading → Piece) (meant : PartsOf Line) (pieces : List Piece) (s : State) (places : DeferredTarget → Option ℕ) : Type 0 where
   pub reading : LineReading

@@ -84,6 +84,8 @@ impl<A: Allocator> CodeBuffer<A> {
     /// the rest. Where the number of bytes is a multiple already, nothing is put.
     ///
     /// It makes room for them first, as [`reserve`](Self::reserve) does, so a refusal leaves all as it was but the rooms.
+    ///
+    /// The power has to be below 64. Where it isn't, a build that wasn't proved may fill up to another multiple, or abort.
     pub fn align(&mut self, power: u8) -> Result<(), SinkError>
         requires { power < 64 }
         ensures multiple { OnOk result (length (buffer_state self.new).bytes % 2 ^ power ≡ 0) }

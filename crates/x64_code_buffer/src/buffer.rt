@@ -3,8 +3,8 @@
 ghost use Rattle.std.specs.Prelude.{◌≡◌, ◌↔◌, refl, ◌+◌, ◌⊎◌, ◌≤◌, ℕ, [], Some, None, Ok, Err, IsOk, IsTrue, List, ◌∷◌, IfOk, IfErr, OnOk, OnErr, All, MatchOption, if◌then◌else◌, is_ok, length, slice_index, take};
 ghost use Rattle.std.specs.Int.{to_le_bytes, w16, w32, w64};
 ghost use Rattle.cax64_encoder.specs.EncodeError.{fault_found, IfRefused, NotRefused, OnFault};
-ghost use Rattle.cax64_encoder.specs.Instruction.{can_encode_in, fault_in, len_in, notices_in, Adds};
 ghost use Rattle.cax64_machine_code.specs.ReadLine.{parts_as};
+ghost use Rattle.cax64_machine_code.specs.Reading.{Parts};
 ghost use Rattle.cax64_machine_code.specs.Rows.{line_of};
 ghost use Rattle.cax64_machine_code.specs.declared.reading.Reading.{Reading};
 ghost use Rattle.cax64_sink.specs.Call.{Step, put, trap, target};
@@ -17,17 +17,18 @@ ghost use Rattle.cax64_sink.specs.Run.{Ran};
 ghost use Rattle.cax64_sink.specs.declared.DeferredTarget.{DeferredTarget};
 ghost use Rattle.cax64_sink.specs.declared.SinkError.{SinkError};
 ghost use Rattle.x64_code_buffer.specs.declared.errors.BindError.{BindError};
+ghost use Rattle.x64_encode.specs.Encode.{ReadsRelativeBy, can_encode_by, fault_by, len_by, notices_by};
 
 use crate::bindings::Bindings;
 use crate::errors::{BindError, FinishError};
 use crate::resolve::resolve_uses;
 use crate::room::make_room;
 use cax64_encoder::EncodeError;
-use cax64_encoder::instruction::Instruction;
 use cax64_sink::{
     CodeSink, Constant, DeferredTarget, KnownOffset, Label, Notice, Recorder, SinkError, TrapCode,
 };
 use std::alloc::Allocator;
+use x64_encode::Encode;
 
 /// A recording sink that knows labels and constants.
 #[derive(Drop)]
@@ -181,25 +182,26 @@ impl<A: Allocator> CodeBuffer<A> {
     /// put yet it asks for 64, and later for twice its room; where these are refused it does with thirteen. Takes constant
     /// time, over many instructions.
     ///
-    /// The instruction has to be encodable for the offsets that are set, as [`is_encodable`](Instruction::is_encodable)
+    /// The instruction has to be encodable for the offsets that are set, as [`is_encodable`](Encode::is_encodable)
     /// tells. Where it isn't, a build that wasn't proved may put a wrong instruction and answer Ok, or abort.
     /// [`push_checked`](Self::push_checked) tests first, and has no condition.
-    pub fn push<I: Instruction>(&mut self, inst: &I) -> Result<(), SinkError>
-        requires { IsTrue (can_encode_in (buffer_state self.old) (I.meant inst.now)) }
-        ensures adds { OnOk result (Adds (I.meant inst.now) (buffer_state self.old) (buffer_state self.new)) }
+    pub fn push<I: Encode>(&mut self, inst: &I) -> Result<(), SinkError>
+        requires { IsTrue (can_encode_by (buffer_state self.old) (I.line_meant inst.now)) }
+        ensures adds { OnOk result (I.adds inst.now (buffer_state self.old) (buffer_state self.new)) }
         ensures unchanged { OnErr result (AsBefore (buffer_state self.old) (buffer_state self.new)) }
         ensures error { IfErr result (λ e. e ≡ SinkError.NoMemory) }
         ensures enough { HasRoom (buffer_state self.old).byte_room 13 → HasRoom (buffer_state self.old).notice_room 1 → IsOk result }
-        ensures byte_room { FallsBy (buffer_state self.old).byte_room (buffer_state self.new).byte_room (len_in (buffer_state self.old) (I.meant inst.now)) }
-        ensures notice_room { FallsBy (buffer_state self.old).notice_room (buffer_state self.new).notice_room (notices_in (buffer_state self.old) (I.meant inst.now)) }
-        ensures most_bytes { OnOk result (len_in (buffer_state self.old) (I.meant inst.now) ≤ 13) }
-        ensures most_notices { notices_in (buffer_state self.old) (I.meant inst.now) ≤ 1 }
+        ensures byte_room { FallsBy (buffer_state self.old).byte_room (buffer_state self.new).byte_room (len_by (buffer_state self.old) (I.line_meant inst.now)) }
+        ensures notice_room { FallsBy (buffer_state self.old).notice_room (buffer_state self.new).notice_room (notices_by (buffer_state self.old) (I.line_meant inst.now)) }
+        ensures most_bytes { OnOk result (len_by (buffer_state self.old) (I.line_meant inst.now) ≤ 13) }
+        ensures most_notices { notices_by (buffer_state self.old) (I.line_meant inst.now) ≤ 1 }
+        ensures relative { OnOk result (ReadsRelativeBy (I.line_meant inst.now (buffer_state self.old).offsets)) }
         ensures keeps { Keeps (buffer_state self.old) (buffer_state self.new) }
         ensures labels { label_count self.new ≡ label_count self.old }
         ensures label_room { label_room self.new ≡ label_room self.old }
         ensures places { SamePlaces (places_of self.old) (places_of self.new) }
-        ensures filled { let meant = (I.meant inst.now (buffer_state self.old).offsets).parts in (readings : List Reading) → Filled readings (length (buffer_state self.old).bytes) (buffer_state self.old) (places_of self.old) → OnOk result (FilledOn meant readings (buffer_state self.new) (places_of self.new)) }
-        ensures laid { let meant = (I.meant inst.now (buffer_state self.old).offsets).parts in (pieces : List Piece) → Laid pieces (length (buffer_state self.old).bytes) (buffer_state self.old) (places_of self.old) → OnOk result (LaidOn whole (parts_as (line_of meant.row) meant) pieces (buffer_state self.new) (places_of self.new)) }
+        ensures filled { (meant : Parts) → (I.line_meant inst.now (buffer_state self.old).offsets).parts ≡ parts_as (line_of meant.row) meant → (readings : List Reading) → Filled readings (length (buffer_state self.old).bytes) (buffer_state self.old) (places_of self.old) → OnOk result (FilledOn meant readings (buffer_state self.new) (places_of self.new)) }
+        ensures laid { (pieces : List Piece) → Laid pieces (length (buffer_state self.old).bytes) (buffer_state self.old) (places_of self.old) → OnOk result (LaidOn whole (I.line_meant inst.now (buffer_state self.old).offsets).parts pieces (buffer_state self.new) (places_of self.new)) }
         ensures refused { OnErr result (StaysFilled self.old self.new) }
     {
         make_room(&mut self.recorder, &mut self.is_fresh)?;
@@ -209,23 +211,23 @@ impl<A: Allocator> CodeBuffer<A> {
     /// Tests an instruction, for the offsets that are set, and puts it as [`push`](Self::push) does.
     ///
     /// The test comes before room is made, so that at a fault all is as it was. A refusal leaves what that of `push` leaves.
-    pub fn push_checked<I: Instruction>(&mut self, inst: &I) -> Result<(), EncodeError>
-        ensures fault { fault_found result ≡ fault_in (buffer_state self.old) (I.meant inst.now) }
+    pub fn push_checked<I: Encode>(&mut self, inst: &I) -> Result<(), EncodeError>
+        ensures fault { fault_found result ≡ fault_by (buffer_state self.old) (I.line_meant inst.now) }
         ensures untouched { OnFault result (self.new ≡ self.old) }
-        ensures adds { OnOk result (Adds (I.meant inst.now) (buffer_state self.old) (buffer_state self.new)) }
+        ensures adds { OnOk result (I.adds inst.now (buffer_state self.old) (buffer_state self.new)) }
         ensures unchanged { OnErr result (AsBefore (buffer_state self.old) (buffer_state self.new)) }
         ensures error { IfRefused result (λ e. e ≡ SinkError.NoMemory) }
         ensures enough { HasRoom (buffer_state self.old).byte_room 13 → HasRoom (buffer_state self.old).notice_room 1 → NotRefused result }
-        ensures byte_room { FallsBy (buffer_state self.old).byte_room (buffer_state self.new).byte_room (len_in (buffer_state self.old) (I.meant inst.now)) }
-        ensures notice_room { FallsBy (buffer_state self.old).notice_room (buffer_state self.new).notice_room (notices_in (buffer_state self.old) (I.meant inst.now)) }
-        ensures most_bytes { OnOk result (len_in (buffer_state self.old) (I.meant inst.now) ≤ 13) }
-        ensures most_notices { notices_in (buffer_state self.old) (I.meant inst.now) ≤ 1 }
+        ensures byte_room { FallsBy (buffer_state self.old).byte_room (buffer_state self.new).byte_room (len_by (buffer_state self.old) (I.line_meant inst.now)) }
+        ensures notice_room { FallsBy (buffer_state self.old).notice_room (buffer_state self.new).notice_room (notices_by (buffer_state self.old) (I.line_meant inst.now)) }
+        ensures most_bytes { OnOk result (len_by (buffer_state self.old) (I.line_meant inst.now) ≤ 13) }
+        ensures most_notices { notices_by (buffer_state self.old) (I.line_meant inst.now) ≤ 1 }
         ensures keeps { Keeps (buffer_state self.old) (buffer_state self.new) }
         ensures labels { label_count self.new ≡ label_count self.old }
         ensures label_room { label_room self.new ≡ label_room self.old }
         ensures places { SamePlaces (places_of self.old) (places_of self.new) }
-        ensures filled { let meant = (I.meant inst.now (buffer_state self.old).offsets).parts in (readings : List Reading) → Filled readings (length (buffer_state self.old).bytes) (buffer_state self.old) (places_of self.old) → OnOk result (FilledOn meant readings (buffer_state self.new) (places_of self.new)) }
-        ensures laid { let meant = (I.meant inst.now (buffer_state self.old).offsets).parts in (pieces : List Piece) → Laid pieces (length (buffer_state self.old).bytes) (buffer_state self.old) (places_of self.old) → OnOk result (LaidOn whole (parts_as (line_of meant.row) meant) pieces (buffer_state self.new) (places_of self.new)) }
+        ensures filled { (meant : Parts) → (I.line_meant inst.now (buffer_state self.old).offsets).parts ≡ parts_as (line_of meant.row) meant → (readings : List Reading) → Filled readings (length (buffer_state self.old).bytes) (buffer_state self.old) (places_of self.old) → OnOk result (FilledOn meant readings (buffer_state self.new) (places_of self.new)) }
+        ensures laid { (pieces : List Piece) → Laid pieces (length (buffer_state self.old).bytes) (buffer_state self.old) (places_of self.old) → OnOk result (LaidOn whole (I.line_meant inst.now (buffer_state self.old).offsets).parts pieces (buffer_state self.new) (places_of self.new)) }
         ensures refused { OnErr result (StaysFilled self.old self.new) }
     {
         // Where there is room already, as mostly, test and code are made at once.
@@ -336,7 +338,7 @@ impl<A: Allocator + Clone> CodeBuffer<A> {
 
 impl<A: Allocator> CodeSink for CodeBuffer<A> {
     ghost use Rattle.x64_code_buffer.specs.Binding.{SamePlaces};
-    ghost use Rattle.x64_code_buffer.specs.Buffer.{KeepsLabels, StaysFilled, buffer_state, keeps_labels_on, label_count, label_room, places_of};
+    ghost use Rattle.x64_code_buffer.specs.Buffer.{KeepsLabels, StaysBefore, StaysFilled, buffer_state, keeps_labels_on, label_count, label_room, places_of};
 
     ghost state = { buffer_state };
 
@@ -432,6 +434,7 @@ impl<A: Allocator> CodeSink for CodeBuffer<A> {
         ensures labels { label_count self.new ≡ label_count self.old }
         ensures label_room { label_room self.new ≡ label_room self.old }
         ensures places { SamePlaces (places_of self.old) (places_of self.new) }
+        ensures filled { OnOk result (StaysBefore (length (buffer_state self.old).bytes ∷ []) self.old self.new) }
         ensures refused { OnErr result (StaysFilled self.old self.new) }
     {
         self.recorder.use_target(place)

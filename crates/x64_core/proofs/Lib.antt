@@ -5,3 +5,4 @@ pub mod Forms
 pub mod Reals
 pub mod Runs
 pub mod Renames
+pub mod RowLines

@@ -10,6 +10,7 @@ use Rattle.cax64_table.specs.Entry.{is_entry}
 use Rattle.cax64_table.specs.Packed.{unpacked}
 use Rattle.x64_core.specs.Lines.{core_lines, arithmetic_lines, moves_lines, multiplication_lines, shifts_lines, conditions_lines, control_lines, bits_lines, scalar_lines}
 use Rattle.x64_core.specs.Line.{core_line, no_line}
+use Rattle.x64_core.specs.Flags.{flags_fit, flags_of}
 use Rattle.x64_core.specs.Kinds.{kinds_fit, kinds_of, span_of}
 use Rattle.x64_core.specs.Shape.{has_shape, shape_of}
 use Rattle.x64_core.specs.declared.heads.TheConstants.{HEADS}
@@ -87,6 +88,13 @@ kinds_are = refl
 
 pub kind_is : (n : ℕ) → n < COUNT → kinds_fit (core_line n) (kinds_of n) ≡ true
 kind_is n h = agree_below_at (λ n. kinds_fit (core_line n) (kinds_of n)) (λ _. true) COUNT n kinds_are h
+
+-- each line's sets of flags are apart
+flags_are : agree_below (λ n. flags_fit (flags_of n)) (λ _. true) COUNT ≡ true
+flags_are = refl
+
+pub flag_is : (n : ℕ) → n < COUNT → flags_fit (flags_of n) ≡ true
+flag_is n h = agree_below_at (λ n. flags_fit (flags_of n)) (λ _. true) COUNT n flags_are h
 
 -- no two lines read the same bytes
 pub lines_apart : each_two core_lines ≡ true

@@ -1,7 +1,6 @@
 use Rattle.std.proofs.Common.{◌≡◌, ℕ, refl, sym, ap, ◌∙◌}
 use Rattle.cax64_encoder.specs.Numbered.{plain, numbered_place}
 use Rattle.cax64_encoder.specs.declared.role.PlaceOperand.{PlaceOperand}
-use Rattle.cax64_place.specs.Code.{placed_form}
 use Rattle.cax64_place.specs.Operand as flat
 use Rattle.cax64_place.specs.declared.place.DataPlace.{DataPlace}
 use Rattle.cax64_place.specs.declared.place.PlaceKind.{PlaceKind}

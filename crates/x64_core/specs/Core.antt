@@ -17,15 +17,7 @@ use Rattle.cax64_machine_code.specs.declared.line.Line.{Line}
 use Rattle.cax64_machine_code.specs.declared.reading.RegView.TheVariants.{Low}
 use Rattle.x64_core.specs.Line.{core_line}
 use Rattle.x64_core.specs.View.{CoreView}
-
--- What is meant by a line and operands, for the offsets that a sink knows.
-pub record LineMeant (M : Type 0) : Type 0 where
-  -- what its bytes are to read as
-  pub parts : PartsOf Line
-  -- its memory operand
-  pub memory : Option (Amode M)
-  -- its registers in the order of faults
-  pub visited : List Visited
+use Rattle.x64_encode.specs.Encode.{LineMeant}
 
 -- The registers of an instruction of the core, in the order in which faults are counted: reg, vvvv, the register of the
 -- place or its base and its index.
@@ -47,18 +39,23 @@ place_visited (operand.TheVariants.Memory amode) = amode_visited amode
 abbrev pub visited_of : CoreView → List Visited
 visited_of v = register_before v.reg (register_before v.vvvv (place_visited v.place))
 
--- What an instruction of the core means: each number where it stands, the displacement with the late offset added.
+-- What its bytes are to read as: each number where it stands, the displacement with the late offset added.
+abbrev pub core_parts : CoreView → (ℕ → Option ℤ) → PartsOf Line
+core_parts v offsets = record {
+  row = core_line v.op;
+  reg = option_map Low v.reg;
+  vvvv = v.vvvv;
+  place = place_read (λ number. number) (displacement_in offsets v.place) (imm_bytes (core_line v.op).imm) v.place;
+  imm = v.imm;
+}
+
+-- What an instruction of the core means.
 abbrev pub core_meant : CoreView → (ℕ → Option ℤ) → LineMeant ℕ
 core_meant v offsets = record {
-  parts = record {
-    row = core_line v.op;
-    reg = option_map Low v.reg;
-    vvvv = v.vvvv;
-    place = place_read (λ number. number) (displacement_in offsets v.place) (imm_bytes (core_line v.op).imm) v.place;
-    imm = v.imm;
-  };
+  parts = core_parts v offsets;
   memory = memory_in v.place;
   visited = visited_of v;
+  len = line_len (core_line v.op) (core_parts v offsets);
 }
 
 -- Whether it can be encoded for a sink that knows these offsets, why not, how many bytes and notices it has: as of any
@@ -71,7 +68,7 @@ abbrev pub fault_of : (ℕ → Option ℤ) → CoreView → Option Fault
 fault_of offsets v = fault.first_fault offsets (core_meant v offsets).visited (core_meant v offsets).memory
 
 abbrev pub core_len : (ℕ → Option ℤ) → CoreView → ℕ
-core_len offsets v = line_len (core_line v.op) (core_meant v offsets).parts
+core_len offsets v = (core_meant v offsets).len
 
 abbrev pub core_notices : CoreView → ℕ
 core_notices v = memory_notices (memory_in v.place)

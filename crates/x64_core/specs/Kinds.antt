@@ -8,7 +8,7 @@ use Rattle.x64_core.specs.declared.kind_lists.TheConstants.{KINDS}
 use Rattle.x64_core.specs.declared.kind_spans.Span.{Span}
 use Rattle.x64_core.specs.declared.kind_spans.TheConstants.{SPANS}
 use Rattle.x64_core.specs.declared.kinds.Home.{Home}
-use Rattle.x64_core.specs.declared.kinds.Home.TheVariants.{Reg, Vvvv, Place, Fixed, Imm}
+use Rattle.x64_core.specs.declared.kinds.Home.TheVariants.{Reg, Vvvv, Place, Fixed, Imm, Stack}
 use Rattle.x64_core.specs.declared.kinds.Kind.{Kind}
 
 -- The operands of a line.
@@ -27,6 +27,7 @@ is_reg Vvvv = false
 is_reg Place = false
 is_reg (Fixed number) = false
 is_reg Imm = false
+is_reg Stack = false
 
 abbrev pub is_vvvv : Home → Bool
 is_vvvv Reg = false
@@ -34,6 +35,7 @@ is_vvvv Vvvv = true
 is_vvvv Place = false
 is_vvvv (Fixed number) = false
 is_vvvv Imm = false
+is_vvvv Stack = false
 
 abbrev pub is_place : Home → Bool
 is_place Reg = false
@@ -41,6 +43,15 @@ is_place Vvvv = false
 is_place Place = true
 is_place (Fixed number) = false
 is_place Imm = false
+is_place Stack = false
+
+abbrev pub is_stack : Home → Bool
+is_stack Reg = false
+is_stack Vvvv = false
+is_stack Place = false
+is_stack (Fixed number) = false
+is_stack Imm = false
+is_stack Stack = true
 
 abbrev pub imm_bits : Home → ℕ → ℕ
 imm_bits Reg bits = 0
@@ -48,15 +59,18 @@ imm_bits Vvvv bits = 0
 imm_bits Place bits = 0
 imm_bits (Fixed number) bits = 0
 imm_bits Imm bits = bits
+imm_bits Stack bits = 0
 
 abbrev pub bits_in : List Kind → ℕ
 bits_in [] = 0
 bits_in (kind ∷ kinds) = imm_bits kind.home kind.bits + bits_in kinds
 
--- operands are one for each place where the line's bytes hold one, and an immediate of its size
+-- operands are one for each place where the line's bytes hold one, and an immediate of its size, whatever else the line uses;
+-- memory that no operand names isn't printed
 abbrev pub kinds_fit : Line → List Kind → Bool
 kinds_fit line kinds =
     (count_by (λ kind. is_reg kind.home) kinds == one_if (has_register line.tail))
     && ((count_by (λ kind. is_vvvv kind.home) kinds == one_if (has_vvvv line.prefix))
     && ((count_by (λ kind. is_place kind.home) kinds == one_if (has_tail line.tail))
-    && (bits_in kinds == 8 * imm_bytes line.imm)))
+    && ((bits_in kinds == 8 * imm_bytes line.imm)
+    && (count_by (λ kind. is_stack kind.home && kind.is_printed) kinds == 0))))

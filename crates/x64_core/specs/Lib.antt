@@ -11,7 +11,9 @@ pub mod Refusal
 pub mod Message
 pub mod Rename
 pub mod Kinds
+pub mod Flags
 pub mod Extension
 pub mod Value
 -- Steps of the proofs.
+pub mod ByLine
 pub mod Form

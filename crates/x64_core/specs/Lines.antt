@@ -359,12 +359,12 @@ conditions_lines =
 
 unfoldable pub control_lines : List Line
 control_lines =
-    plain only_66 any (byte 0xFF) (Modrm (Digit 6) RegisterOrMemory) NoImm ∷  -- pushw_m
+    plain only_66 W0 (byte 0xFF) (Modrm (Digit 6) RegisterOrMemory) NoImm ∷  -- pushw_m
     plain no_legacy any (byte 0xFF) (Modrm (Digit 6) RegisterOrMemory) NoImm ∷  -- pushq_m
     plain no_legacy any (byte 0x6A) NoTail (Simm 1) ∷  -- pushq_i8
-    plain only_66 any (byte 0x68) NoTail (Imm 2) ∷  -- pushw_i16
+    plain only_66 W0 (byte 0x68) NoTail (Imm 2) ∷  -- pushw_i16
     plain no_legacy any (byte 0x68) NoTail (Simm 4) ∷  -- pushq_i32
-    plain only_66 any (byte 0x8F) (Modrm (Digit 0) RegisterOrMemory) NoImm ∷  -- popw_m
+    plain only_66 W0 (byte 0x8F) (Modrm (Digit 0) RegisterOrMemory) NoImm ∷  -- popw_m
     plain no_legacy any (byte 0x8F) (Modrm (Digit 0) RegisterOrMemory) NoImm ∷  -- popq_m
     plain no_legacy any (byte 0xC3) NoTail NoImm ∷  -- retq_zo
     plain no_legacy any (byte 0xC2) NoTail (Imm 2) ∷  -- retq_i

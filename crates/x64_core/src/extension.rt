@@ -1,7 +1,7 @@
 //! What lines ask of a processor. (Intel SDM, volume 1, 5.1, and volume 2, `CPUID`.)
 
 ghost use Rattle.std.specs.Prelude.{◌≡◌};
-ghost use Rattle.x64_core.specs.Extension.{extension_of};
+ghost use Rattle.x64_core.specs.Extension.{extension_of, has_extension, is_available_in};
 
 use crate::op::Op;
 
@@ -16,6 +16,56 @@ pub enum Extension {
     Popcnt,
     Avx,
     Cmpxchg16b,
+}
+
+/// The extensions that a processor has, or that a compiler may use.
+#[derive(Clone, Copy, Debug, PartialEq)]
+pub struct Extensions {
+    pub sse: bool,
+    pub sse2: bool,
+    pub bmi1: bool,
+    pub bmi2: bool,
+    pub lzcnt: bool,
+    pub popcnt: bool,
+    pub avx: bool,
+    pub cmpxchg16b: bool,
+}
+
+impl Extensions {
+    /// None.
+    pub const NONE: Extensions = Extensions {
+        sse: false,
+        sse2: false,
+        bmi1: false,
+        bmi2: false,
+        lzcnt: false,
+        popcnt: false,
+        avx: false,
+        cmpxchg16b: false,
+    };
+
+    /// Those of every 64-bit processor.
+    pub const BASE: Extensions = Extensions {
+        sse: true,
+        sse2: true,
+        ..Extensions::NONE
+    };
+
+    /// Whether an extension is among them.
+    pub fn has(&self, extension: Extension) -> bool
+        ensures { result ≡ has_extension self.now extension }
+    {
+        match extension {
+            Extension::Sse => self.sse,
+            Extension::Sse2 => self.sse2,
+            Extension::Bmi1 => self.bmi1,
+            Extension::Bmi2 => self.bmi2,
+            Extension::Lzcnt => self.lzcnt,
+            Extension::Popcnt => self.popcnt,
+            Extension::Avx => self.avx,
+            Extension::Cmpxchg16b => self.cmpxchg16b,
+        }
+    }
 }
 
 /// Of the rows, and of the lines of `table/core.txt` behind them, each named beside its extension.
@@ -614,5 +664,15 @@ impl Op {
         ensures { result ≡ extension_of self.number }
     {
         EXTENSIONS[usize::from(self.number)]
+    }
+
+    /// Whether it can be used where there are these extensions: it asks for none, or for one of them.
+    pub fn is_available(self, extensions: &Extensions) -> bool
+        ensures { result ≡ is_available_in extensions.now (extension_of self.number) }
+    {
+        match self.extension() {
+            None => true,
+            Some(extension) => extensions.has(extension),
+        }
     }
 }

@@ -22,6 +22,9 @@ pub enum Home {
     Fixed(u8),
     /// An immediate.
     Imm,
+    /// Memory of the stack that stands nowhere in the bytes. A push or a call writes it below the stack pointer, a pop or a return
+    /// reads it at the stack pointer, and `leave` at `rbp`.
+    Stack,
 }
 
 /// What registers an operand may be.
@@ -33,21 +36,37 @@ pub enum Class {
     None,
 }
 
-/// What is done with an operand, a register or memory. Of `lea`, whose memory is an address alone, nothing is done with it.
+/// What is done with the bits of an operand.
+///
+/// What may stay as it was is read: a `Write` leaves none of the operand's bits in any run. So the register of `cmov` and that of
+/// `bsf` say `ReadWrite`, and so does a vector register of which a scalar line leaves the upper part. Flags go by the same rule
+/// ([`Flags`](crate::flags::Flags)).
 #[derive(Clone, Copy, Debug, PartialEq)]
 pub enum Access {
+    /// Nothing: an address alone, as the memory of `lea`, or the operand of a no-operation.
+    None,
     Read,
     Write,
     ReadWrite,
 }
 
-/// An operand of a line. Base and index of memory are read, whatever is done with the memory.
+/// An operand of a line. Base and index of memory are read, whatever is done with the memory, save by a no-operation.
+///
+/// Of a register the operand is its low `bits`. What stands above them:
+///
+/// - A write of 8 or 16 bits leaves the others.
+/// - A write of 32 bits makes the upper half of a general register 0. Where a line may leave the register as it was, the upper
+///   half may stay too: `eax` of `cmpxchgl`, and the register of `bsfl` and `bsrl`.
+/// - Of a vector register that is written the operand is all 128 bits, whatever part of them changes. What a processor has above
+///   these a line with VEX makes 0, and another line leaves.
+///
+/// A `bt` with a register reads beside its memory too, as far as the register's number of bits goes.
 #[derive(Clone, Copy, Debug, PartialEq)]
 pub struct Kind {
     pub home: Home,
     pub class: Class,
     pub access: Access,
-    /// Of the register, of the memory or of the immediate: 8 to 128. A write of 8 or 16 bits leaves the others.
+    /// Of the register, of the memory or of the immediate: 8 to 128.
     pub bits: u8,
     /// Whether it's among the operands that a text has.
     pub is_printed: bool,
@@ -71,7 +90,9 @@ fn part(kinds: &[Kind], span: Span) -> &[Kind]
 }
 
 impl Op {
-    /// Its operands, in the order of the manual: one at each place where its bytes hold one, and those that it fixes.
+    /// All that it reads and writes but flags: its operands, in the order of the manual, one at each place where its bytes hold one,
+    /// and those that it fixes; behind them the registers and the memory that it uses beside them, as a push does. The instruction
+    /// pointer and MXCSR aren't among them.
     pub fn kinds(self) -> &'static [Kind]
         ensures list { result.now ≡ kinds_of self.number }
         ensures fit { kinds_fit (core_line self.number) result.now ≡ true }

@@ -5,9 +5,11 @@
 //! constants of [`ops`], each of which takes what its line takes, or by [`Core::new`] of any [`Op`].
 #![tactic(auto)]
 
+mod by_line;
 pub mod encode;
 pub mod extension;
 mod faults;
+pub mod flags;
 mod heads;
 pub mod immediate;
 pub mod instruction;
@@ -25,10 +27,11 @@ pub mod ops;
 pub mod place;
 pub mod refused;
 pub mod rename;
+mod rows;
 pub mod shapes;
 mod value;
 
-pub use extension::Extension;
+pub use extension::{Extension, Extensions};
 pub use instruction::Core;
 pub use op::Op;
 pub use place::CorePlace;

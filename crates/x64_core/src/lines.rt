@@ -490,12 +490,12 @@ const NUMBERS: [u64; 584] = [
     0x4019_93c3_e9f1_a900, // cmovgw_rm
     0x0000_13c3_e9f1_a800, // cmovgl_rm
     0x0000_13c3_e9f1_a810, // cmovgq_rm
-    0x4019_803f_dfec_a920, // pushw_m
+    0x4019_803f_dfec_a900, // pushw_m
     0x0000_003f_dfec_a820, // pushq_m
     0x0000_001a_8d50_0829, // pushq_i8
-    0x4019_801a_0d10_0922, // pushw_i16
+    0x4019_801a_0d10_0902, // pushw_i16
     0x0000_001a_0d10_082c, // pushq_i32
-    0x4019_8023_d1e0_a920, // popw_m
+    0x4019_8023_d1e0_a900, // popw_m
     0x0000_0023_d1e0_a820, // popq_m
     0x0000_0030_d870_0820, // retq_zo
     0x0000_0030_9850_0822, // retq_i

@@ -4,7 +4,7 @@ ghost use Rattle.std.specs.Prelude.{◌≡◌, ◌≤◌, ◌<◌, true, IfNone,
 ghost use Rattle.cax64_place.specs.Heads.{are_heads};
 ghost use Rattle.cax64_table.specs.EntryLine.{entry_line};
 ghost use Rattle.x64_core.specs.Line.{core_line};
-ghost use Rattle.x64_core.specs.Shape.{shape_of};
+ghost use Rattle.x64_core.specs.Shape.{has_shape, shape_of};
 ghost use Rattle.x64_core.specs.declared.lines.TheConstants.{COUNT};
 
 use crate::heads::heads;
@@ -55,7 +55,8 @@ impl Op {
     /// The operands that it takes.
     #[inline(always)]
     pub fn shape(self) -> OpShape
-        ensures { result ≡ shape_of self.number }
+        ensures is { result ≡ shape_of self.number }
+        ensures fits { has_shape (core_line self.number) result ≡ true }
     {
         shape(self.number)
     }

@@ -49,7 +49,7 @@ use Rattle.x64_core.specs.Core.{core_meant, is_encodable, place_visited, registe
 use Rattle.x64_core.specs.Line.{core_line}
 use Rattle.x64_core.specs.View.{CoreView}
 use Rattle.x64_core_data.specs.View.{parts_view, row_parts}
-use Rattle.x64_core_data.proofs.Rows.{row_line}
+use Rattle.x64_core.proofs.RowLines.{row_line}
 
 -- Data and an instruction of the core with the same numbers mean the same.
 

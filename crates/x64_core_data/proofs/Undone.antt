@@ -26,7 +26,8 @@ use Rattle.x64_core_data.specs.declared.refused.NotCore.TheVariants as not_core
 use Rattle.x64_core_data.specs.declared.refused.NotData.{NotData}
 use Rattle.x64_core_data.specs.declared.refused.NotData.TheVariants as not_data
 use Rattle.x64_core_data.proofs.Means.{data_view}
-use Rattle.x64_core_data.proofs.Rows.{below_rows, nop_number, same_row}
+use Rattle.x64_core.proofs.RowLines.{same_row}
+use Rattle.x64_core_data.proofs.Rows.{below_rows, nop_number}
 
 -- What a refusal, or none, says of data.
 

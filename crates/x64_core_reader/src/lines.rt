@@ -529,12 +529,12 @@ static LINES: [Line; 584] = [
     line!(plain!(false, true, false, false), Some(0), escaped!(0x4F), TailField::Modrm(RegField::Register, PlaceField::RegisterOrMemory), ImmField::NoImm), // cmovgw_rm
     line!(plain!(false, false, false, false), Some(0), escaped!(0x4F), TailField::Modrm(RegField::Register, PlaceField::RegisterOrMemory), ImmField::NoImm), // cmovgl_rm
     line!(plain!(false, false, false, false), Some(1), escaped!(0x4F), TailField::Modrm(RegField::Register, PlaceField::RegisterOrMemory), ImmField::NoImm), // cmovgq_rm
-    line!(plain!(false, true, false, false), None, byte!(0xFF), TailField::Modrm(RegField::Digit(6), PlaceField::RegisterOrMemory), ImmField::NoImm), // pushw_m
+    line!(plain!(false, true, false, false), Some(0), byte!(0xFF), TailField::Modrm(RegField::Digit(6), PlaceField::RegisterOrMemory), ImmField::NoImm), // pushw_m
     line!(plain!(false, false, false, false), None, byte!(0xFF), TailField::Modrm(RegField::Digit(6), PlaceField::RegisterOrMemory), ImmField::NoImm), // pushq_m
     line!(plain!(false, false, false, false), None, byte!(0x6A), TailField::NoTail, ImmField::Simm(1)), // pushq_i8
-    line!(plain!(false, true, false, false), None, byte!(0x68), TailField::NoTail, ImmField::Imm(2)), // pushw_i16
+    line!(plain!(false, true, false, false), Some(0), byte!(0x68), TailField::NoTail, ImmField::Imm(2)), // pushw_i16
     line!(plain!(false, false, false, false), None, byte!(0x68), TailField::NoTail, ImmField::Simm(4)), // pushq_i32
-    line!(plain!(false, true, false, false), None, byte!(0x8F), TailField::Modrm(RegField::Digit(0), PlaceField::RegisterOrMemory), ImmField::NoImm), // popw_m
+    line!(plain!(false, true, false, false), Some(0), byte!(0x8F), TailField::Modrm(RegField::Digit(0), PlaceField::RegisterOrMemory), ImmField::NoImm), // popw_m
     line!(plain!(false, false, false, false), None, byte!(0x8F), TailField::Modrm(RegField::Digit(0), PlaceField::RegisterOrMemory), ImmField::NoImm), // popq_m
     line!(plain!(false, false, false, false), None, byte!(0xC3), TailField::NoTail, ImmField::NoImm), // retq_zo
     line!(plain!(false, false, false, false), None, byte!(0xC2), TailField::NoTail, ImmField::Imm(2)), // retq_i

@@ -12,6 +12,7 @@ is_named home.Vvvv = true
 is_named home.Place = true
 is_named (home.Fixed number) = has_name number
 is_named home.Imm = true
+is_named home.Stack = true
 
 abbrev pub all_named : List Kind → Bool
 all_named [] = true

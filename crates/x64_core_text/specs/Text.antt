@@ -61,6 +61,7 @@ is_imm home.Vvvv = false
 is_imm home.Place = false
 is_imm (home.Fixed number) = false
 is_imm home.Imm = true
+is_imm home.Stack = false
 
 abbrev pub width_of : List Kind → ℕ
 width_of [] = 64
@@ -97,6 +98,7 @@ home_text v kind home.Vvvv = given_text kind v.vvvv
 home_text v kind home.Place = place_text kind v.place
 home_text v kind (home.Fixed number) = register_text kind number
 home_text v kind home.Imm = imm_text v.op v.imm
+home_text v kind home.Stack = []
 
 abbrev pub operand_text : CoreView → Kind → List ℕ
 operand_text v kind = home_text v kind kind.home

@@ -211,5 +211,7 @@ pub(crate) fn push_operand<A: Allocator + Copy>(
             Some(value) => push_value(out, core.op(), value),
             None => Ok(()),
         },
+        // It's never printed.
+        Home::Stack => Ok(()),
     }
 }

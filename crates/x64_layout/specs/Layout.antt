@@ -2,6 +2,7 @@
 use Rattle.std.specs.Prelude.{◌≡◌, ◌≤◌, ◌⊎◌, ℕ, ◌+◌, pos, ◌-ℤ◌, Option, Some, IfSome, List, All, length, take, sum, slice_get, slice_index, FitsSigned}
 use Rattle.std.specs.Int.{w8}
 use Rattle.x64_layout.specs.declared.span.Span.{Span}
+use Rattle.x64_layout.specs.declared.span.TheConstants.{MOST_SPANS}
 
 -- An entry is no longer than an instruction here may be, and jumps to an entry of the row or to its end.
 pub record IsSpan (count : ℕ) (s : Span) : Type 0 where
@@ -10,7 +11,7 @@ pub record IsSpan (count : ℕ) (s : Span) : Type 0 where
 
 -- Entries that can be laid out: so few that all together have less than 2 to the 31 bytes.
 pub record AreSpans (spans : List Span) : Type 0 where
-  pub few : length spans ≤ 165191049
+  pub few : length spans ≤ MOST_SPANS
   pub each : All (IsSpan (length spans)) spans
 
 -- the place of the n-th entry, from the first one's; that of the end has the number of all entries

@@ -49,7 +49,8 @@ pub(crate) fn lay_out(spans: &[Span], lens: &mut [u8], places: &mut [u32], rooms
 ///
 /// What `lens`, `places` and `rooms` held before doesn't matter, nor what `rooms` holds afterwards. There is a length and a room
 /// for each entry, and a place more, which is that of the end; [`are_spans`](crate::are_spans) tells whether entries can be
-/// laid out. It takes time in proportion to their number, if each has a byte at least.
+/// laid out. Where one of these doesn't hold, a build that wasn't proved may give lengths that are no layout, or abort. It
+/// takes time in proportion to their number, if each has a byte at least.
 pub fn least_layout(spans: &[Span], lens: &mut [u8], places: &mut [u32], rooms: &mut [u8])
     requires spans { AreSpans spans.now }
     requires lens { length lens.old ≡ length spans.now }

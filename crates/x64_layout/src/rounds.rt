@@ -5,12 +5,13 @@ ghost use Rattle.std.specs.Bool.{OnTrue, OnFalse};
 ghost use Rattle.std.specs.Int.{w8};
 ghost use Rattle.x64_layout.specs.Growing.{IsBelow};
 ghost use Rattle.x64_layout.specs.Layout.{ArePlaces, AreSpans, IsLayout, Reaches};
+ghost use Rattle.x64_layout.specs.declared.span.TheConstants.{MOST_SPANS};
 
 use crate::span::Span;
 
 /// Notes the place of each entry, and behind them that of the end.
 pub(crate) fn note_places(lens: &[u8], places: &mut [u32])
-    requires few { length lens.now ≤ 165191049 }
+    requires few { length lens.now ≤ MOST_SPANS }
     requires most { All (λ len. len ≤ 13) lens.now }
     requires room { length lens.now < length places.old }
     ensures { ArePlaces lens.now places.new }

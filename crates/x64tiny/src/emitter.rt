@@ -18,7 +18,6 @@ use x64_core::ops::control::{POPQ_M, PUSHQ_M, RETQ_ZO};
 use x64_core::ops::moves::{MOVQ_MI_SXL, MOVQ_MR, MOVQ_RM};
 use x64_core::ops::multiplication::{IMULQ_RM, IMULQ_RMI_SXL};
 use x64_core::ops::shifts::{SARQ_MC, SARQ_MI, SHLQ_MC, SHLQ_MI};
-use x64_core_buffer::PushCore;
 
 pub(crate) const RAX: u8 = 0;
 
@@ -68,7 +67,7 @@ impl Emitter {
 
     fn put(&mut self, mut inst: Core) -> Result<(), Refused> {
         inst.rename(&self.homes);
-        self.buffer.push_core_checked(&inst)?;
+        self.buffer.push_checked(&inst)?;
         Ok(())
     }
 

@@ -8,7 +8,6 @@ use std::alloc::Global;
 use workload_source::maker::Maker;
 use x64_code_buffer::CodeBuffer;
 use x64_core::Core;
-use x64_core_buffer::PushCore;
 
 /// An instruction as data.
 pub(crate) trait Work: Copy + Drop {
@@ -72,7 +71,7 @@ impl Work for Core {
     fn push_or_fault(&self, buffer: &mut CodeBuffer<Global>) -> Result<Option<Fault>, SinkError> {
         match self.first_fault(&*buffer) {
             None => {
-                buffer.push_core(self)?;
+                buffer.push(self)?;
                 Ok(None)
             }
             fault => Ok(fault),
@@ -82,7 +81,7 @@ impl Work for Core {
     #[inline(always)]
     fn push_if_encodable(&self, buffer: &mut CodeBuffer<Global>) -> Result<bool, SinkError> {
         if self.is_encodable(&*buffer) {
-            buffer.push_core(self)?;
+            buffer.push(self)?;
             return Ok(true);
         }
         Ok(false)

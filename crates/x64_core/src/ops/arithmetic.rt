@@ -8,6 +8,8 @@ use crate::makers::{Imm, RegMem, RegRm, RmImm};
 use crate::op::Op;
 use std::marker::PhantomData;
 
+// Additions. (Intel SDM, volume 2, `ADD`.)
+
 /// `addb al, imm8`.
 pub const ADDB_I: Imm<u8> = with_imm!(Imm, 158);
 /// `addb rm8, imm8`.
@@ -43,30 +45,7 @@ pub const ADDQ_MR: RegRm = without_imm!(RegRm, 173);
 /// `addq r64, rm64`.
 pub const ADDQ_RM: RegRm = without_imm!(RegRm, 174);
 
-/// Additions. (Intel SDM, volume 2, `ADD`.)
-pub fn add() -> [Op; 17]
-    ensures { map (λ op. op.number) result ≡ range_with_len 158 17 }
-{
-    [
-        ADDB_I.op(),
-        ADDB_MI.op(),
-        ADDB_MR.op(),
-        ADDB_RM.op(),
-        ADDW_I.op(),
-        ADDW_MI.op(),
-        ADDW_MR.op(),
-        ADDW_RM.op(),
-        ADDL_I.op(),
-        ADDL_MI.op(),
-        ADDL_MI_SXB.op(),
-        ADDL_MR.op(),
-        ADDL_RM.op(),
-        ADDQ_MI_SXL.op(),
-        ADDQ_MI_SXB.op(),
-        ADDQ_MR.op(),
-        ADDQ_RM.op(),
-    ]
-}
+// Bitwise OR. (Intel SDM, volume 2, `OR`.)
 
 /// `orb al, imm8`.
 pub const ORB_I: Imm<u8> = with_imm!(Imm, 175);
@@ -103,30 +82,7 @@ pub const ORQ_MR: RegRm = without_imm!(RegRm, 190);
 /// `orq r64, rm64`.
 pub const ORQ_RM: RegRm = without_imm!(RegRm, 191);
 
-/// Bitwise OR. (Intel SDM, volume 2, `OR`.)
-pub fn or() -> [Op; 17]
-    ensures { map (λ op. op.number) result ≡ range_with_len 175 17 }
-{
-    [
-        ORB_I.op(),
-        ORB_MI.op(),
-        ORB_MR.op(),
-        ORB_RM.op(),
-        ORW_I.op(),
-        ORW_MI.op(),
-        ORW_MR.op(),
-        ORW_RM.op(),
-        ORL_I.op(),
-        ORL_MI.op(),
-        ORL_MI_SXB.op(),
-        ORL_MR.op(),
-        ORL_RM.op(),
-        ORQ_MI_SXL.op(),
-        ORQ_MI_SXB.op(),
-        ORQ_MR.op(),
-        ORQ_RM.op(),
-    ]
-}
+// Additions with carry. (Intel SDM, volume 2, `ADC`.)
 
 /// `adcb al, imm8`.
 pub const ADCB_I: Imm<u8> = with_imm!(Imm, 192);
@@ -163,30 +119,7 @@ pub const ADCQ_MR: RegRm = without_imm!(RegRm, 207);
 /// `adcq r64, rm64`.
 pub const ADCQ_RM: RegRm = without_imm!(RegRm, 208);
 
-/// Additions with carry. (Intel SDM, volume 2, `ADC`.)
-pub fn adc() -> [Op; 17]
-    ensures { map (λ op. op.number) result ≡ range_with_len 192 17 }
-{
-    [
-        ADCB_I.op(),
-        ADCB_MI.op(),
-        ADCB_MR.op(),
-        ADCB_RM.op(),
-        ADCW_I.op(),
-        ADCW_MI.op(),
-        ADCW_MR.op(),
-        ADCW_RM.op(),
-        ADCL_I.op(),
-        ADCL_MI.op(),
-        ADCL_MI_SXB.op(),
-        ADCL_MR.op(),
-        ADCL_RM.op(),
-        ADCQ_MI_SXL.op(),
-        ADCQ_MI_SXB.op(),
-        ADCQ_MR.op(),
-        ADCQ_RM.op(),
-    ]
-}
+// Subtractions with borrow. (Intel SDM, volume 2, `SBB`.)
 
 /// `sbbb al, imm8`.
 pub const SBBB_I: Imm<u8> = with_imm!(Imm, 209);
@@ -223,30 +156,7 @@ pub const SBBQ_MR: RegRm = without_imm!(RegRm, 224);
 /// `sbbq r64, rm64`.
 pub const SBBQ_RM: RegRm = without_imm!(RegRm, 225);
 
-/// Subtractions with borrow. (Intel SDM, volume 2, `SBB`.)
-pub fn sbb() -> [Op; 17]
-    ensures { map (λ op. op.number) result ≡ range_with_len 209 17 }
-{
-    [
-        SBBB_I.op(),
-        SBBB_MI.op(),
-        SBBB_MR.op(),
-        SBBB_RM.op(),
-        SBBW_I.op(),
-        SBBW_MI.op(),
-        SBBW_MR.op(),
-        SBBW_RM.op(),
-        SBBL_I.op(),
-        SBBL_MI.op(),
-        SBBL_MI_SXB.op(),
-        SBBL_MR.op(),
-        SBBL_RM.op(),
-        SBBQ_MI_SXL.op(),
-        SBBQ_MI_SXB.op(),
-        SBBQ_MR.op(),
-        SBBQ_RM.op(),
-    ]
-}
+// Bitwise AND. (Intel SDM, volume 2, `AND`.)
 
 /// `andb rm8, imm8`.
 pub const ANDB_MI: RmImm<u8> = with_imm!(RmImm, 226);
@@ -281,29 +191,7 @@ pub const ANDQ_MR: RegRm = without_imm!(RegRm, 240);
 /// `andq r64, rm64`.
 pub const ANDQ_RM: RegRm = without_imm!(RegRm, 241);
 
-/// Bitwise AND. (Intel SDM, volume 2, `AND`.)
-pub fn and() -> [Op; 16]
-    ensures { map (λ op. op.number) result ≡ range_with_len 226 16 }
-{
-    [
-        ANDB_MI.op(),
-        ANDB_MR.op(),
-        ANDB_RM.op(),
-        ANDW_I.op(),
-        ANDW_MI.op(),
-        ANDW_MR.op(),
-        ANDW_RM.op(),
-        ANDL_I.op(),
-        ANDL_MI.op(),
-        ANDL_MI_SXB.op(),
-        ANDL_MR.op(),
-        ANDL_RM.op(),
-        ANDQ_MI_SXL.op(),
-        ANDQ_MI_SXB.op(),
-        ANDQ_MR.op(),
-        ANDQ_RM.op(),
-    ]
-}
+// Subtractions. (Intel SDM, volume 2, `SUB`.)
 
 /// `subb al, imm8`.
 pub const SUBB_I: Imm<u8> = with_imm!(Imm, 242);
@@ -340,30 +228,7 @@ pub const SUBQ_MR: RegRm = without_imm!(RegRm, 257);
 /// `subq r64, rm64`.
 pub const SUBQ_RM: RegRm = without_imm!(RegRm, 258);
 
-/// Subtractions. (Intel SDM, volume 2, `SUB`.)
-pub fn sub() -> [Op; 17]
-    ensures { map (λ op. op.number) result ≡ range_with_len 242 17 }
-{
-    [
-        SUBB_I.op(),
-        SUBB_MI.op(),
-        SUBB_MR.op(),
-        SUBB_RM.op(),
-        SUBW_I.op(),
-        SUBW_MI.op(),
-        SUBW_MR.op(),
-        SUBW_RM.op(),
-        SUBL_I.op(),
-        SUBL_MI.op(),
-        SUBL_MI_SXB.op(),
-        SUBL_MR.op(),
-        SUBL_RM.op(),
-        SUBQ_MI_SXL.op(),
-        SUBQ_MI_SXB.op(),
-        SUBQ_MR.op(),
-        SUBQ_RM.op(),
-    ]
-}
+// Bitwise XOR. (Intel SDM, volume 2, `XOR`.)
 
 /// `xorb al, imm8`.
 pub const XORB_I: Imm<u8> = with_imm!(Imm, 259);
@@ -400,30 +265,7 @@ pub const XORQ_MR: RegRm = without_imm!(RegRm, 274);
 /// `xorq r64, rm64`.
 pub const XORQ_RM: RegRm = without_imm!(RegRm, 275);
 
-/// Bitwise XOR. (Intel SDM, volume 2, `XOR`.)
-pub fn xor() -> [Op; 17]
-    ensures { map (λ op. op.number) result ≡ range_with_len 259 17 }
-{
-    [
-        XORB_I.op(),
-        XORB_MI.op(),
-        XORB_MR.op(),
-        XORB_RM.op(),
-        XORW_I.op(),
-        XORW_MI.op(),
-        XORW_MR.op(),
-        XORW_RM.op(),
-        XORL_I.op(),
-        XORL_MI.op(),
-        XORL_MI_SXB.op(),
-        XORL_MR.op(),
-        XORL_RM.op(),
-        XORQ_MI_SXL.op(),
-        XORQ_MI_SXB.op(),
-        XORQ_MR.op(),
-        XORQ_RM.op(),
-    ]
-}
+// Comparisons. (Intel SDM, volume 2, `CMP`.)
 
 /// `cmpb al, imm8`.
 pub const CMPB_I: Imm<u8> = with_imm!(Imm, 276);
@@ -460,30 +302,7 @@ pub const CMPQ_MR: RegRm = without_imm!(RegRm, 291);
 /// `cmpq r64, rm64`.
 pub const CMPQ_RM: RegRm = without_imm!(RegRm, 292);
 
-/// Comparisons. (Intel SDM, volume 2, `CMP`.)
-pub fn cmp() -> [Op; 17]
-    ensures { map (λ op. op.number) result ≡ range_with_len 276 17 }
-{
-    [
-        CMPB_I.op(),
-        CMPB_MI.op(),
-        CMPB_MR.op(),
-        CMPB_RM.op(),
-        CMPW_I.op(),
-        CMPW_MI.op(),
-        CMPW_MR.op(),
-        CMPW_RM.op(),
-        CMPL_I.op(),
-        CMPL_MI.op(),
-        CMPL_MI_SXB.op(),
-        CMPL_MR.op(),
-        CMPL_RM.op(),
-        CMPQ_MI_SXL.op(),
-        CMPQ_MI_SXB.op(),
-        CMPQ_MR.op(),
-        CMPQ_RM.op(),
-    ]
-}
+// Tests of bits. (Intel SDM, volume 2, `TEST`.)
 
 /// `testb al, imm8`.
 pub const TESTB_I: Imm<u8> = with_imm!(Imm, 293);
@@ -508,21 +327,56 @@ pub const TESTQ_MI_SXL: RmImm<i32> = with_imm!(RmImm, 302);
 /// `testq rm64, r64`.
 pub const TESTQ_MR: RegRm = without_imm!(RegRm, 303);
 
-/// Tests of bits. (Intel SDM, volume 2, `TEST`.)
-pub fn test() -> [Op; 11]
-    ensures { map (λ op. op.number) result ≡ range_with_len 293 11 }
+/// Each constant is the line behind that of the one before it.
+#[rattlefmt::skip]
+fn in_order_from_addb_i() -> [Op; 49]
+    ensures { map (λ op. op.number) result ≡ range_with_len 158 49 }
 {
     [
-        TESTB_I.op(),
-        TESTB_MI.op(),
-        TESTB_MR.op(),
-        TESTW_I.op(),
-        TESTW_MI.op(),
-        TESTW_MR.op(),
-        TESTL_I.op(),
-        TESTL_MI.op(),
-        TESTL_MR.op(),
-        TESTQ_MI_SXL.op(),
-        TESTQ_MR.op(),
+        ADDB_I.op(), ADDB_MI.op(), ADDB_MR.op(), ADDB_RM.op(), ADDW_I.op(), ADDW_MI.op(),
+        ADDW_MR.op(), ADDW_RM.op(), ADDL_I.op(), ADDL_MI.op(), ADDL_MI_SXB.op(), ADDL_MR.op(),
+        ADDL_RM.op(), ADDQ_MI_SXL.op(), ADDQ_MI_SXB.op(), ADDQ_MR.op(), ADDQ_RM.op(), ORB_I.op(),
+        ORB_MI.op(), ORB_MR.op(), ORB_RM.op(), ORW_I.op(), ORW_MI.op(), ORW_MR.op(), ORW_RM.op(),
+        ORL_I.op(), ORL_MI.op(), ORL_MI_SXB.op(), ORL_MR.op(), ORL_RM.op(), ORQ_MI_SXL.op(),
+        ORQ_MI_SXB.op(), ORQ_MR.op(), ORQ_RM.op(), ADCB_I.op(), ADCB_MI.op(), ADCB_MR.op(),
+        ADCB_RM.op(), ADCW_I.op(), ADCW_MI.op(), ADCW_MR.op(), ADCW_RM.op(), ADCL_I.op(),
+        ADCL_MI.op(), ADCL_MI_SXB.op(), ADCL_MR.op(), ADCL_RM.op(), ADCQ_MI_SXL.op(),
+        ADCQ_MI_SXB.op(),
+    ]
+}
+
+/// Each constant is the line behind that of the one before it.
+#[rattlefmt::skip]
+fn in_order_from_adcq_mr() -> [Op; 49]
+    ensures { map (λ op. op.number) result ≡ range_with_len 207 49 }
+{
+    [
+        ADCQ_MR.op(), ADCQ_RM.op(), SBBB_I.op(), SBBB_MI.op(), SBBB_MR.op(), SBBB_RM.op(),
+        SBBW_I.op(), SBBW_MI.op(), SBBW_MR.op(), SBBW_RM.op(), SBBL_I.op(), SBBL_MI.op(),
+        SBBL_MI_SXB.op(), SBBL_MR.op(), SBBL_RM.op(), SBBQ_MI_SXL.op(), SBBQ_MI_SXB.op(),
+        SBBQ_MR.op(), SBBQ_RM.op(), ANDB_MI.op(), ANDB_MR.op(), ANDB_RM.op(), ANDW_I.op(),
+        ANDW_MI.op(), ANDW_MR.op(), ANDW_RM.op(), ANDL_I.op(), ANDL_MI.op(), ANDL_MI_SXB.op(),
+        ANDL_MR.op(), ANDL_RM.op(), ANDQ_MI_SXL.op(), ANDQ_MI_SXB.op(), ANDQ_MR.op(), ANDQ_RM.op(),
+        SUBB_I.op(), SUBB_MI.op(), SUBB_MR.op(), SUBB_RM.op(), SUBW_I.op(), SUBW_MI.op(),
+        SUBW_MR.op(), SUBW_RM.op(), SUBL_I.op(), SUBL_MI.op(), SUBL_MI_SXB.op(), SUBL_MR.op(),
+        SUBL_RM.op(), SUBQ_MI_SXL.op(),
+    ]
+}
+
+/// Each constant is the line behind that of the one before it.
+#[rattlefmt::skip]
+fn in_order_from_subq_mi_sxb() -> [Op; 48]
+    ensures { map (λ op. op.number) result ≡ range_with_len 256 48 }
+{
+    [
+        SUBQ_MI_SXB.op(), SUBQ_MR.op(), SUBQ_RM.op(), XORB_I.op(), XORB_MI.op(), XORB_MR.op(),
+        XORB_RM.op(), XORW_I.op(), XORW_MI.op(), XORW_MR.op(), XORW_RM.op(), XORL_I.op(),
+        XORL_MI.op(), XORL_MI_SXB.op(), XORL_MR.op(), XORL_RM.op(), XORQ_MI_SXL.op(),
+        XORQ_MI_SXB.op(), XORQ_MR.op(), XORQ_RM.op(), CMPB_I.op(), CMPB_MI.op(), CMPB_MR.op(),
+        CMPB_RM.op(), CMPW_I.op(), CMPW_MI.op(), CMPW_MR.op(), CMPW_RM.op(), CMPL_I.op(),
+        CMPL_MI.op(), CMPL_MI_SXB.op(), CMPL_MR.op(), CMPL_RM.op(), CMPQ_MI_SXL.op(),
+        CMPQ_MI_SXB.op(), CMPQ_MR.op(), CMPQ_RM.op(), TESTB_I.op(), TESTB_MI.op(), TESTB_MR.op(),
+        TESTW_I.op(), TESTW_MI.op(), TESTW_MR.op(), TESTL_I.op(), TESTL_MI.op(), TESTL_MR.op(),
+        TESTQ_MI_SXL.op(), TESTQ_MR.op(),
     ]
 }

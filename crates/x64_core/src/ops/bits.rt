@@ -8,6 +8,8 @@ use crate::makers::{Mem, RegMem, RegRm, RmImm};
 use crate::op::Op;
 use std::marker::PhantomData;
 
+// Scans for a bit. (Intel SDM, volume 2, `BSF` and `BSR`.)
+
 /// `bsfw r16, rm16`.
 pub const BSFW_RM: RegRm = without_imm!(RegRm, 490);
 /// `bsrw r16, rm16`.
@@ -21,19 +23,7 @@ pub const BSFQ_RM: RegRm = without_imm!(RegRm, 494);
 /// `bsrq r64, rm64`.
 pub const BSRQ_RM: RegRm = without_imm!(RegRm, 495);
 
-/// Scans for a bit. (Intel SDM, volume 2, `BSF` and `BSR`.)
-pub fn scan() -> [Op; 6]
-    ensures { map (λ op. op.number) result ≡ range_with_len 490 6 }
-{
-    [
-        BSFW_RM.op(),
-        BSRW_RM.op(),
-        BSFL_RM.op(),
-        BSRL_RM.op(),
-        BSFQ_RM.op(),
-        BSRQ_RM.op(),
-    ]
-}
+// Counts of bits. (Intel SDM, volume 2, `TZCNT`, `LZCNT` and `POPCNT`.)
 
 /// `tzcntw r16, rm16`.
 pub const TZCNTW_RM: RegRm = without_imm!(RegRm, 496);
@@ -54,22 +44,7 @@ pub const LZCNTQ_RM: RegRm = without_imm!(RegRm, 503);
 /// `popcntq r64, rm64`.
 pub const POPCNTQ_RM: RegRm = without_imm!(RegRm, 504);
 
-/// Counts of bits. (Intel SDM, volume 2, `TZCNT`, `LZCNT` and `POPCNT`.)
-pub fn count() -> [Op; 9]
-    ensures { map (λ op. op.number) result ≡ range_with_len 496 9 }
-{
-    [
-        TZCNTW_RM.op(),
-        LZCNTW_RM.op(),
-        POPCNTW_RM.op(),
-        TZCNTL_RM.op(),
-        LZCNTL_RM.op(),
-        POPCNTL_RM.op(),
-        TZCNTQ_RM.op(),
-        LZCNTQ_RM.op(),
-        POPCNTQ_RM.op(),
-    ]
-}
+// Tests of one bit. (Intel SDM, volume 2, `BT`.)
 
 /// `btw rm16, r16`.
 pub const BTW_MR: RegRm = without_imm!(RegRm, 505);
@@ -84,19 +59,7 @@ pub const BTQ_MR: RegRm = without_imm!(RegRm, 509);
 /// `btq rm64, imm8`.
 pub const BTQ_MI: RmImm<u8> = with_imm!(RmImm, 510);
 
-/// Tests of one bit. (Intel SDM, volume 2, `BT`.)
-pub fn test() -> [Op; 6]
-    ensures { map (λ op. op.number) result ≡ range_with_len 505 6 }
-{
-    [
-        BTW_MR.op(),
-        BTW_MI.op(),
-        BTL_MR.op(),
-        BTL_MI.op(),
-        BTQ_MR.op(),
-        BTQ_MI.op(),
-    ]
-}
+// Exchanges that aren't locked. (Intel SDM, volume 2, `XADD`, `CMPXCHG` and `CMPXCHG8B/CMPXCHG16B`.)
 
 /// `xaddb m8, r8`.
 pub const XADDB_MR: RegMem = without_imm!(RegMem, 511);
@@ -117,19 +80,17 @@ pub const CMPXCHGQ_MR: RegMem = without_imm!(RegMem, 518);
 /// `cmpxchg16b m128`.
 pub const CMPXCHG16B_M: Mem = without_imm!(Mem, 519);
 
-/// Exchanges that aren't locked. (Intel SDM, volume 2, `XADD`, `CMPXCHG` and `CMPXCHG8B/CMPXCHG16B`.)
-pub fn exchange() -> [Op; 9]
-    ensures { map (λ op. op.number) result ≡ range_with_len 511 9 }
+/// Each constant is the line behind that of the one before it.
+#[rattlefmt::skip]
+fn in_order() -> [Op; 30]
+    ensures { map (λ op. op.number) result ≡ range_with_len 490 30 }
 {
     [
-        XADDB_MR.op(),
-        CMPXCHGB_MR.op(),
-        XADDW_MR.op(),
-        CMPXCHGW_MR.op(),
-        XADDL_MR.op(),
-        CMPXCHGL_MR.op(),
-        XADDQ_MR.op(),
-        CMPXCHGQ_MR.op(),
-        CMPXCHG16B_M.op(),
+        BSFW_RM.op(), BSRW_RM.op(), BSFL_RM.op(), BSRL_RM.op(), BSFQ_RM.op(), BSRQ_RM.op(),
+        TZCNTW_RM.op(), LZCNTW_RM.op(), POPCNTW_RM.op(), TZCNTL_RM.op(), LZCNTL_RM.op(),
+        POPCNTL_RM.op(), TZCNTQ_RM.op(), LZCNTQ_RM.op(), POPCNTQ_RM.op(), BTW_MR.op(), BTW_MI.op(),
+        BTL_MR.op(), BTL_MI.op(), BTQ_MR.op(), BTQ_MI.op(), XADDB_MR.op(), CMPXCHGB_MR.op(),
+        XADDW_MR.op(), CMPXCHGW_MR.op(), XADDL_MR.op(), CMPXCHGL_MR.op(), XADDQ_MR.op(),
+        CMPXCHGQ_MR.op(), CMPXCHG16B_M.op(),
     ]
 }

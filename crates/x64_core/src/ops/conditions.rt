@@ -7,6 +7,8 @@ ghost use Rattle.std.specs.List.{range_with_len};
 use crate::makers::{RegRm, Rm};
 use crate::op::Op;
 
+// A byte by a condition. (Intel SDM, volume 2, `SETcc`.)
+
 /// `seto rm8`.
 pub const SETO_M: Rm = without_imm!(Rm, 413);
 /// `setno rm8`.
@@ -40,29 +42,7 @@ pub const SETLE_M: Rm = without_imm!(Rm, 427);
 /// `setg rm8`.
 pub const SETG_M: Rm = without_imm!(Rm, 428);
 
-/// A byte by a condition. (Intel SDM, volume 2, `SETcc`.)
-pub fn setcc() -> [Op; 16]
-    ensures { map (λ op. op.number) result ≡ range_with_len 413 16 }
-{
-    [
-        SETO_M.op(),
-        SETNO_M.op(),
-        SETB_M.op(),
-        SETAE_M.op(),
-        SETE_M.op(),
-        SETNE_M.op(),
-        SETBE_M.op(),
-        SETA_M.op(),
-        SETS_M.op(),
-        SETNS_M.op(),
-        SETP_M.op(),
-        SETNP_M.op(),
-        SETL_M.op(),
-        SETGE_M.op(),
-        SETLE_M.op(),
-        SETG_M.op(),
-    ]
-}
+// Moves by a condition. (Intel SDM, volume 2, `CMOVcc`.)
 
 /// `cmovow r16, rm16`.
 pub const CMOVOW_RM: RegRm = without_imm!(RegRm, 429);
@@ -161,58 +141,24 @@ pub const CMOVGL_RM: RegRm = without_imm!(RegRm, 475);
 /// `cmovgq r64, rm64`.
 pub const CMOVGQ_RM: RegRm = without_imm!(RegRm, 476);
 
-/// Moves by a condition. (Intel SDM, volume 2, `CMOVcc`.)
-pub fn cmov() -> [Op; 48]
-    ensures { map (λ op. op.number) result ≡ range_with_len 429 48 }
+/// Each constant is the line behind that of the one before it.
+#[rattlefmt::skip]
+fn in_order() -> [Op; 64]
+    ensures { map (λ op. op.number) result ≡ range_with_len 413 64 }
 {
     [
-        CMOVOW_RM.op(),
-        CMOVOL_RM.op(),
-        CMOVOQ_RM.op(),
-        CMOVNOW_RM.op(),
-        CMOVNOL_RM.op(),
-        CMOVNOQ_RM.op(),
-        CMOVBW_RM.op(),
-        CMOVBL_RM.op(),
-        CMOVBQ_RM.op(),
-        CMOVAEW_RM.op(),
-        CMOVAEL_RM.op(),
-        CMOVAEQ_RM.op(),
-        CMOVEW_RM.op(),
-        CMOVEL_RM.op(),
-        CMOVEQ_RM.op(),
-        CMOVNEW_RM.op(),
-        CMOVNEL_RM.op(),
-        CMOVNEQ_RM.op(),
-        CMOVBEW_RM.op(),
-        CMOVBEL_RM.op(),
-        CMOVBEQ_RM.op(),
-        CMOVAW_RM.op(),
-        CMOVAL_RM.op(),
-        CMOVAQ_RM.op(),
-        CMOVSW_RM.op(),
-        CMOVSL_RM.op(),
-        CMOVSQ_RM.op(),
-        CMOVNSW_RM.op(),
-        CMOVNSL_RM.op(),
-        CMOVNSQ_RM.op(),
-        CMOVPW_RM.op(),
-        CMOVPL_RM.op(),
-        CMOVPQ_RM.op(),
-        CMOVNPW_RM.op(),
-        CMOVNPL_RM.op(),
-        CMOVNPQ_RM.op(),
-        CMOVLW_RM.op(),
-        CMOVLL_RM.op(),
-        CMOVLQ_RM.op(),
-        CMOVGEW_RM.op(),
-        CMOVGEL_RM.op(),
-        CMOVGEQ_RM.op(),
-        CMOVLEW_RM.op(),
-        CMOVLEL_RM.op(),
-        CMOVLEQ_RM.op(),
-        CMOVGW_RM.op(),
-        CMOVGL_RM.op(),
+        SETO_M.op(), SETNO_M.op(), SETB_M.op(), SETAE_M.op(), SETE_M.op(), SETNE_M.op(),
+        SETBE_M.op(), SETA_M.op(), SETS_M.op(), SETNS_M.op(), SETP_M.op(), SETNP_M.op(),
+        SETL_M.op(), SETGE_M.op(), SETLE_M.op(), SETG_M.op(), CMOVOW_RM.op(), CMOVOL_RM.op(),
+        CMOVOQ_RM.op(), CMOVNOW_RM.op(), CMOVNOL_RM.op(), CMOVNOQ_RM.op(), CMOVBW_RM.op(),
+        CMOVBL_RM.op(), CMOVBQ_RM.op(), CMOVAEW_RM.op(), CMOVAEL_RM.op(), CMOVAEQ_RM.op(),
+        CMOVEW_RM.op(), CMOVEL_RM.op(), CMOVEQ_RM.op(), CMOVNEW_RM.op(), CMOVNEL_RM.op(),
+        CMOVNEQ_RM.op(), CMOVBEW_RM.op(), CMOVBEL_RM.op(), CMOVBEQ_RM.op(), CMOVAW_RM.op(),
+        CMOVAL_RM.op(), CMOVAQ_RM.op(), CMOVSW_RM.op(), CMOVSL_RM.op(), CMOVSQ_RM.op(),
+        CMOVNSW_RM.op(), CMOVNSL_RM.op(), CMOVNSQ_RM.op(), CMOVPW_RM.op(), CMOVPL_RM.op(),
+        CMOVPQ_RM.op(), CMOVNPW_RM.op(), CMOVNPL_RM.op(), CMOVNPQ_RM.op(), CMOVLW_RM.op(),
+        CMOVLL_RM.op(), CMOVLQ_RM.op(), CMOVGEW_RM.op(), CMOVGEL_RM.op(), CMOVGEQ_RM.op(),
+        CMOVLEW_RM.op(), CMOVLEL_RM.op(), CMOVLEQ_RM.op(), CMOVGW_RM.op(), CMOVGL_RM.op(),
         CMOVGQ_RM.op(),
     ]
 }

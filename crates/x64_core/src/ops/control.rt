@@ -8,6 +8,8 @@ use crate::makers::{Bare, Imm, Rm};
 use crate::op::Op;
 use std::marker::PhantomData;
 
+// The stack. (Intel SDM, volume 2, `PUSH` and `POP`.)
+
 /// `pushw rm16`.
 pub const PUSHW_M: Rm = without_imm!(Rm, 477);
 /// `pushq rm64`.
@@ -23,20 +25,7 @@ pub const POPW_M: Rm = without_imm!(Rm, 482);
 /// `popq rm64`.
 pub const POPQ_M: Rm = without_imm!(Rm, 483);
 
-/// The stack. (Intel SDM, volume 2, `PUSH` and `POP`.)
-pub fn stack() -> [Op; 7]
-    ensures { map (λ op. op.number) result ≡ range_with_len 477 7 }
-{
-    [
-        PUSHW_M.op(),
-        PUSHQ_M.op(),
-        PUSHQ_I8.op(),
-        PUSHW_I16.op(),
-        PUSHQ_I32.op(),
-        POPW_M.op(),
-        POPQ_M.op(),
-    ]
-}
+// Ends of functions, and stops. (Intel SDM, volume 2, `RET`, `LEAVE`, `UD`, `INT n/INTO/INT3/INT1` and `HLT`.)
 
 /// `retq`.
 pub const RETQ_ZO: Bare = without_imm!(Bare, 484);
@@ -51,16 +40,14 @@ pub const INT3_ZO: Bare = without_imm!(Bare, 488);
 /// `hlt`.
 pub const HLT_ZO: Bare = without_imm!(Bare, 489);
 
-/// Ends of functions, and stops. (Intel SDM, volume 2, `RET`, `LEAVE`, `UD`, `INT n/INTO/INT3/INT1` and `HLT`.)
-pub fn end() -> [Op; 6]
-    ensures { map (λ op. op.number) result ≡ range_with_len 484 6 }
+/// Each constant is the line behind that of the one before it.
+#[rattlefmt::skip]
+fn in_order() -> [Op; 13]
+    ensures { map (λ op. op.number) result ≡ range_with_len 477 13 }
 {
     [
-        RETQ_ZO.op(),
-        RETQ_I.op(),
-        LEAVEQ_ZO.op(),
-        UD2_ZO.op(),
-        INT3_ZO.op(),
+        PUSHW_M.op(), PUSHQ_M.op(), PUSHQ_I8.op(), PUSHW_I16.op(), PUSHQ_I32.op(), POPW_M.op(),
+        POPQ_M.op(), RETQ_ZO.op(), RETQ_I.op(), LEAVEQ_ZO.op(), UD2_ZO.op(), INT3_ZO.op(),
         HLT_ZO.op(),
     ]
 }

@@ -8,6 +8,8 @@ use crate::makers::{RegMem, RegRm, RmImm};
 use crate::op::Op;
 use std::marker::PhantomData;
 
+// Moves. (Intel SDM, volume 2, `MOV`.)
+
 /// `movb m8, r8`.
 pub const MOVB_MR: RegMem = without_imm!(RegMem, 304);
 /// `movb r8, m8`.
@@ -33,25 +35,7 @@ pub const MOVQ_RM: RegRm = without_imm!(RegRm, 314);
 /// `movq rm64, imm32`.
 pub const MOVQ_MI_SXL: RmImm<i32> = with_imm!(RmImm, 315);
 
-/// Moves. (Intel SDM, volume 2, `MOV`.)
-pub fn mov() -> [Op; 12]
-    ensures { map (λ op. op.number) result ≡ range_with_len 304 12 }
-{
-    [
-        MOVB_MR.op(),
-        MOVB_RM.op(),
-        MOVB_MI.op(),
-        MOVW_MR.op(),
-        MOVW_RM.op(),
-        MOVW_MI.op(),
-        MOVL_MR.op(),
-        MOVL_RM.op(),
-        MOVL_MI.op(),
-        MOVQ_MR.op(),
-        MOVQ_RM.op(),
-        MOVQ_MI_SXL.op(),
-    ]
-}
+// Moves with extension. (Intel SDM, volume 2, `MOVSX/MOVSXD` and `MOVZX`.)
 
 /// `movsbw r16, m8`.
 pub const MOVSBW_RM: RegMem = without_imm!(RegMem, 316);
@@ -76,24 +60,7 @@ pub const MOVZWL_RM: RegRm = without_imm!(RegRm, 325);
 /// `movzwq r64, rm16`.
 pub const MOVZWQ_RM: RegRm = without_imm!(RegRm, 326);
 
-/// Moves with extension. (Intel SDM, volume 2, `MOVSX/MOVSXD` and `MOVZX`.)
-pub fn extend() -> [Op; 11]
-    ensures { map (λ op. op.number) result ≡ range_with_len 316 11 }
-{
-    [
-        MOVSBW_RM.op(),
-        MOVSBL_RM.op(),
-        MOVSBQ_RM.op(),
-        MOVSWL_RM.op(),
-        MOVSWQ_RM.op(),
-        MOVSLQ_RM.op(),
-        MOVZBW_RM.op(),
-        MOVZBL_RM.op(),
-        MOVZBQ_RM.op(),
-        MOVZWL_RM.op(),
-        MOVZWQ_RM.op(),
-    ]
-}
+// Addresses, which are computed, and nothing is read or written there. (Intel SDM, volume 2, `LEA`.)
 
 /// `leaw r16, m16`.
 pub const LEAW_RM: RegMem = without_imm!(RegMem, 327);
@@ -102,9 +69,16 @@ pub const LEAL_RM: RegMem = without_imm!(RegMem, 328);
 /// `leaq r64, m64`.
 pub const LEAQ_RM: RegMem = without_imm!(RegMem, 329);
 
-/// Addresses, which are computed, and nothing is read or written there. (Intel SDM, volume 2, `LEA`.)
-pub fn lea() -> [Op; 3]
-    ensures { map (λ op. op.number) result ≡ range_with_len 327 3 }
+/// Each constant is the line behind that of the one before it.
+#[rattlefmt::skip]
+fn in_order() -> [Op; 26]
+    ensures { map (λ op. op.number) result ≡ range_with_len 304 26 }
 {
-    [LEAW_RM.op(), LEAL_RM.op(), LEAQ_RM.op()]
+    [
+        MOVB_MR.op(), MOVB_RM.op(), MOVB_MI.op(), MOVW_MR.op(), MOVW_RM.op(), MOVW_MI.op(),
+        MOVL_MR.op(), MOVL_RM.op(), MOVL_MI.op(), MOVQ_MR.op(), MOVQ_RM.op(), MOVQ_MI_SXL.op(),
+        MOVSBW_RM.op(), MOVSBL_RM.op(), MOVSBQ_RM.op(), MOVSWL_RM.op(), MOVSWQ_RM.op(),
+        MOVSLQ_RM.op(), MOVZBW_RM.op(), MOVZBL_RM.op(), MOVZBQ_RM.op(), MOVZWL_RM.op(),
+        MOVZWQ_RM.op(), LEAW_RM.op(), LEAL_RM.op(), LEAQ_RM.op(),
+    ]
 }

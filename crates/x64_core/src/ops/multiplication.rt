@@ -8,6 +8,8 @@ use crate::makers::{Bare, RegRm, RegRmImm, Rm};
 use crate::op::Op;
 use std::marker::PhantomData;
 
+// Multiplications. (Intel SDM, volume 2, `MUL` and `IMUL`.)
+
 /// `mulb rm8`.
 pub const MULB_M: Rm = without_imm!(Rm, 330);
 /// `mulw rm16`.
@@ -43,30 +45,7 @@ pub const IMULQ_RMI_SXB: RegRmImm<i8> = with_imm!(RegRmImm, 345);
 /// `imulq r64, rm64, imm32`.
 pub const IMULQ_RMI_SXL: RegRmImm<i32> = with_imm!(RegRmImm, 346);
 
-/// Multiplications. (Intel SDM, volume 2, `MUL` and `IMUL`.)
-pub fn mul() -> [Op; 17]
-    ensures { map (λ op. op.number) result ≡ range_with_len 330 17 }
-{
-    [
-        MULB_M.op(),
-        MULW_M.op(),
-        MULL_M.op(),
-        MULQ_M.op(),
-        IMULB_M.op(),
-        IMULW_M.op(),
-        IMULL_M.op(),
-        IMULQ_M.op(),
-        IMULW_RM.op(),
-        IMULW_RMI_SXB.op(),
-        IMULW_RMI.op(),
-        IMULL_RM.op(),
-        IMULL_RMI_SXB.op(),
-        IMULL_RMI.op(),
-        IMULQ_RM.op(),
-        IMULQ_RMI_SXB.op(),
-        IMULQ_RMI_SXL.op(),
-    ]
-}
+// Divisions. (Intel SDM, volume 2, `DIV` and `IDIV`.)
 
 /// `divb rm8`.
 pub const DIVB_M: Rm = without_imm!(Rm, 347);
@@ -85,21 +64,7 @@ pub const IDIVL_M: Rm = without_imm!(Rm, 353);
 /// `idivq rm64`.
 pub const IDIVQ_M: Rm = without_imm!(Rm, 354);
 
-/// Divisions. (Intel SDM, volume 2, `DIV` and `IDIV`.)
-pub fn div() -> [Op; 8]
-    ensures { map (λ op. op.number) result ≡ range_with_len 347 8 }
-{
-    [
-        DIVB_M.op(),
-        DIVW_M.op(),
-        DIVL_M.op(),
-        DIVQ_M.op(),
-        IDIVB_M.op(),
-        IDIVW_M.op(),
-        IDIVL_M.op(),
-        IDIVQ_M.op(),
-    ]
-}
+// Negations. (Intel SDM, volume 2, `NEG` and `NOT`.)
 
 /// `notb rm8`.
 pub const NOTB_M: Rm = without_imm!(Rm, 355);
@@ -118,21 +83,7 @@ pub const NEGL_M: Rm = without_imm!(Rm, 361);
 /// `negq rm64`.
 pub const NEGQ_M: Rm = without_imm!(Rm, 362);
 
-/// Negations. (Intel SDM, volume 2, `NEG` and `NOT`.)
-pub fn neg() -> [Op; 8]
-    ensures { map (λ op. op.number) result ≡ range_with_len 355 8 }
-{
-    [
-        NOTB_M.op(),
-        NOTW_M.op(),
-        NOTL_M.op(),
-        NOTQ_M.op(),
-        NEGB_M.op(),
-        NEGW_M.op(),
-        NEGL_M.op(),
-        NEGQ_M.op(),
-    ]
-}
+// Extensions of `al`, `ax` and `eax`. (Intel SDM, volume 2, `CBW/CWDE/CDQE` and `CWD/CDQ/CQO`.)
 
 /// `cbtw`.
 pub const CBTW_ZO: Bare = without_imm!(Bare, 363);
@@ -143,9 +94,18 @@ pub const CWTD_ZO: Bare = without_imm!(Bare, 365);
 /// `cltd`.
 pub const CLTD_ZO: Bare = without_imm!(Bare, 366);
 
-/// Extensions of `al`, `ax` and `eax`. (Intel SDM, volume 2, `CBW/CWDE/CDQE` and `CWD/CDQ/CQO`.)
-pub fn convert() -> [Op; 4]
-    ensures { map (λ op. op.number) result ≡ range_with_len 363 4 }
+/// Each constant is the line behind that of the one before it.
+#[rattlefmt::skip]
+fn in_order() -> [Op; 37]
+    ensures { map (λ op. op.number) result ≡ range_with_len 330 37 }
 {
-    [CBTW_ZO.op(), CWTL_ZO.op(), CWTD_ZO.op(), CLTD_ZO.op()]
+    [
+        MULB_M.op(), MULW_M.op(), MULL_M.op(), MULQ_M.op(), IMULB_M.op(), IMULW_M.op(),
+        IMULL_M.op(), IMULQ_M.op(), IMULW_RM.op(), IMULW_RMI_SXB.op(), IMULW_RMI.op(),
+        IMULL_RM.op(), IMULL_RMI_SXB.op(), IMULL_RMI.op(), IMULQ_RM.op(), IMULQ_RMI_SXB.op(),
+        IMULQ_RMI_SXL.op(), DIVB_M.op(), DIVW_M.op(), DIVL_M.op(), DIVQ_M.op(), IDIVB_M.op(),
+        IDIVW_M.op(), IDIVL_M.op(), IDIVQ_M.op(), NOTB_M.op(), NOTW_M.op(), NOTL_M.op(),
+        NOTQ_M.op(), NEGB_M.op(), NEGW_M.op(), NEGL_M.op(), NEGQ_M.op(), CBTW_ZO.op(),
+        CWTL_ZO.op(), CWTD_ZO.op(), CLTD_ZO.op(),
+    ]
 }

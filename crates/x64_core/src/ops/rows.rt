@@ -8,6 +8,8 @@ use crate::makers::{Bare, Imm, Mem, MemImm, RegMem, RegRm, RegRmImm, RegVvvvRm, 
 use crate::op::Op;
 use std::marker::PhantomData;
 
+// `lock add`. (Intel SDM, volume 2, `ADD`.)
+
 /// `lock addb m8, imm8`.
 pub const LOCK_ADDB_MI: MemImm<u8> = with_imm!(MemImm, 0);
 /// `lock addw m16, imm16`.
@@ -29,23 +31,7 @@ pub const LOCK_ADDL_MR: RegMem = without_imm!(RegMem, 8);
 /// `lock addq m64, r64`.
 pub const LOCK_ADDQ_MR: RegMem = without_imm!(RegMem, 9);
 
-/// `lock add`. (Intel SDM, volume 2, `ADD`.)
-pub fn from_lock_addb_mi() -> [Op; 10]
-    ensures { map (λ op. op.number) result ≡ range_with_len 0 10 }
-{
-    [
-        LOCK_ADDB_MI.op(),
-        LOCK_ADDW_MI.op(),
-        LOCK_ADDL_MI.op(),
-        LOCK_ADDQ_MI_SXL.op(),
-        LOCK_ADDL_MI_SXB.op(),
-        LOCK_ADDQ_MI_SXB.op(),
-        LOCK_ADDB_MR.op(),
-        LOCK_ADDW_MR.op(),
-        LOCK_ADDL_MR.op(),
-        LOCK_ADDQ_MR.op(),
-    ]
-}
+// `lock or`. (Intel SDM, volume 2, `OR`.)
 
 /// `lock orb m8, imm8`.
 pub const LOCK_ORB_MI: MemImm<u8> = with_imm!(MemImm, 10);
@@ -68,23 +54,7 @@ pub const LOCK_ORL_MR: RegMem = without_imm!(RegMem, 18);
 /// `lock orq m64, r64`.
 pub const LOCK_ORQ_MR: RegMem = without_imm!(RegMem, 19);
 
-/// `lock or`. (Intel SDM, volume 2, `OR`.)
-pub fn from_lock_orb_mi() -> [Op; 10]
-    ensures { map (λ op. op.number) result ≡ range_with_len 10 10 }
-{
-    [
-        LOCK_ORB_MI.op(),
-        LOCK_ORW_MI.op(),
-        LOCK_ORL_MI.op(),
-        LOCK_ORQ_MI_SXL.op(),
-        LOCK_ORL_MI_SXB.op(),
-        LOCK_ORQ_MI_SXB.op(),
-        LOCK_ORB_MR.op(),
-        LOCK_ORW_MR.op(),
-        LOCK_ORL_MR.op(),
-        LOCK_ORQ_MR.op(),
-    ]
-}
+// `lock adc`. (Intel SDM, volume 2, `ADC`.)
 
 /// `lock adcb m8, imm8`.
 pub const LOCK_ADCB_MI: MemImm<u8> = with_imm!(MemImm, 20);
@@ -107,23 +77,7 @@ pub const LOCK_ADCL_MR: RegMem = without_imm!(RegMem, 28);
 /// `lock adcq m64, r64`.
 pub const LOCK_ADCQ_MR: RegMem = without_imm!(RegMem, 29);
 
-/// `lock adc`. (Intel SDM, volume 2, `ADC`.)
-pub fn from_lock_adcb_mi() -> [Op; 10]
-    ensures { map (λ op. op.number) result ≡ range_with_len 20 10 }
-{
-    [
-        LOCK_ADCB_MI.op(),
-        LOCK_ADCW_MI.op(),
-        LOCK_ADCL_MI.op(),
-        LOCK_ADCQ_MI_SXL.op(),
-        LOCK_ADCL_MI_SXB.op(),
-        LOCK_ADCQ_MI_SXB.op(),
-        LOCK_ADCB_MR.op(),
-        LOCK_ADCW_MR.op(),
-        LOCK_ADCL_MR.op(),
-        LOCK_ADCQ_MR.op(),
-    ]
-}
+// `lock sbb`. (Intel SDM, volume 2, `SBB`.)
 
 /// `lock sbbb m8, imm8`.
 pub const LOCK_SBBB_MI: MemImm<u8> = with_imm!(MemImm, 30);
@@ -146,23 +100,7 @@ pub const LOCK_SBBL_MR: RegMem = without_imm!(RegMem, 38);
 /// `lock sbbq m64, r64`.
 pub const LOCK_SBBQ_MR: RegMem = without_imm!(RegMem, 39);
 
-/// `lock sbb`. (Intel SDM, volume 2, `SBB`.)
-pub fn from_lock_sbbb_mi() -> [Op; 10]
-    ensures { map (λ op. op.number) result ≡ range_with_len 30 10 }
-{
-    [
-        LOCK_SBBB_MI.op(),
-        LOCK_SBBW_MI.op(),
-        LOCK_SBBL_MI.op(),
-        LOCK_SBBQ_MI_SXL.op(),
-        LOCK_SBBL_MI_SXB.op(),
-        LOCK_SBBQ_MI_SXB.op(),
-        LOCK_SBBB_MR.op(),
-        LOCK_SBBW_MR.op(),
-        LOCK_SBBL_MR.op(),
-        LOCK_SBBQ_MR.op(),
-    ]
-}
+// `lock and`. (Intel SDM, volume 2, `AND`.)
 
 /// `lock andb m8, imm8`.
 pub const LOCK_ANDB_MI: MemImm<u8> = with_imm!(MemImm, 40);
@@ -185,23 +123,7 @@ pub const LOCK_ANDL_MR: RegMem = without_imm!(RegMem, 48);
 /// `lock andq m64, r64`.
 pub const LOCK_ANDQ_MR: RegMem = without_imm!(RegMem, 49);
 
-/// `lock and`. (Intel SDM, volume 2, `AND`.)
-pub fn from_lock_andb_mi() -> [Op; 10]
-    ensures { map (λ op. op.number) result ≡ range_with_len 40 10 }
-{
-    [
-        LOCK_ANDB_MI.op(),
-        LOCK_ANDW_MI.op(),
-        LOCK_ANDL_MI.op(),
-        LOCK_ANDQ_MI_SXL.op(),
-        LOCK_ANDL_MI_SXB.op(),
-        LOCK_ANDQ_MI_SXB.op(),
-        LOCK_ANDB_MR.op(),
-        LOCK_ANDW_MR.op(),
-        LOCK_ANDL_MR.op(),
-        LOCK_ANDQ_MR.op(),
-    ]
-}
+// `lock sub`. (Intel SDM, volume 2, `SUB`.)
 
 /// `lock subb m8, imm8`.
 pub const LOCK_SUBB_MI: MemImm<u8> = with_imm!(MemImm, 50);
@@ -224,23 +146,7 @@ pub const LOCK_SUBL_MR: RegMem = without_imm!(RegMem, 58);
 /// `lock subq m64, r64`.
 pub const LOCK_SUBQ_MR: RegMem = without_imm!(RegMem, 59);
 
-/// `lock sub`. (Intel SDM, volume 2, `SUB`.)
-pub fn from_lock_subb_mi() -> [Op; 10]
-    ensures { map (λ op. op.number) result ≡ range_with_len 50 10 }
-{
-    [
-        LOCK_SUBB_MI.op(),
-        LOCK_SUBW_MI.op(),
-        LOCK_SUBL_MI.op(),
-        LOCK_SUBQ_MI_SXL.op(),
-        LOCK_SUBL_MI_SXB.op(),
-        LOCK_SUBQ_MI_SXB.op(),
-        LOCK_SUBB_MR.op(),
-        LOCK_SUBW_MR.op(),
-        LOCK_SUBL_MR.op(),
-        LOCK_SUBQ_MR.op(),
-    ]
-}
+// `lock xor`. (Intel SDM, volume 2, `XOR`.)
 
 /// `lock xorb m8, imm8`.
 pub const LOCK_XORB_MI: MemImm<u8> = with_imm!(MemImm, 60);
@@ -263,23 +169,7 @@ pub const LOCK_XORL_MR: RegMem = without_imm!(RegMem, 68);
 /// `lock xorq m64, r64`.
 pub const LOCK_XORQ_MR: RegMem = without_imm!(RegMem, 69);
 
-/// `lock xor`. (Intel SDM, volume 2, `XOR`.)
-pub fn from_lock_xorb_mi() -> [Op; 10]
-    ensures { map (λ op. op.number) result ≡ range_with_len 60 10 }
-{
-    [
-        LOCK_XORB_MI.op(),
-        LOCK_XORW_MI.op(),
-        LOCK_XORL_MI.op(),
-        LOCK_XORQ_MI_SXL.op(),
-        LOCK_XORL_MI_SXB.op(),
-        LOCK_XORQ_MI_SXB.op(),
-        LOCK_XORB_MR.op(),
-        LOCK_XORW_MR.op(),
-        LOCK_XORL_MR.op(),
-        LOCK_XORQ_MR.op(),
-    ]
-}
+// `lock xadd`. (Intel SDM, volume 2, `XADD`.)
 
 /// `lock xaddb m8, r8`.
 pub const LOCK_XADDB_MR: RegMem = without_imm!(RegMem, 70);
@@ -290,17 +180,7 @@ pub const LOCK_XADDL_MR: RegMem = without_imm!(RegMem, 72);
 /// `lock xaddq m64, r64`.
 pub const LOCK_XADDQ_MR: RegMem = without_imm!(RegMem, 73);
 
-/// `lock xadd`. (Intel SDM, volume 2, `XADD`.)
-pub fn from_lock_xaddb_mr() -> [Op; 4]
-    ensures { map (λ op. op.number) result ≡ range_with_len 70 4 }
-{
-    [
-        LOCK_XADDB_MR.op(),
-        LOCK_XADDW_MR.op(),
-        LOCK_XADDL_MR.op(),
-        LOCK_XADDQ_MR.op(),
-    ]
-}
+// `lock cmpxchg`. (Intel SDM, volume 2, `CMPXCHG` and `CMPXCHG8B/CMPXCHG16B`.)
 
 /// `lock cmpxchgb m8, r8`.
 pub const LOCK_CMPXCHGB_MR: RegMem = without_imm!(RegMem, 74);
@@ -313,18 +193,7 @@ pub const LOCK_CMPXCHGQ_MR: RegMem = without_imm!(RegMem, 77);
 /// `lock cmpxchg16b m128`.
 pub const LOCK_CMPXCHG16B_M: Mem = without_imm!(Mem, 78);
 
-/// `lock cmpxchg`. (Intel SDM, volume 2, `CMPXCHG` and `CMPXCHG8B/CMPXCHG16B`.)
-pub fn from_lock_cmpxchgb_mr() -> [Op; 5]
-    ensures { map (λ op. op.number) result ≡ range_with_len 74 5 }
-{
-    [
-        LOCK_CMPXCHGB_MR.op(),
-        LOCK_CMPXCHGW_MR.op(),
-        LOCK_CMPXCHGL_MR.op(),
-        LOCK_CMPXCHGQ_MR.op(),
-        LOCK_CMPXCHG16B_M.op(),
-    ]
-}
+// `xchg`. (Intel SDM, volume 2, `XCHG`.)
 
 /// `xchgb r8, m8`.
 pub const XCHGB_RM: RegMem = without_imm!(RegMem, 79);
@@ -335,12 +204,7 @@ pub const XCHGL_RM: RegMem = without_imm!(RegMem, 81);
 /// `xchgq r64, m64`.
 pub const XCHGQ_RM: RegMem = without_imm!(RegMem, 82);
 
-/// `xchg`. (Intel SDM, volume 2, `XCHG`.)
-pub fn from_xchgb_rm() -> [Op; 4]
-    ensures { map (λ op. op.number) result ≡ range_with_len 79 4 }
-{
-    [XCHGB_RM.op(), XCHGW_RM.op(), XCHGL_RM.op(), XCHGQ_RM.op()]
-}
+// `rol` by one. (Intel SDM, volume 2, `RCL/RCR/ROL/ROR`.)
 
 /// `rolb rm8`.
 pub const ROLB_M1: Rm = without_imm!(Rm, 83);
@@ -351,12 +215,7 @@ pub const ROLL_M1: Rm = without_imm!(Rm, 85);
 /// `rolq rm64`.
 pub const ROLQ_M1: Rm = without_imm!(Rm, 86);
 
-/// `rol` by one. (Intel SDM, volume 2, `RCL/RCR/ROL/ROR`.)
-pub fn from_rolb_m1() -> [Op; 4]
-    ensures { map (λ op. op.number) result ≡ range_with_len 83 4 }
-{
-    [ROLB_M1.op(), ROLW_M1.op(), ROLL_M1.op(), ROLQ_M1.op()]
-}
+// `ror` by one. (Intel SDM, volume 2, `RCL/RCR/ROL/ROR`.)
 
 /// `rorb rm8`.
 pub const RORB_M1: Rm = without_imm!(Rm, 87);
@@ -367,12 +226,7 @@ pub const RORL_M1: Rm = without_imm!(Rm, 89);
 /// `rorq rm64`.
 pub const RORQ_M1: Rm = without_imm!(Rm, 90);
 
-/// `ror` by one. (Intel SDM, volume 2, `RCL/RCR/ROL/ROR`.)
-pub fn from_rorb_m1() -> [Op; 4]
-    ensures { map (λ op. op.number) result ≡ range_with_len 87 4 }
-{
-    [RORB_M1.op(), RORW_M1.op(), RORL_M1.op(), RORQ_M1.op()]
-}
+// `shl` by one. (Intel SDM, volume 2, `SAL/SAR/SHL/SHR`.)
 
 /// `shlb rm8`.
 pub const SHLB_M1: Rm = without_imm!(Rm, 91);
@@ -383,12 +237,7 @@ pub const SHLL_M1: Rm = without_imm!(Rm, 93);
 /// `shlq rm64`.
 pub const SHLQ_M1: Rm = without_imm!(Rm, 94);
 
-/// `shl` by one. (Intel SDM, volume 2, `SAL/SAR/SHL/SHR`.)
-pub fn from_shlb_m1() -> [Op; 4]
-    ensures { map (λ op. op.number) result ≡ range_with_len 91 4 }
-{
-    [SHLB_M1.op(), SHLW_M1.op(), SHLL_M1.op(), SHLQ_M1.op()]
-}
+// `shr` by one. (Intel SDM, volume 2, `SAL/SAR/SHL/SHR`.)
 
 /// `shrb rm8`.
 pub const SHRB_M1: Rm = without_imm!(Rm, 95);
@@ -399,12 +248,7 @@ pub const SHRL_M1: Rm = without_imm!(Rm, 97);
 /// `shrq rm64`.
 pub const SHRQ_M1: Rm = without_imm!(Rm, 98);
 
-/// `shr` by one. (Intel SDM, volume 2, `SAL/SAR/SHL/SHR`.)
-pub fn from_shrb_m1() -> [Op; 4]
-    ensures { map (λ op. op.number) result ≡ range_with_len 95 4 }
-{
-    [SHRB_M1.op(), SHRW_M1.op(), SHRL_M1.op(), SHRQ_M1.op()]
-}
+// `sar` by one. (Intel SDM, volume 2, `SAL/SAR/SHL/SHR`.)
 
 /// `sarb rm8`.
 pub const SARB_M1: Rm = without_imm!(Rm, 99);
@@ -415,34 +259,19 @@ pub const SARL_M1: Rm = without_imm!(Rm, 101);
 /// `sarq rm64`.
 pub const SARQ_M1: Rm = without_imm!(Rm, 102);
 
-/// `sar` by one. (Intel SDM, volume 2, `SAL/SAR/SHL/SHR`.)
-pub fn from_sarb_m1() -> [Op; 4]
-    ensures { map (λ op. op.number) result ≡ range_with_len 99 4 }
-{
-    [SARB_M1.op(), SARW_M1.op(), SARL_M1.op(), SARQ_M1.op()]
-}
+// Jumps and calls to the place that a register or memory holds. (Intel SDM, volume 2, `JMP` and `CALL`.)
 
 /// `callq rm64`.
 pub const CALLQ_M: Rm = without_imm!(Rm, 103);
 /// `jmpq rm64`.
 pub const JMPQ_M: Rm = without_imm!(Rm, 104);
 
-/// Jumps and calls to the place that a register or memory holds. (Intel SDM, volume 2, `JMP` and `CALL`.)
-pub fn from_callq_m() -> [Op; 2]
-    ensures { map (λ op. op.number) result ≡ range_with_len 103 2 }
-{
-    [CALLQ_M.op(), JMPQ_M.op()]
-}
+// `andps`. (Intel SDM, volume 2, `ANDPS`.)
 
 /// `andps xmm1, xmm_m128`.
 pub const ANDPS_A: RegRm = without_imm!(RegRm, 105);
 
-/// `andps`. (Intel SDM, volume 2, `ANDPS`.)
-pub fn from_andps_a() -> [Op; 1]
-    ensures { map (λ op. op.number) result ≡ range_with_len 105 1 }
-{
-    [ANDPS_A.op()]
-}
+// Comparisons. (Intel SDM, volume 2, `CMPPS`, `CMPPD`, `CMPSS` and `CMPSD`.)
 
 /// `cmpps xmm1, xmm_m128, imm8`.
 pub const CMPPS_A: RegRmImm<u8> = with_imm!(RegRmImm, 106);
@@ -453,52 +282,27 @@ pub const CMPSS_A: RegRmImm<u8> = with_imm!(RegRmImm, 108);
 /// `cmpsd xmm1, xmm_m64, imm8`.
 pub const CMPSD_A: RegRmImm<u8> = with_imm!(RegRmImm, 109);
 
-/// Comparisons. (Intel SDM, volume 2, `CMPPS`, `CMPPD`, `CMPSS` and `CMPSD`.)
-pub fn from_cmpps_a() -> [Op; 4]
-    ensures { map (λ op. op.number) result ≡ range_with_len 106 4 }
-{
-    [CMPPS_A.op(), CMPPD_A.op(), CMPSS_A.op(), CMPSD_A.op()]
-}
+// `and`. (Intel SDM, volume 2, `AND`.)
 
 /// `andb al, imm8`.
 pub const ANDB_I: Imm<u8> = with_imm!(Imm, 110);
 
-/// `and`. (Intel SDM, volume 2, `AND`.)
-pub fn from_andb_i() -> [Op; 1]
-    ensures { map (λ op. op.number) result ≡ range_with_len 110 1 }
-{
-    [ANDB_I.op()]
-}
+// Jumps and calls by a distance of four bytes. (Intel SDM, volume 2, `JMP`, `Jcc` and `CALL`.)
 
 /// `callq imm32`.
 pub const CALLQ_D: Imm<i32> = with_imm!(Imm, 111);
 
-/// Jumps and calls by a distance of four bytes. (Intel SDM, volume 2, `JMP`, `Jcc` and `CALL`.)
-pub fn from_callq_d() -> [Op; 1]
-    ensures { map (λ op. op.number) result ≡ range_with_len 111 1 }
-{
-    [CALLQ_D.op()]
-}
+// Jumps by a distance of one byte. (Intel SDM, volume 2, `JMP` and `Jcc`.)
 
 /// `jmp imm8`.
 pub const JMP_D8: Imm<i8> = with_imm!(Imm, 112);
 
-/// Jumps by a distance of one byte. (Intel SDM, volume 2, `JMP` and `Jcc`.)
-pub fn from_jmp_d8() -> [Op; 1]
-    ensures { map (λ op. op.number) result ≡ range_with_len 112 1 }
-{
-    [JMP_D8.op()]
-}
+// Jumps and calls by a distance of four bytes. (Intel SDM, volume 2, `JMP`, `Jcc` and `CALL`.)
 
 /// `jmp imm32`.
 pub const JMP_D32: Imm<i32> = with_imm!(Imm, 113);
 
-/// Jumps and calls by a distance of four bytes. (Intel SDM, volume 2, `JMP`, `Jcc` and `CALL`.)
-pub fn from_jmp_d32() -> [Op; 1]
-    ensures { map (λ op. op.number) result ≡ range_with_len 113 1 }
-{
-    [JMP_D32.op()]
-}
+// Jumps by a distance of one byte. (Intel SDM, volume 2, `JMP` and `Jcc`.)
 
 /// `jo imm8`.
 pub const JO_D8: Imm<i8> = with_imm!(Imm, 114);
@@ -533,29 +337,7 @@ pub const JLE_D8: Imm<i8> = with_imm!(Imm, 128);
 /// `jg imm8`.
 pub const JG_D8: Imm<i8> = with_imm!(Imm, 129);
 
-/// Jumps by a distance of one byte. (Intel SDM, volume 2, `JMP` and `Jcc`.)
-pub fn from_jo_d8() -> [Op; 16]
-    ensures { map (λ op. op.number) result ≡ range_with_len 114 16 }
-{
-    [
-        JO_D8.op(),
-        JNO_D8.op(),
-        JB_D8.op(),
-        JAE_D8.op(),
-        JE_D8.op(),
-        JNE_D8.op(),
-        JBE_D8.op(),
-        JA_D8.op(),
-        JS_D8.op(),
-        JNS_D8.op(),
-        JP_D8.op(),
-        JNP_D8.op(),
-        JL_D8.op(),
-        JGE_D8.op(),
-        JLE_D8.op(),
-        JG_D8.op(),
-    ]
-}
+// Jumps and calls by a distance of four bytes. (Intel SDM, volume 2, `JMP`, `Jcc` and `CALL`.)
 
 /// `jo imm32`.
 pub const JO_D32: Imm<i32> = with_imm!(Imm, 130);
@@ -590,29 +372,7 @@ pub const JLE_D32: Imm<i32> = with_imm!(Imm, 144);
 /// `jg imm32`.
 pub const JG_D32: Imm<i32> = with_imm!(Imm, 145);
 
-/// Jumps and calls by a distance of four bytes. (Intel SDM, volume 2, `JMP`, `Jcc` and `CALL`.)
-pub fn from_jo_d32() -> [Op; 16]
-    ensures { map (λ op. op.number) result ≡ range_with_len 130 16 }
-{
-    [
-        JO_D32.op(),
-        JNO_D32.op(),
-        JB_D32.op(),
-        JAE_D32.op(),
-        JE_D32.op(),
-        JNE_D32.op(),
-        JBE_D32.op(),
-        JA_D32.op(),
-        JS_D32.op(),
-        JNS_D32.op(),
-        JP_D32.op(),
-        JNP_D32.op(),
-        JL_D32.op(),
-        JGE_D32.op(),
-        JLE_D32.op(),
-        JG_D32.op(),
-    ]
-}
+// VEX comparisons. (Intel SDM, volume 2, `CMPPS`, `CMPPD`, `CMPSS` and `CMPSD`.)
 
 /// `vcmpps xmm1, xmm2, xmm_m128, imm8`.
 pub const VCMPPS_B: RegVvvvRmImm<u8> = with_imm!(RegVvvvRmImm, 146);
@@ -623,36 +383,21 @@ pub const VCMPSS_B: RegVvvvRmImm<u8> = with_imm!(RegVvvvRmImm, 148);
 /// `vcmpsd xmm1, xmm2, xmm_m64, imm8`.
 pub const VCMPSD_B: RegVvvvRmImm<u8> = with_imm!(RegVvvvRmImm, 149);
 
-/// VEX comparisons. (Intel SDM, volume 2, `CMPPS`, `CMPPD`, `CMPSS` and `CMPSD`.)
-pub fn from_vcmpps_b() -> [Op; 4]
-    ensures { map (λ op. op.number) result ≡ range_with_len 146 4 }
-{
-    [VCMPPS_B.op(), VCMPPD_B.op(), VCMPSS_B.op(), VCMPSD_B.op()]
-}
+// Conversions. (Intel SDM, volume 2, `CVTPD2PS` and `CVTTPD2DQ`.)
 
 /// `vcvtpd2ps xmm1, xmm_m128`.
 pub const VCVTPD2PS_A: RegRm = without_imm!(RegRm, 150);
 /// `vcvttpd2dq xmm1, xmm_m128`.
 pub const VCVTTPD2DQ_A: RegRm = without_imm!(RegRm, 151);
 
-/// Conversions. (Intel SDM, volume 2, `CVTPD2PS` and `CVTTPD2DQ`.)
-pub fn from_vcvtpd2ps_a() -> [Op; 2]
-    ensures { map (λ op. op.number) result ≡ range_with_len 150 2 }
-{
-    [VCVTPD2PS_A.op(), VCVTTPD2DQ_A.op()]
-}
+// `mulx`. (Intel SDM, volume 2, `MULX`.)
 
 /// `mulxl r32a, r32b, rm32`.
 pub const MULXL_RVM: RegVvvvRm = without_imm!(RegVvvvRm, 152);
 /// `mulxq r64a, r64b, rm64`.
 pub const MULXQ_RVM: RegVvvvRm = without_imm!(RegVvvvRm, 153);
 
-/// `mulx`. (Intel SDM, volume 2, `MULX`.)
-pub fn from_mulxl_rvm() -> [Op; 2]
-    ensures { map (λ op. op.number) result ≡ range_with_len 152 2 }
-{
-    [MULXL_RVM.op(), MULXQ_RVM.op()]
-}
+// Instructions that do nothing. (Intel SDM, volume 2, `NOP`, table 4-12.)
 
 /// `nop`.
 pub const NOP_1B: Bare = without_imm!(Bare, 154);
@@ -663,9 +408,62 @@ pub const NOPL_RM: Rm = without_imm!(Rm, 156);
 /// `nop rm16`.
 pub const NOPW_RM: Rm = without_imm!(Rm, 157);
 
-/// Instructions that do nothing. (Intel SDM, volume 2, `NOP`, table 4-12.)
-pub fn from_nop_1b() -> [Op; 4]
-    ensures { map (λ op. op.number) result ≡ range_with_len 154 4 }
+/// Each constant is the line behind that of the one before it.
+#[rattlefmt::skip]
+fn in_order_from_lock_addb_mi() -> [Op; 53]
+    ensures { map (λ op. op.number) result ≡ range_with_len 0 53 }
 {
-    [NOP_1B.op(), NOP_2B.op(), NOPL_RM.op(), NOPW_RM.op()]
+    [
+        LOCK_ADDB_MI.op(), LOCK_ADDW_MI.op(), LOCK_ADDL_MI.op(), LOCK_ADDQ_MI_SXL.op(),
+        LOCK_ADDL_MI_SXB.op(), LOCK_ADDQ_MI_SXB.op(), LOCK_ADDB_MR.op(), LOCK_ADDW_MR.op(),
+        LOCK_ADDL_MR.op(), LOCK_ADDQ_MR.op(), LOCK_ORB_MI.op(), LOCK_ORW_MI.op(), LOCK_ORL_MI.op(),
+        LOCK_ORQ_MI_SXL.op(), LOCK_ORL_MI_SXB.op(), LOCK_ORQ_MI_SXB.op(), LOCK_ORB_MR.op(),
+        LOCK_ORW_MR.op(), LOCK_ORL_MR.op(), LOCK_ORQ_MR.op(), LOCK_ADCB_MI.op(), LOCK_ADCW_MI.op(),
+        LOCK_ADCL_MI.op(), LOCK_ADCQ_MI_SXL.op(), LOCK_ADCL_MI_SXB.op(), LOCK_ADCQ_MI_SXB.op(),
+        LOCK_ADCB_MR.op(), LOCK_ADCW_MR.op(), LOCK_ADCL_MR.op(), LOCK_ADCQ_MR.op(),
+        LOCK_SBBB_MI.op(), LOCK_SBBW_MI.op(), LOCK_SBBL_MI.op(), LOCK_SBBQ_MI_SXL.op(),
+        LOCK_SBBL_MI_SXB.op(), LOCK_SBBQ_MI_SXB.op(), LOCK_SBBB_MR.op(), LOCK_SBBW_MR.op(),
+        LOCK_SBBL_MR.op(), LOCK_SBBQ_MR.op(), LOCK_ANDB_MI.op(), LOCK_ANDW_MI.op(),
+        LOCK_ANDL_MI.op(), LOCK_ANDQ_MI_SXL.op(), LOCK_ANDL_MI_SXB.op(), LOCK_ANDQ_MI_SXB.op(),
+        LOCK_ANDB_MR.op(), LOCK_ANDW_MR.op(), LOCK_ANDL_MR.op(), LOCK_ANDQ_MR.op(),
+        LOCK_SUBB_MI.op(), LOCK_SUBW_MI.op(), LOCK_SUBL_MI.op(),
+    ]
+}
+
+/// Each constant is the line behind that of the one before it.
+#[rattlefmt::skip]
+fn in_order_from_lock_subq_mi_sxl() -> [Op; 53]
+    ensures { map (λ op. op.number) result ≡ range_with_len 53 53 }
+{
+    [
+        LOCK_SUBQ_MI_SXL.op(), LOCK_SUBL_MI_SXB.op(), LOCK_SUBQ_MI_SXB.op(), LOCK_SUBB_MR.op(),
+        LOCK_SUBW_MR.op(), LOCK_SUBL_MR.op(), LOCK_SUBQ_MR.op(), LOCK_XORB_MI.op(),
+        LOCK_XORW_MI.op(), LOCK_XORL_MI.op(), LOCK_XORQ_MI_SXL.op(), LOCK_XORL_MI_SXB.op(),
+        LOCK_XORQ_MI_SXB.op(), LOCK_XORB_MR.op(), LOCK_XORW_MR.op(), LOCK_XORL_MR.op(),
+        LOCK_XORQ_MR.op(), LOCK_XADDB_MR.op(), LOCK_XADDW_MR.op(), LOCK_XADDL_MR.op(),
+        LOCK_XADDQ_MR.op(), LOCK_CMPXCHGB_MR.op(), LOCK_CMPXCHGW_MR.op(), LOCK_CMPXCHGL_MR.op(),
+        LOCK_CMPXCHGQ_MR.op(), LOCK_CMPXCHG16B_M.op(), XCHGB_RM.op(), XCHGW_RM.op(), XCHGL_RM.op(),
+        XCHGQ_RM.op(), ROLB_M1.op(), ROLW_M1.op(), ROLL_M1.op(), ROLQ_M1.op(), RORB_M1.op(),
+        RORW_M1.op(), RORL_M1.op(), RORQ_M1.op(), SHLB_M1.op(), SHLW_M1.op(), SHLL_M1.op(),
+        SHLQ_M1.op(), SHRB_M1.op(), SHRW_M1.op(), SHRL_M1.op(), SHRQ_M1.op(), SARB_M1.op(),
+        SARW_M1.op(), SARL_M1.op(), SARQ_M1.op(), CALLQ_M.op(), JMPQ_M.op(), ANDPS_A.op(),
+    ]
+}
+
+/// Each constant is the line behind that of the one before it.
+#[rattlefmt::skip]
+fn in_order_from_cmpps_a() -> [Op; 52]
+    ensures { map (λ op. op.number) result ≡ range_with_len 106 52 }
+{
+    [
+        CMPPS_A.op(), CMPPD_A.op(), CMPSS_A.op(), CMPSD_A.op(), ANDB_I.op(), CALLQ_D.op(),
+        JMP_D8.op(), JMP_D32.op(), JO_D8.op(), JNO_D8.op(), JB_D8.op(), JAE_D8.op(), JE_D8.op(),
+        JNE_D8.op(), JBE_D8.op(), JA_D8.op(), JS_D8.op(), JNS_D8.op(), JP_D8.op(), JNP_D8.op(),
+        JL_D8.op(), JGE_D8.op(), JLE_D8.op(), JG_D8.op(), JO_D32.op(), JNO_D32.op(), JB_D32.op(),
+        JAE_D32.op(), JE_D32.op(), JNE_D32.op(), JBE_D32.op(), JA_D32.op(), JS_D32.op(),
+        JNS_D32.op(), JP_D32.op(), JNP_D32.op(), JL_D32.op(), JGE_D32.op(), JLE_D32.op(),
+        JG_D32.op(), VCMPPS_B.op(), VCMPPD_B.op(), VCMPSS_B.op(), VCMPSD_B.op(), VCVTPD2PS_A.op(),
+        VCVTTPD2DQ_A.op(), MULXL_RVM.op(), MULXQ_RVM.op(), NOP_1B.op(), NOP_2B.op(), NOPL_RM.op(),
+        NOPW_RM.op(),
+    ]
 }

@@ -7,6 +7,8 @@ ghost use Rattle.std.specs.List.{range_with_len};
 use crate::makers::{RegMem, RegRm};
 use crate::op::Op;
 
+// Arithmetic of one floating-point value. (Intel SDM, volume 2, `ADDSS`, `ADDSD` and so on.)
+
 /// `addss xmm1, xmm_m32`.
 pub const ADDSS_A: RegRm = without_imm!(RegRm, 520);
 /// `addsd xmm1, xmm_m64`.
@@ -36,39 +38,14 @@ pub const SQRTSS_A: RegRm = without_imm!(RegRm, 532);
 /// `sqrtsd xmm1, xmm_m64`.
 pub const SQRTSD_A: RegRm = without_imm!(RegRm, 533);
 
-/// Arithmetic of one floating-point value. (Intel SDM, volume 2, `ADDSS`, `ADDSD` and so on.)
-pub fn arithmetic() -> [Op; 14]
-    ensures { map (λ op. op.number) result ≡ range_with_len 520 14 }
-{
-    [
-        ADDSS_A.op(),
-        ADDSD_A.op(),
-        MULSS_A.op(),
-        MULSD_A.op(),
-        SUBSS_A.op(),
-        SUBSD_A.op(),
-        MINSS_A.op(),
-        MINSD_A.op(),
-        DIVSS_A.op(),
-        DIVSD_A.op(),
-        MAXSS_A.op(),
-        MAXSD_A.op(),
-        SQRTSS_A.op(),
-        SQRTSD_A.op(),
-    ]
-}
+// Comparisons of one floating-point value. (Intel SDM, volume 2, `UCOMISS` and `UCOMISD`.)
 
 /// `ucomiss xmm1, xmm_m32`.
 pub const UCOMISS_A: RegRm = without_imm!(RegRm, 534);
 /// `ucomisd xmm1, xmm_m64`.
 pub const UCOMISD_A: RegRm = without_imm!(RegRm, 535);
 
-/// Comparisons of one floating-point value. (Intel SDM, volume 2, `UCOMISS` and `UCOMISD`.)
-pub fn compare() -> [Op; 2]
-    ensures { map (λ op. op.number) result ≡ range_with_len 534 2 }
-{
-    [UCOMISS_A.op(), UCOMISD_A.op()]
-}
+// Bitwise logic of a vector register. (Intel SDM, volume 2, `ANDPD`, `ANDNPS`, `ORPS`, `XORPS`, `PXOR` and so on.)
 
 /// `andpd xmm1, xmm_m128`.
 pub const ANDPD_A: RegRm = without_imm!(RegRm, 536);
@@ -87,21 +64,7 @@ pub const XORPD_A: RegRm = without_imm!(RegRm, 542);
 /// `pxor xmm1, xmm_m128`.
 pub const PXOR_A: RegRm = without_imm!(RegRm, 543);
 
-/// Bitwise logic of a vector register. (Intel SDM, volume 2, `ANDPD`, `ANDNPS`, `ORPS`, `XORPS`, `PXOR` and so on.)
-pub fn logic() -> [Op; 8]
-    ensures { map (λ op. op.number) result ≡ range_with_len 536 8 }
-{
-    [
-        ANDPD_A.op(),
-        ANDNPS_A.op(),
-        ANDNPD_A.op(),
-        ORPS_A.op(),
-        ORPD_A.op(),
-        XORPS_A.op(),
-        XORPD_A.op(),
-        PXOR_A.op(),
-    ]
-}
+// Moves of vector registers. (Intel SDM, volume 2, `MOVSS`, `MOVSD`, `MOVAPS`, `MOVD/MOVQ` and so on.)
 
 /// `movss xmm1, m32`.
 pub const MOVSS_A_M: RegMem = without_imm!(RegMem, 544);
@@ -144,33 +107,7 @@ pub const MOVD_B: RegRm = without_imm!(RegRm, 562);
 /// `movq rm64, xmm1`.
 pub const MOVQ_B: RegRm = without_imm!(RegRm, 563);
 
-/// Moves of vector registers. (Intel SDM, volume 2, `MOVSS`, `MOVSD`, `MOVAPS`, `MOVD/MOVQ` and so on.)
-pub fn mov() -> [Op; 20]
-    ensures { map (λ op. op.number) result ≡ range_with_len 544 20 }
-{
-    [
-        MOVSS_A_M.op(),
-        MOVSS_C_M.op(),
-        MOVSD_A_M.op(),
-        MOVSD_C_M.op(),
-        MOVAPS_A.op(),
-        MOVAPS_B.op(),
-        MOVAPD_A.op(),
-        MOVAPD_B.op(),
-        MOVUPS_A.op(),
-        MOVUPS_B.op(),
-        MOVUPD_A.op(),
-        MOVUPD_B.op(),
-        MOVDQA_A.op(),
-        MOVDQA_B.op(),
-        MOVDQU_A.op(),
-        MOVDQU_B.op(),
-        MOVD_A.op(),
-        MOVQ_A.op(),
-        MOVD_B.op(),
-        MOVQ_B.op(),
-    ]
-}
+// Conversions. (Intel SDM, volume 2, `CVTSI2SS`, `CVTTSD2SI` and so on.)
 
 /// `cvtsi2ssl xmm1, rm32`.
 pub const CVTSI2SSL_A: RegRm = without_imm!(RegRm, 564);
@@ -213,30 +150,23 @@ pub const CVTDQ2PD_A: RegRm = without_imm!(RegRm, 582);
 /// `cvttpd2dq xmm1, xmm_m128`.
 pub const CVTTPD2DQ_A: RegRm = without_imm!(RegRm, 583);
 
-/// Conversions. (Intel SDM, volume 2, `CVTSI2SS`, `CVTTSD2SI` and so on.)
-pub fn convert() -> [Op; 20]
-    ensures { map (λ op. op.number) result ≡ range_with_len 564 20 }
+/// Each constant is the line behind that of the one before it.
+#[rattlefmt::skip]
+fn in_order() -> [Op; 64]
+    ensures { map (λ op. op.number) result ≡ range_with_len 520 64 }
 {
     [
-        CVTSI2SSL_A.op(),
-        CVTSS2SIL_A.op(),
-        CVTTSS2SIL_A.op(),
-        CVTSI2SSQ_A.op(),
-        CVTSS2SIQ_A.op(),
-        CVTTSS2SIQ_A.op(),
-        CVTSI2SDL_A.op(),
-        CVTSD2SIL_A.op(),
-        CVTTSD2SIL_A.op(),
-        CVTSI2SDQ_A.op(),
-        CVTSD2SIQ_A.op(),
-        CVTTSD2SIQ_A.op(),
-        CVTSS2SD_A.op(),
-        CVTSD2SS_A.op(),
-        CVTPS2PD_A.op(),
-        CVTPD2PS_A.op(),
-        CVTDQ2PS_A.op(),
-        CVTTPS2DQ_A.op(),
-        CVTDQ2PD_A.op(),
-        CVTTPD2DQ_A.op(),
+        ADDSS_A.op(), ADDSD_A.op(), MULSS_A.op(), MULSD_A.op(), SUBSS_A.op(), SUBSD_A.op(),
+        MINSS_A.op(), MINSD_A.op(), DIVSS_A.op(), DIVSD_A.op(), MAXSS_A.op(), MAXSD_A.op(),
+        SQRTSS_A.op(), SQRTSD_A.op(), UCOMISS_A.op(), UCOMISD_A.op(), ANDPD_A.op(), ANDNPS_A.op(),
+        ANDNPD_A.op(), ORPS_A.op(), ORPD_A.op(), XORPS_A.op(), XORPD_A.op(), PXOR_A.op(),
+        MOVSS_A_M.op(), MOVSS_C_M.op(), MOVSD_A_M.op(), MOVSD_C_M.op(), MOVAPS_A.op(),
+        MOVAPS_B.op(), MOVAPD_A.op(), MOVAPD_B.op(), MOVUPS_A.op(), MOVUPS_B.op(), MOVUPD_A.op(),
+        MOVUPD_B.op(), MOVDQA_A.op(), MOVDQA_B.op(), MOVDQU_A.op(), MOVDQU_B.op(), MOVD_A.op(),
+        MOVQ_A.op(), MOVD_B.op(), MOVQ_B.op(), CVTSI2SSL_A.op(), CVTSS2SIL_A.op(),
+        CVTTSS2SIL_A.op(), CVTSI2SSQ_A.op(), CVTSS2SIQ_A.op(), CVTTSS2SIQ_A.op(), CVTSI2SDL_A.op(),
+        CVTSD2SIL_A.op(), CVTTSD2SIL_A.op(), CVTSI2SDQ_A.op(), CVTSD2SIQ_A.op(), CVTTSD2SIQ_A.op(),
+        CVTSS2SD_A.op(), CVTSD2SS_A.op(), CVTPS2PD_A.op(), CVTPD2PS_A.op(), CVTDQ2PS_A.op(),
+        CVTTPS2DQ_A.op(), CVTDQ2PD_A.op(), CVTTPD2DQ_A.op(),
     ]
 }

@@ -8,6 +8,8 @@ use crate::makers::{RegRm, RegRmImm, Rm, RmImm};
 use crate::op::Op;
 use std::marker::PhantomData;
 
+// Rotations by `cl` and by a byte. (Intel SDM, volume 2, `RCL/RCR/ROL/ROR`.)
+
 /// `rolb rm8, cl`.
 pub const ROLB_MC: Rm = without_imm!(Rm, 367);
 /// `rolb rm8, imm8`.
@@ -41,29 +43,7 @@ pub const RORQ_MC: Rm = without_imm!(Rm, 381);
 /// `rorq rm64, imm8`.
 pub const RORQ_MI: RmImm<u8> = with_imm!(RmImm, 382);
 
-/// Rotations by `cl` and by a byte. (Intel SDM, volume 2, `RCL/RCR/ROL/ROR`.)
-pub fn rotate() -> [Op; 16]
-    ensures { map (λ op. op.number) result ≡ range_with_len 367 16 }
-{
-    [
-        ROLB_MC.op(),
-        ROLB_MI.op(),
-        ROLW_MC.op(),
-        ROLW_MI.op(),
-        ROLL_MC.op(),
-        ROLL_MI.op(),
-        ROLQ_MC.op(),
-        ROLQ_MI.op(),
-        RORB_MC.op(),
-        RORB_MI.op(),
-        RORW_MC.op(),
-        RORW_MI.op(),
-        RORL_MC.op(),
-        RORL_MI.op(),
-        RORQ_MC.op(),
-        RORQ_MI.op(),
-    ]
-}
+// Shifts by `cl` and by a byte. (Intel SDM, volume 2, `SAL/SAR/SHL/SHR`.)
 
 /// `shlb rm8, cl`.
 pub const SHLB_MC: Rm = without_imm!(Rm, 383);
@@ -114,37 +94,7 @@ pub const SARQ_MC: Rm = without_imm!(Rm, 405);
 /// `sarq rm64, imm8`.
 pub const SARQ_MI: RmImm<u8> = with_imm!(RmImm, 406);
 
-/// Shifts by `cl` and by a byte. (Intel SDM, volume 2, `SAL/SAR/SHL/SHR`.)
-pub fn shift() -> [Op; 24]
-    ensures { map (λ op. op.number) result ≡ range_with_len 383 24 }
-{
-    [
-        SHLB_MC.op(),
-        SHLB_MI.op(),
-        SHLW_MC.op(),
-        SHLW_MI.op(),
-        SHLL_MC.op(),
-        SHLL_MI.op(),
-        SHLQ_MC.op(),
-        SHLQ_MI.op(),
-        SHRB_MC.op(),
-        SHRB_MI.op(),
-        SHRW_MC.op(),
-        SHRW_MI.op(),
-        SHRL_MC.op(),
-        SHRL_MI.op(),
-        SHRQ_MC.op(),
-        SHRQ_MI.op(),
-        SARB_MC.op(),
-        SARB_MI.op(),
-        SARW_MC.op(),
-        SARW_MI.op(),
-        SARL_MC.op(),
-        SARL_MI.op(),
-        SARQ_MC.op(),
-        SARQ_MI.op(),
-    ]
-}
+// Shifts of two registers. (Intel SDM, volume 2, `SHLD`.)
 
 /// `shldw rm16, r16, imm8`.
 pub const SHLDW_MRI: RegRmImm<u8> = with_imm!(RegRmImm, 407);
@@ -159,16 +109,19 @@ pub const SHLDQ_MRI: RegRmImm<u8> = with_imm!(RegRmImm, 411);
 /// `shldq rm64, r64, cl`.
 pub const SHLDQ_MRC: RegRm = without_imm!(RegRm, 412);
 
-/// Shifts of two registers. (Intel SDM, volume 2, `SHLD`.)
-pub fn double() -> [Op; 6]
-    ensures { map (λ op. op.number) result ≡ range_with_len 407 6 }
+/// Each constant is the line behind that of the one before it.
+#[rattlefmt::skip]
+fn in_order() -> [Op; 46]
+    ensures { map (λ op. op.number) result ≡ range_with_len 367 46 }
 {
     [
-        SHLDW_MRI.op(),
-        SHLDW_MRC.op(),
-        SHLDL_MRI.op(),
-        SHLDL_MRC.op(),
-        SHLDQ_MRI.op(),
-        SHLDQ_MRC.op(),
+        ROLB_MC.op(), ROLB_MI.op(), ROLW_MC.op(), ROLW_MI.op(), ROLL_MC.op(), ROLL_MI.op(),
+        ROLQ_MC.op(), ROLQ_MI.op(), RORB_MC.op(), RORB_MI.op(), RORW_MC.op(), RORW_MI.op(),
+        RORL_MC.op(), RORL_MI.op(), RORQ_MC.op(), RORQ_MI.op(), SHLB_MC.op(), SHLB_MI.op(),
+        SHLW_MC.op(), SHLW_MI.op(), SHLL_MC.op(), SHLL_MI.op(), SHLQ_MC.op(), SHLQ_MI.op(),
+        SHRB_MC.op(), SHRB_MI.op(), SHRW_MC.op(), SHRW_MI.op(), SHRL_MC.op(), SHRL_MI.op(),
+        SHRQ_MC.op(), SHRQ_MI.op(), SARB_MC.op(), SARB_MI.op(), SARW_MC.op(), SARW_MI.op(),
+        SARL_MC.op(), SARL_MI.op(), SARQ_MC.op(), SARQ_MI.op(), SHLDW_MRI.op(), SHLDW_MRC.op(),
+        SHLDL_MRI.op(), SHLDL_MRC.op(), SHLDQ_MRI.op(), SHLDQ_MRC.op(),
     ]
 }

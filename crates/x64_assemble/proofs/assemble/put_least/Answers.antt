@@ -7,10 +7,11 @@ use Rattle.cax64_sink.specs.declared.DeferredTarget.TheVariants as target
 use Rattle.x64_code_buffer.specs.Buffer.{buffer_state, places_of}
 use Rattle.x64_layout.specs.Layout.{AreSpans, IsLayout, IsLeast, place_in}
 use Rattle.x64_layout.specs.declared.span.Span.{Span}
+use Rattle.x64_assemble.specs.Listed.{listed}
 use Rattle.x64_assemble.specs.Assembled.{spans_of}
 use Rattle.x64_assemble.specs.Putting.{Put}
 use Rattle.x64_assemble.specs.declared.item.Item.{Item}
-use Rattle.x64_assemble.proofs.Ends.{all_bytes, assembled, ok_given}
+use Rattle.x64_assemble.proofs.Ends.{all_bytes, assembled, ok_given, puts_list}
 use Rattle.x64_assemble.proofs.assemble.put_least.Goals as goal
 
 pub put_items-requires-clause-free : goal.put_items-requires-clause-free
@@ -24,8 +25,8 @@ put_items-requires-clause-spans g c =
     let s : State = buffer_state c.args.buffer.now in
     let u : State = buffer_state c.reserve.new.self in
     let offsets : u.offsets ≡ s.offsets = c.reserve.ensures.as_before.offsets in
-    let before : AreSpans (spans_of (λ i. (g.W.PutBy.listed i s.offsets).len) items items) = subst AreSpans c.requires.spans c.requires.are_spans in
-    subst (λ (o : ℕ → Option ℤ). AreSpans (spans_of (λ i. (g.W.PutBy.listed i o).len) items items)) (sym offsets) before
+    let before : AreSpans (spans_of (λ i. (listed (g.I.Encode.line_meant i) s.offsets).len) items items) = subst AreSpans c.requires.spans c.requires.are_spans in
+    subst (λ (o : ℕ → Option ℤ). AreSpans (spans_of (λ i. (listed (g.I.Encode.line_meant i) o).len) items items)) (sym offsets) before
 
 pub put_items-requires-clause-layout : goal.put_items-requires-clause-layout
 put_items-requires-clause-layout g c =
@@ -34,8 +35,8 @@ put_items-requires-clause-layout g c =
     let s : State = buffer_state c.args.buffer.now in
     let u : State = buffer_state c.reserve.new.self in
     let offsets : u.offsets ≡ s.offsets = c.reserve.ensures.as_before.offsets in
-    let before : IsLayout (spans_of (λ i. (g.W.PutBy.listed i s.offsets).len) items items) lens = subst (λ (z : List Span). IsLayout z lens) c.requires.spans c.least_layout.ensures.least.layout in
-    subst (λ (o : ℕ → Option ℤ). IsLayout (spans_of (λ i. (g.W.PutBy.listed i o).len) items items) lens) (sym offsets) before
+    let before : IsLayout (spans_of (λ i. (listed (g.I.Encode.line_meant i) s.offsets).len) items items) lens = subst (λ (z : List Span). IsLayout z lens) c.requires.spans c.least_layout.ensures.least.layout in
+    subst (λ (o : ℕ → Option ℤ). IsLayout (spans_of (λ i. (listed (g.I.Encode.line_meant i) o).len) items items) lens) (sym offsets) before
 
 pub put_items-requires-clause-byte_room : goal.put_items-requires-clause-byte_room
 put_items-requires-clause-byte_room g c =
@@ -59,6 +60,21 @@ returns-clause-assembled g c = λ pieces h.
     let mid : DeferredTarget → Option ℕ = places_of c.reserve.new.self in
     let new : DeferredTarget → Option ℕ = places_of c.put_items.new.buffer in
     let offsets : u.offsets ≡ s.offsets = c.reserve.ensures.as_before.offsets in
-    let least : IsLeast (spans_of (λ i. (g.W.PutBy.listed i s.offsets).len) items items) lens = subst (λ (z : List Span). IsLeast z lens) c.requires.spans c.least_layout.ensures.least in
-    let put : Put (λ i. g.W.PutBy.listed i s.offsets) lens items items u t mid new = subst (λ (o : ℕ → Option ℤ). Put (λ i. g.W.PutBy.listed i o) lens items items u t mid new) offsets c.put_items.ensures.put in
-    assembled (λ i. g.W.PutBy.listed i s.offsets) items lens pieces s u t old mid new least c.reserve.ensures.as_before.bytes c.reserve.ensures.as_before.notices c.reserve.ensures.places (c.reserve.ensures.filled.laid pieces (length s.bytes) h) put
+    let least : IsLeast (spans_of (λ i. (listed (g.I.Encode.line_meant i) s.offsets).len) items items) lens = subst (λ (z : List Span). IsLeast z lens) c.requires.spans c.least_layout.ensures.least in
+    let put : Put (λ i. listed (g.I.Encode.line_meant i) s.offsets) lens items items u t mid new = subst (λ (o : ℕ → Option ℤ). Put (λ i. listed (g.I.Encode.line_meant i) o) lens items items u t mid new) offsets c.put_items.ensures.put in
+    assembled (λ i. listed (g.I.Encode.line_meant i) s.offsets) items lens pieces s u t old mid new least c.reserve.ensures.as_before.bytes c.reserve.ensures.as_before.notices c.reserve.ensures.places (c.reserve.ensures.filled.laid pieces (length s.bytes) h) put
+
+pub returns-clause-puts : goal.returns-clause-puts
+returns-clause-puts g c =
+    let items : List (Item g.row.I.Denot) = c.args.items.now in
+    let lens : List ℕ = c.least_layout.new.lens in
+    let s : State = buffer_state c.args.buffer.now in
+    let u : State = buffer_state c.reserve.new.self in
+    let t : State = buffer_state c.put_items.new.buffer in
+    let old : DeferredTarget → Option ℕ = places_of c.args.buffer.now in
+    let mid : DeferredTarget → Option ℕ = places_of c.reserve.new.self in
+    let new : DeferredTarget → Option ℕ = places_of c.put_items.new.buffer in
+    let offsets : u.offsets ≡ s.offsets = c.reserve.ensures.as_before.offsets in
+    let least : IsLeast (spans_of (λ i. (listed (g.I.Encode.line_meant i) s.offsets).len) items items) lens = subst (λ (z : List Span). IsLeast z lens) c.requires.spans c.least_layout.ensures.least in
+    let put : Put (λ i. listed (g.I.Encode.line_meant i) s.offsets) lens items items u t mid new = subst (λ (o : ℕ → Option ℤ). Put (λ i. listed (g.I.Encode.line_meant i) o) lens items items u t mid new) offsets c.put_items.ensures.put in
+    puts_list (λ i. listed (g.I.Encode.line_meant i) s.offsets) items lens s u t old mid new least c.reserve.ensures.as_before.bytes c.reserve.ensures.as_before.notices c.reserve.ensures.places put

@@ -8,7 +8,7 @@ use Rattle.x64_code_buffer.specs.Buffer.{buffer_state, label_count, places_of}
 use Rattle.x64_layout.proofs.Growth.{layout_bytes}
 use Rattle.x64_layout.specs.Layout.{Stands}
 use Rattle.x64_assemble.specs.Assembled.{JumpReads, WholeReads, entries, jump_told, span_of, spot_of}
-use Rattle.x64_assemble.specs.Listed.{GotEntry, Listed}
+use Rattle.x64_assemble.specs.Listed.{GotEntry, Listed, listed}
 use Rattle.x64_assemble.specs.Putting.{Put}
 use Rattle.x64_assemble.specs.declared.item.Item.{Item}
 use Rattle.x64_assemble.specs.declared.item.Item.TheVariants as item
@@ -22,7 +22,7 @@ use Rattle.x64_assemble.proofs.put.put_items.Goals.{in-Inst, in-Jump, in-Bind}
 pub overflow_add-n : goal.overflow_add-n
 overflow_add-n g c =
     let items : List (Item g.row.I.Denot) = c.args.items.now in
-    let size : g.row.I.Denot → ℕ = λ i. (g.W.PutBy.listed i (buffer_state c.args.buffer.now).offsets).len in
+    let size : g.row.I.Denot → ℕ = λ i. (listed (g.I.Encode.line_meant i) (buffer_state c.args.buffer.now).offsets).len in
     let k : ℕ = c.loop-item.item-index in
     let y : Item g.row.I.Denot = item.Inst c.in-Inst.inst in
     let e : c.item-item.result ≡ y = cc in
@@ -32,7 +32,7 @@ overflow_add-n g c =
 pub put_jump-requires-clause-stands : goal.put_jump-requires-clause-stands
 put_jump-requires-clause-stands g c =
     let items : List (Item g.row.I.Denot) = c.args.items.now in
-    let size : g.row.I.Denot → ℕ = λ i. (g.W.PutBy.listed i (buffer_state c.args.buffer.now).offsets).len in
+    let size : g.row.I.Denot → ℕ = λ i. (listed (g.I.Encode.line_meant i) (buffer_state c.args.buffer.now).offsets).len in
     let lens : List ℕ = c.args.lens.now in
     let k : ℕ = c.loop-item.item-index in
     let jump = c.in-Jump.jump in
@@ -51,7 +51,7 @@ put_jump-requires-clause-small g c = layout_bytes _ c.args.lens.now c.requires.s
 pub put_jump-requires-clause-within : goal.put_jump-requires-clause-within
 put_jump-requires-clause-within g c =
     let items : List (Item g.row.I.Denot) = c.args.items.now in
-    let size : g.row.I.Denot → ℕ = λ i. (g.W.PutBy.listed i (buffer_state c.args.buffer.now).offsets).len in
+    let size : g.row.I.Denot → ℕ = λ i. (listed (g.I.Encode.line_meant i) (buffer_state c.args.buffer.now).offsets).len in
     let k : ℕ = c.loop-item.item-index in
     let y : Item g.row.I.Denot = item.Jump c.in-Jump.jump c.in-Jump.label in
     let e : c.item-item.result ≡ y = cc in
@@ -61,7 +61,7 @@ put_jump-requires-clause-within g c =
 pub put_jump-requires-clause-spot : goal.put_jump-requires-clause-spot
 put_jump-requires-clause-spot g c =
     let items : List (Item g.row.I.Denot) = c.args.items.now in
-    let size : g.row.I.Denot → ℕ = λ i. (g.W.PutBy.listed i (buffer_state c.args.buffer.now).offsets).len in
+    let size : g.row.I.Denot → ℕ = λ i. (listed (g.I.Encode.line_meant i) (buffer_state c.args.buffer.now).offsets).len in
     let spot : spot_of c.in-Jump.label.0 items ≡ c.spot_in-spot.result = sym (c.spot_in-spot.ensures ∙ c.requires.binders c.in-Jump.label.0) in
     let as_many : entries items ≡ length c.args.lens.now = sym (c.requires.layout.as_many ∙ spans_few size items items) in
     subst (λ (o : Option ℕ). IfSome o (λ (s : ℕ). s ≤ length c.args.lens.now)) spot
@@ -70,7 +70,7 @@ put_jump-requires-clause-spot g c =
 pub overflow_add-n-in-Jump : goal.overflow_add-n-in-Jump
 overflow_add-n-in-Jump g c =
     let items : List (Item g.row.I.Denot) = c.args.items.now in
-    let size : g.row.I.Denot → ℕ = λ i. (g.W.PutBy.listed i (buffer_state c.args.buffer.now).offsets).len in
+    let size : g.row.I.Denot → ℕ = λ i. (listed (g.I.Encode.line_meant i) (buffer_state c.args.buffer.now).offsets).len in
     let k : ℕ = c.loop-item.item-index in
     let y : Item g.row.I.Denot = item.Jump c.in-Jump.jump c.in-Jump.label in
     let e : c.item-item.result ≡ y = cc in
@@ -98,7 +98,7 @@ loop-item-preserved g c =
     let u : State = buffer_state c.loop-item.buffer in
     let old : DeferredTarget → Option ℕ = places_of c.args.buffer.now in
     let mid : DeferredTarget → Option ℕ = places_of c.loop-item.buffer in
-    let meant : g.row.I.Denot → Listed = λ i. g.W.PutBy.listed i s.offsets in
+    let meant : g.row.I.Denot → Listed = λ i. listed (g.I.Encode.line_meant i) s.offsets in
     let size : g.row.I.Denot → ℕ = λ i. (meant i).len in
     let k : ℕ = c.loop-item.item-index in
     let n : ℕ = entries (take k items) in
@@ -116,9 +116,9 @@ loop-item-preserved g c =
           let t : State = buffer_state w.put.new.buffer in
           let new : DeferredTarget → Option ℕ = places_of w.put.new.buffer in
           let offsets : u.offsets ≡ s.offsets = held.put.keeps.offsets in
-          let long : (g.W.PutBy.listed inst u.offsets).len ≡ slice_index lens n = ap (λ (o : ℕ → Option ℤ). (g.W.PutBy.listed inst o).len) offsets ∙ sym at.1 in
-          let got : GotEntry (WholeReads (g.W.PutBy.listed inst u.offsets).parts) (g.W.PutBy.listed inst u.offsets).tells (slice_index lens n) u t mid new = subst (λ (m : ℕ). GotEntry (WholeReads (g.W.PutBy.listed inst u.offsets).parts) (g.W.PutBy.listed inst u.offsets).tells m u t mid new) long w.put.ensures.got in
-          let here : GotEntry (WholeReads (meant inst).parts) (meant inst).tells (slice_index lens n) u t mid new = subst (λ (o : ℕ → Option ℤ). GotEntry (WholeReads (g.W.PutBy.listed inst o).parts) (g.W.PutBy.listed inst o).tells (slice_index lens n) u t mid new) offsets got in
+          let long : (listed (g.I.Encode.line_meant inst) u.offsets).len ≡ slice_index lens n = ap (λ (o : ℕ → Option ℤ). (listed (g.I.Encode.line_meant inst) o).len) offsets ∙ sym at.1 in
+          let got : GotEntry (WholeReads (listed (g.I.Encode.line_meant inst) u.offsets).parts) (listed (g.I.Encode.line_meant inst) u.offsets).tells (slice_index lens n) u t mid new = subst (λ (m : ℕ). GotEntry (WholeReads (listed (g.I.Encode.line_meant inst) u.offsets).parts) (listed (g.I.Encode.line_meant inst) u.offsets).tells m u t mid new) long w.put.ensures.got in
+          let here : GotEntry (WholeReads (meant inst).parts) (meant inst).tells (slice_index lens n) u t mid new = subst (λ (o : ℕ → Option ℤ). GotEntry (WholeReads (listed (g.I.Encode.line_meant inst) o).parts) (listed (g.I.Encode.line_meant inst) o).tells (slice_index lens n) u t mid new) offsets got in
           let next : Put meant lens items (take k items ++ y ∷ []) s t old new = put_entry meant lens items (take k items) y s u t old mid new refl at.0 few held.put here in
           let all : Put meant lens items (take (k + 1) items) s t old new = subst (λ (z : List (Item g.row.I.Denot)). Put meant lens items z s t old new) (sym (take_next items k x y within c.item-item.is e)) next in
           record {
@@ -166,6 +166,6 @@ pub returns-clause-put : goal.returns-clause-put
 returns-clause-put g c =
     let items : List (Item g.row.I.Denot) = c.args.items.now in
     let s : State = buffer_state c.args.buffer.now in
-    let meant : g.row.I.Denot → Listed = λ i. g.W.PutBy.listed i s.offsets in
+    let meant : g.row.I.Denot → Listed = λ i. listed (g.I.Encode.line_meant i) s.offsets in
     let all : take c.loop-item.item-index items ≡ items = take_all c.loop-item.item-index items (search arith) in
     subst (λ (z : List (Item g.row.I.Denot)). Put meant c.args.lens.now items z s (buffer_state c.loop-item.buffer) (places_of c.args.buffer.now) (places_of c.loop-item.buffer)) all c.loop-item.invariant.put

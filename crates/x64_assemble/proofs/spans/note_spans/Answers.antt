@@ -2,6 +2,7 @@ use Rattle.std.proofs.Common.{◌≡◌, ℕ, ◌+◌, ◌<◌, arith, ◌∙◌
 use Rattle.x64_code_buffer.specs.Buffer.{buffer_state, label_count, places_of}
 use Rattle.x64_layout.specs.Layout.{IsSpan}
 use Rattle.x64_layout.specs.declared.span.Span.{Span}
+use Rattle.x64_assemble.specs.Listed.{listed}
 use Rattle.x64_assemble.specs.Assembled.{entries, span_of, spans_of, spot_of}
 use Rattle.x64_assemble.specs.declared.item.Item.{Item}
 use Rattle.x64_assemble.specs.declared.item.Item.TheVariants as item
@@ -16,12 +17,12 @@ len-requires g c =
     let k : ℕ = c.loop-item.item-index in
     let y : Item g.row.I.Denot = item.Inst c.in-Inst.inst in
     let e : c.item-item.result ≡ y = cc in
-    can_put_all (λ i. g.W.PutBy.listed i (buffer_state c.args.buffer.now).offsets) (label_count c.args.buffer.now) (places_of c.args.buffer.now) items c.requires.tested k c.in-Inst.inst (get_item items k c.item-item.result y c.loop-item-test.true c.item-item.is e)
+    can_put_all (λ i. listed (g.I.Encode.line_meant i) (buffer_state c.args.buffer.now).offsets) (label_count c.args.buffer.now) (places_of c.args.buffer.now) items c.requires.tested k c.in-Inst.inst (get_item items k c.item-item.result y c.loop-item-test.true c.item-item.is e)
 
 pub loop-item-preserved-in-Bind : goal.loop-item-preserved-in-Bind
 loop-item-preserved-in-Bind g c =
     let items : List (Item g.row.I.Denot) = c.args.items.now in
-    let len : g.row.I.Denot → ℕ = λ i. (g.W.PutBy.listed i (buffer_state c.args.buffer.now).offsets).len in
+    let len : g.row.I.Denot → ℕ = λ i. (listed (g.I.Encode.line_meant i) (buffer_state c.args.buffer.now).offsets).len in
     let k : ℕ = c.loop-item.item-index in
     let y : Item g.row.I.Denot = item.Bind c.in-Bind.field-0 in
     let e : c.item-item.result ≡ y = cc in
@@ -38,7 +39,7 @@ loop-item-preserved-in-Bind g c =
 pub loop-item-preserved : goal.loop-item-preserved
 loop-item-preserved g c =
     let items : List (Item g.row.I.Denot) = c.args.items.now in
-    let len : g.row.I.Denot → ℕ = λ i. (g.W.PutBy.listed i (buffer_state c.args.buffer.now).offsets).len in
+    let len : g.row.I.Denot → ℕ = λ i. (listed (g.I.Encode.line_meant i) (buffer_state c.args.buffer.now).offsets).len in
     let k : ℕ = c.loop-item.item-index in
     let x : Item g.row.I.Denot = c.item-item.result in
     let within : k < length items = c.loop-item-test.true in

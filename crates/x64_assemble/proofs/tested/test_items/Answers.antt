@@ -4,6 +4,7 @@ use Rattle.std.proofs.lemmas.List.{length-set, length-take-le}
 use Rattle.cax64_encoder.specs.declared.fault.Fault.{Fault}
 use Rattle.cax64_sink.specs.declared.DeferredTarget.{DeferredTarget}
 use Rattle.x64_code_buffer.specs.Buffer.{buffer_state, label_count, places_of}
+use Rattle.x64_assemble.specs.Listed.{listed}
 use Rattle.x64_assemble.specs.Putting.{AreBinders}
 use Rattle.x64_assemble.specs.Refused.{bind_refusal, refusal_at}
 use Rattle.x64_assemble.specs.declared.binders.Binder.{Binder}
@@ -28,7 +29,7 @@ overflow_add-spot-in-Jump g c =
 pub returns-in-Some-bind_refusal-clause-first : goal.returns-in-Some-bind_refusal-clause-first
 returns-in-Some-bind_refusal-clause-first g c =
     let items : List (Item g.row.I.Denot) = c.args.items.now in
-    let fault : g.row.I.Denot → Option Fault = λ i. (g.W.PutBy.listed i (buffer_state c.args.buffer.now).offsets).fault in
+    let fault : g.row.I.Denot → Option Fault = λ i. (listed (g.I.Encode.line_meant i) (buffer_state c.args.buffer.now).offsets).fault in
     let given : ℕ = label_count c.args.buffer.now in
     let places : DeferredTarget → Option ℕ = places_of c.args.buffer.now in
     let n : ℕ = c.loop-n.n in
@@ -41,7 +42,7 @@ returns-in-Some-bind_refusal-clause-first g c =
 pub loop-n-preserved : goal.loop-n-preserved
 loop-n-preserved g c =
     let items : List (Item g.row.I.Denot) = c.args.items.now in
-    let fault : g.row.I.Denot → Option Fault = λ i. (g.W.PutBy.listed i (buffer_state c.args.buffer.now).offsets).fault in
+    let fault : g.row.I.Denot → Option Fault = λ i. (listed (g.I.Encode.line_meant i) (buffer_state c.args.buffer.now).offsets).fault in
     let given : ℕ = label_count c.args.buffer.now in
     let places : DeferredTarget → Option ℕ = places_of c.args.buffer.now in
     let n : ℕ = c.loop-n.n in
@@ -95,5 +96,5 @@ loop-n-preserved g c =
 
 pub returns-clause-tested : goal.returns-clause-tested
 returns-clause-tested g c =
-    let fault : g.row.I.Denot → Option Fault = λ i. (g.W.PutBy.listed i (buffer_state c.args.buffer.now).offsets).fault in
+    let fault : g.row.I.Denot → Option Fault = λ i. (listed (g.I.Encode.line_meant i) (buffer_state c.args.buffer.now).offsets).fault in
     all_tested fault (label_count c.args.buffer.now) (places_of c.args.buffer.now) c.args.items.now c.loop-n.n c.loop-n.invariant.tested (search arith)

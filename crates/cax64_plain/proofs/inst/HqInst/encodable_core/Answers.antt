@@ -14,32 +14,32 @@ pub whole_numbers-place-requires-clause-whole : goal.whole_numbers-place-require
 whole_numbers-place-requires-clause-whole c =
     let small : FitsSigned w32 c.args.self.now.disp = search rules in
     let target : c.args.self.now.target < 2 ^ 32 = search rules in
-    let f : Ready c.shape.result.fields c.unwrap-kind.result c.args.self.now × IsImm c.shape.result.imm c.args.self.now.imm = ready_of c.args.self.now c.shape.result c.unwrap-kind.result c.of_number-op.result.number small target c.requires c.of_number-op.ensures c.shape.ensures (rw c.unwrap-kind.ensures at c.kind_of.ensures.some) in
+    let f : Ready c.shape.result.fields c.unwrap-kind.result c.args.self.now × IsImm c.shape.result.imm c.args.self.now.imm = ready_of c.args.self.now c.shape.result c.unwrap-kind.result c.of_number-op.result.number small target c.requires c.of_number-op.ensures c.shape.ensures.is (rw c.unwrap-kind.ensures at c.kind_of.ensures.some) in
     rw c.settled_place.ensures (whole_place c.shape.result.fields c.unwrap-kind.result c.args.self.now f.0)
 
 pub of_fitting-requires : goal.of_fitting-requires
 of_fitting-requires c =
     let small : FitsSigned w32 c.args.self.now.disp = search rules in
     let target : c.args.self.now.target < 2 ^ 32 = search rules in
-    let f : Ready c.shape.result.fields c.unwrap-kind.result c.args.self.now × IsImm c.shape.result.imm c.args.self.now.imm = ready_of c.args.self.now c.shape.result c.unwrap-kind.result c.of_number-op.result.number small target c.requires c.of_number-op.ensures c.shape.ensures (rw c.unwrap-kind.ensures at c.kind_of.ensures.some) in
-    subst (λ (s : OpShape). core_fits s c.args.self.now.reg c.args.self.now.vvvv (viewed c.whole_numbers-place.result) c.imm_part-word.result ≡ true) c.shape.ensures
+    let f : Ready c.shape.result.fields c.unwrap-kind.result c.args.self.now × IsImm c.shape.result.imm c.args.self.now.imm = ready_of c.args.self.now c.shape.result c.unwrap-kind.result c.of_number-op.result.number small target c.requires c.of_number-op.ensures c.shape.ensures.is (rw c.unwrap-kind.ensures at c.kind_of.ensures.some) in
+    subst (λ (s : OpShape). core_fits s c.args.self.now.reg c.args.self.now.vvvv (viewed c.whole_numbers-place.result) c.imm_part-word.result ≡ true) c.shape.ensures.is
     (taken c.shape.result c.unwrap-kind.result c.args.self.now c.whole_numbers-place.result c.imm_part-word.result f.0 c.whole_numbers-place.ensures.kind (rw c.imm_part-word.ensures f.1.below))
 
 pub returns-clause-is : goal.returns-clause-is
 returns-clause-is c =
     let small : FitsSigned w32 c.args.self.now.disp = search rules in
     let target : c.args.self.now.target < 2 ^ 32 = search rules in
-    let f : Ready c.shape.result.fields c.unwrap-kind.result c.args.self.now × IsImm c.shape.result.imm c.args.self.now.imm = ready_of c.args.self.now c.shape.result c.unwrap-kind.result c.of_number-op.result.number small target c.requires c.of_number-op.ensures c.shape.ensures (rw c.unwrap-kind.ensures at c.kind_of.ensures.some) in
+    let f : Ready c.shape.result.fields c.unwrap-kind.result c.args.self.now × IsImm c.shape.result.imm c.args.self.now.imm = ready_of c.args.self.now c.shape.result c.unwrap-kind.result c.of_number-op.result.number small target c.requires c.of_number-op.ensures c.shape.ensures.is (rw c.unwrap-kind.ensures at c.kind_of.ensures.some) in
     let own = c.of_fitting.ensures in
     made_is c.args.self.now c.of_fitting.result c.shape.result c.whole_numbers-place.result c.imm_part-word.result c.of_number-op.result.number c.settled_place.result
-    c.of_number-op.ensures c.shape.ensures (c.settled_place.ensures ∙ its_place _ _ _ f.0) c.whole_numbers-place.ensures.is (λ _. rw c.imm_part-word.ensures f.1.back) (sym f.0.reserved)
+    c.of_number-op.ensures c.shape.ensures.is (c.settled_place.ensures ∙ its_place _ _ _ f.0) c.whole_numbers-place.ensures.is (λ _. rw c.imm_part-word.ensures f.1.back) (sym f.0.reserved)
     (ap (λ (op : Op). op.number) own.op) own.numbers.0 own.numbers.1 own.place own.numbers.2
 
 pub returns-clause-encodable : goal.returns-clause-encodable
 returns-clause-encodable c =
     let small : FitsSigned w32 c.args.self.now.disp = search rules in
     let target : c.args.self.now.target < 2 ^ 32 = search rules in
-    let f : Ready c.shape.result.fields c.unwrap-kind.result c.args.self.now × IsImm c.shape.result.imm c.args.self.now.imm = ready_of c.args.self.now c.shape.result c.unwrap-kind.result c.of_number-op.result.number small target c.requires c.of_number-op.ensures c.shape.ensures (rw c.unwrap-kind.ensures at c.kind_of.ensures.some) in
+    let f : Ready c.shape.result.fields c.unwrap-kind.result c.args.self.now × IsImm c.shape.result.imm c.args.self.now.imm = ready_of c.args.self.now c.shape.result c.unwrap-kind.result c.of_number-op.result.number small target c.requires c.of_number-op.ensures c.shape.ensures.is (rw c.unwrap-kind.ensures at c.kind_of.ensures.some) in
     let own = c.of_fitting.ensures in
     let place = c.whole_numbers-place.ensures in
     can_be c.shape.result.fields c.unwrap-kind.result c.args.self.now c.of_fitting.result c.whole_numbers-place.result f.0 own.numbers.0 own.numbers.1 own.place place.kind

@@ -3,4 +3,4 @@ use Rattle.x64_core.proofs.MadeOf.{facts}
 use Rattle.x64_core.proofs.instruction.Core.imm.Goals as goal
 
 pub returns-clause-value : goal.returns-clause-value
-returns-clause-value c = rw (c.word_value.ensures.value, c.shape.ensures, (facts c.args.self.now.op).imm) refl
+returns-clause-value c = rw (c.word_value.ensures.value, c.shape.ensures.is, (facts c.args.self.now.op).imm) refl

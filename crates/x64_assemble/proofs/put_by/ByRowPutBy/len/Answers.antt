@@ -1,6 +1,0 @@
-use Rattle.x64_code_buffer.specs.Buffer.{buffer_state}
-use Rattle.x64_assemble.proofs.Steps.{row_fits}
-use Rattle.x64_assemble.proofs.put_by.ByRowPutBy.len.Goals as goal
-
-pub encoded_len-requires : goal.encoded_len-requires
-encoded_len-requires g c = row_fits (buffer_state c.args.buffer.now).offsets (g.I.Instruction.meant c.args.inst.now (buffer_state c.args.buffer.now).offsets) c.requires

@@ -1,0 +1,4 @@
+-- What the clauses say.
+pub mod Encode
+-- Steps of the proofs.
+pub mod ByLine
