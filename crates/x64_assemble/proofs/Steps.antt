@@ -1,4 +1,4 @@
-use Rattle.std.proofs.Common.{◌≡◌, ℕ, ◌+◌, ◌<◌, ◌≤◌, arith, refl, ◌∙◌, ap, sym, subst, Option, Some, None, List, [], ◌∷◌, ◌++◌, ◌-◌, true, length, take, drop, append-nil, ◌^◌, ℤ, pos, ◌-ℤ◌, length-append, Result, Ok, Err, FitsSigned, to_z, of_z}
+use Rattle.std.proofs.Common.{◌≡◌, ℕ, ◌+◌, ◌<◌, ◌≤◌, arith, refl, ◌∙◌, ap, sym, subst, Option, Some, None, List, [], ◌∷◌, ◌++◌, true, length, take, drop, append-nil, ◌^◌, ℤ, pos, ◌-ℤ◌, length-append, Result, Ok, Err, FitsSigned, to_z, of_z}
 use Rattle.std.proofs.Math.Seq.{take-length}
 use Rattle.std.proofs.lemmas.Int.{ints, to_z-of_z}
 use Rattle.std.proofs.lemmas.List.{drop-drop}
@@ -7,7 +7,7 @@ use Rattle.std.specs.Prelude.{IfSome, IsSome, IsTrue, OnOk, unwrap_or, slice_ind
 use Rattle.cax64_encoder.proofs.Faults.{no_fault, none_is}
 use Rattle.cax64_encoder.specs.Fault.{can_encode, first_fault}
 use Rattle.cax64_machine_code.specs.Len.{len_of, line_len}
-use Rattle.cax64_machine_code.specs.ReadLine.{LineReading, ReadsLineAs, parts_as, read_line}
+use Rattle.cax64_machine_code.specs.ReadLine.{LineReading, ReadsLineAs, read_line}
 use Rattle.cax64_machine_code.specs.Reading.{PartsOf}
 use Rattle.cax64_machine_code.specs.Rows.{line_of}
 use Rattle.cax64_machine_code.specs.declared.line.Line.{Line}

@@ -1,5 +1,5 @@
 -- Steps of the proofs: what is put of a row, said of its line.
-use Rattle.std.proofs.Common.{◌≡◌, ℕ, refl, ◌∙◌, ap, sym, subst, ℤ, Option, Some, None, List, [], ◌∷◌, ◌++◌, Bool, length}
+use Rattle.std.proofs.Common.{◌≡◌, ℕ, refl, ◌∙◌, ap, sym, subst, ℤ, Option, Some, None, List, ◌++◌, Bool, length}
 use Rattle.std.specs.Prelude.{if◌then◌else◌}
 use Rattle.cax64_address.specs.declared.amode.Amode.{Amode}
 use Rattle.cax64_address.specs.declared.amode.Amode.TheVariants.{ImmReg, ImmRegRegShift, RipRelative}

@@ -2,7 +2,6 @@ use Rattle.std.proofs.Common.{refl}
 use Rattle.cax64_encoder.specs.Notices.{memory_notices}
 use Rattle.cax64_sink.specs.Sink.{State}
 use Rattle.x64_code_buffer.specs.Buffer.{buffer_state, places_of}
-use Rattle.x64_encode.specs.Encode.{LineMeant}
 use Rattle.x64_assemble.proofs.Steps.{given_ok, got_inst, line_fits}
 use Rattle.x64_assemble.proofs.entry.put.Goals as goal
 

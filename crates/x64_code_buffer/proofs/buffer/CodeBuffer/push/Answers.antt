@@ -1,8 +1,6 @@
-use Rattle.std.proofs.Common.{refl, subst, ◌≡◌, ◌∙◌, sym, ℕ, ℤ, Option, length}
+use Rattle.std.proofs.Common.{refl, subst, ◌≡◌, ℕ, ℤ, Option, length}
 use Rattle.cax64_encoder.specs.Notices.{memory_notices}
-use Rattle.cax64_machine_code.specs.ReadLine.{parts_as}
 use Rattle.cax64_machine_code.specs.Reading.{PartsOf}
-use Rattle.cax64_machine_code.specs.Rows.{line_of}
 use Rattle.cax64_machine_code.specs.declared.line.Line.{Line}
 use Rattle.cax64_sink.specs.Recorder.{recorder_state}
 use Rattle.cax64_sink.specs.Room.{FallsBy}
