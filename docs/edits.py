@@ -8,7 +8,8 @@ or `# seen: FILE LEMMA: REASON`, of a file of proofs/, says so.
 
 usage, at the top:
   python3 docs/edits.py              each edit has its line, the clause is there, and docs/edits.txt has the edit so
-  python3 docs/edits.py LOG..        and what `rt ci` or `rt must-fail` printed points at that clause, as docs/edits.txt says
+  python3 docs/edits.py LOG..        and what `rt ci` or `rt must-fail` printed points at that clause, as docs/edits.txt says; what
+                                     the page hasn't seen yet is told where it differs, and is no fault
   python3 docs/edits.py --write LOG..  writes docs/edits.txt of these logs; edits that no log has keep their lines
 
 The status is 0 where all of it holds, 1 where it doesn't, and 2 where the call is wrong or a file can't be read.
@@ -283,8 +284,9 @@ def methods_of(root):
 
 
 def look(root, told, rows, is_written):
-    """What is wrong, by edit, and the page's rows as they are to be."""
-    methods, wrong, wanted, crates = methods_of(root), [], {}, {}
+    """What is wrong, by edit, the page's rows as they are to be, and what is seen elsewhere for the first time: that is no fault before
+    the page has it."""
+    methods, wrong, wanted, crates, first = methods_of(root), [], {}, {}, []
     for path in sorted(root.glob("crates/*/must-fail/*.edit")):
         edit, name = read_edit(path), path.parent.parent.name
         if name not in crates:
@@ -294,13 +296,16 @@ def look(root, told, rows, is_written):
         clause, seen = edit.clause.text() if edit.clause else "", rows.get(edit.name, ("", ""))[1]
         if not problem and edit.name in told:
             problem, place = problem_of_seen(edit, crate, methods, told[edit.name])
+            if problem and not seen and not is_written:
+                first.append(f"note: {edit.name}, which {PAGE} has as {UNSEEN}: {problem}")
+                problem, place = None, None
             seen = place.text() if place else seen
         elif not problem and told and not is_written:
             problem = "no log has it"
         if problem:
             wrong.append(f"{edit.name}: {problem}")
         wanted[edit.name] = clause, seen
-    return wrong, wanted
+    return wrong, wanted, first
 
 
 def differences(rows, wanted):
@@ -331,13 +336,12 @@ def main(words, root=Path(__file__).resolve().parent.parent):
         return 2
     page = root / PAGE
     rows = page_lines(page.read_text(encoding="utf-8")) if page.exists() else {}
-    wrong, wanted = look(root, tried_in(texts_of(names)), rows, is_written)
-    notes = []
+    wrong, wanted, notes = look(root, tried_in(texts_of(names)), rows, is_written)
     if is_written:
         page.write_text(page_of(wanted), encoding="utf-8")
     else:
-        moved, notes = differences(rows, wanted)
-        wrong += moved
+        moved, other = differences(rows, wanted)
+        wrong, notes = wrong + moved, notes + other
     seen = [it for _, it in wanted.values() if it]
     stored = sum(it.endswith(STORED) for it in seen)
     last = f"{len(wanted)} edits, {len(seen)} with what was seen, {stored} of these at a stored proof, {len(wrong)} wrong"
