@@ -8,7 +8,7 @@ import tempfile
 from pathlib import Path
 
 HERE = Path(__file__).resolve().parent
-WORKLOADS = "both one 10 SEED\nalone two 10\nold_alone three 10\nneither four 10\n"
+WORKLOADS = "both one 10 SEED\nalone two 10\nold_alone three 10\nneither four 10\nnew_job five job 10\n"
 
 
 def checkout(folder, **programs):
@@ -45,14 +45,15 @@ def main():
     with tempfile.TemporaryDirectory(prefix="bench-") as name:
         room = Path(name)
         tests = Tests(room)
-        old = checkout(room / "old", one='echo "$1 $2"', three="echo")
-        new = checkout(room / "new", one='echo "$1 $2"', two="echo")
+        old = checkout(room / "old", one='echo "$1 $2"', three="echo", five="exit 2")
+        new = checkout(room / "new", one='echo "$1 $2"', two="echo", five="echo")
         done = tests.run(old, new, "7")
         lines = {line.split()[0]: line.split()[1:] for line in done[1].splitlines() if not line.startswith("    ")}
-        tests.holds("each workload has a line, and no traceback", done[0] == 0 and not done[2] and len(lines) == 5, done)
+        tests.holds("each workload has a line, and no traceback", done[0] == 0 and not done[2] and len(lines) == 6, done)
         tests.holds("both are timed", len(lines.get("both", ())) == 7 and "-" not in lines["both"], done)
         tests.holds("NEW alone", lines.get("alone", ())[:3] == ["-", "-", "-"], done)
         tests.holds("OLD alone isn't timed", lines.get("old_alone") == "NEW has no crates/three".split(), done)
+        tests.holds("a job that OLD hasn't", lines.get("new_job", ())[:3] == ["-", "-", "-"], done)
         tests.holds("a crate that neither has", lines.get("neither") == "neither checkout has crates/four".split(), done)
         empty = checkout(room / "empty"), checkout(room / "empty_too")
         done = tests.run(*empty)

@@ -59,9 +59,9 @@ extern "C" {
 #define HQ_BAD_ITEM 12
 /* The label's number isn't below that of all items. */
 #define HQ_BAD_LABEL 13
-/* The label or the constant has a place already. */
+/* The label or the constant has a position already. */
 #define HQ_BOUND_TWICE 14
-/* A label or a constant that is referred to has no place. */
+/* A label or a constant that is referred to has no position. */
 #define HQ_UNBOUND 15
 /* A register has no name: it isn't below 16. */
 #define HQ_NO_NAME 21
@@ -101,7 +101,7 @@ extern "C" {
 #define HQ_TOLD_PLACE 4u
 /* An item: an instruction. */
 #define HQ_ITEM_INST 0u
-/* An item: the place of a label, which is that of what comes next. */
+/* An item: the position of a label, which is that of what comes next. */
 #define HQ_ITEM_LABEL 1u
 /* An item: a jump to a label, which is always taken. */
 #define HQ_ITEM_JMP 2u
@@ -140,7 +140,7 @@ extern "C" {
 /* An item: a jump to a label at greater, of signed numbers. */
 #define HQ_ITEM_JG 19u
 /*
- * An item: the place of a constant, which is that of what comes next. It is data: behind it only data and places of labels
+ * An item: the position of a constant, which is that of what comes next. It is data: behind it only data and positions of labels
  * stand.
  */
 #define HQ_ITEM_CONSTANT 20u
@@ -959,7 +959,7 @@ _Static_assert(offsetof(hq_done, bytes) == 8, "hq_done.bytes");
 _Static_assert(offsetof(hq_done, uses) == 16, "hq_done.uses");
 #endif
 
-/* What is assembled: an instruction, the place of a label, a jump to one, or data behind the code. */
+/* What is assembled: an instruction, the position of a label, a jump to one, or data behind the code. */
 typedef struct hq_item {
     /* Which it is: `HQ_ITEM_INST` and the like. */
     uint32_t kind;
@@ -1020,18 +1020,18 @@ _Static_assert(offsetof(hq_flags, undefined) == 4, "hq_flags.undefined");
 #endif
 
 /*
- * Assembles items into the front of some bytes, all of them or nothing: instructions, places of labels, and jumps to them;
+ * Assembles items into the front of some bytes, all of them or nothing: instructions, positions of labels, and jumps to them;
  * behind them data, which instructions refer to as constants or labels. The first item that is data begins it: behind that no
  * instruction and no jump may stand.
  *
  * A label's number is below that of all items. Each jump has the shortest form in which all of them reach: no choice of forms
  * has fewer bytes. A jump to a label behind data has its long form. An instruction may refer to a label too. `uses` gets the
- * traps of the instructions, in their order, each at the place of its instruction. No late offset is known.
+ * traps of the instructions, in their order, each at the position of its instruction. No late offset is known.
  *
  * At `HQ_OK` `done` has how many items, bytes and traps there are, at `HQ_FULL` how many there would be. At another status
  * `bytes` and `uses` are 0, and `items` is the number of the item that is refused, from 0: the first that is none, or else the
  * first that has a fault or whose label or constant can't be bound, or else, at `HQ_UNBOUND`, the first that refers to what has no
- * place. At `HQ_TOO_MANY`, `HQ_OUT_OF_RANGE` and `HQ_NO_MEMORY` none is named, and `items` is 0.
+ * position. At `HQ_TOO_MANY`, `HQ_OUT_OF_RANGE` and `HQ_NO_MEMORY` none is named, and `items` is 0.
  *
  * It asks for memory, and has given all of it back when it answers.
  */
@@ -1050,8 +1050,8 @@ int32_t hq_check(const hq_inst *inst);
 int32_t hq_decode(const uint8_t *bytes, size_t bytes_len, hq_reading *HQ_RESTRICT out);
 
 /*
- * Reads instructions one behind the other from the front of some bytes, into as many places as there are or until no line of the
- * core reads what stands there, and says how many were read and how many bytes they have. The other places are as before.
+ * Reads instructions one behind the other from the front of some bytes, into as many slots as there are or until no line of the
+ * core reads what stands there, and says how many were read and how many bytes they have. The other slots are as before.
  */
 int32_t hq_decode_all(const uint8_t *bytes, size_t bytes_len, hq_reading *HQ_RESTRICT out, size_t out_len, size_t *HQ_RESTRICT count, size_t *HQ_RESTRICT end);
 
@@ -1135,7 +1135,7 @@ int32_t hq_operands(const hq_inst *inst, uint16_t *HQ_RESTRICT reg, uint16_t *HQ
 
 /*
  * What a relative field is to hold: what is stored in it, and the distance from the field's end to the target. `place` is the
- * place of the field's first byte. `HQ_OUT_OF_RANGE` where that isn't of 32 bits.
+ * position of the field's first byte. `HQ_OUT_OF_RANGE` where that isn't of 32 bits.
  */
 int32_t hq_patched(uint64_t place, uint64_t target, int32_t stored, int32_t *HQ_RESTRICT field);
 

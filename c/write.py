@@ -1,7 +1,7 @@
 #!/usr/bin/env python3
 """Writes huqmeris.h, huqmeris_names.h, the Rust declarations and abi.txt from the sources, or with --check tells which of them differ.
 
-The structs and constants are those of `cax64_plain` and of `huqmeris_c`, the calls those of `huqmeris_c`, and the numbers of
+The structs and constants are those of `x64_plain` and of `huqmeris_c`, the calls those of `huqmeris_c`, and the numbers of
 lines those of the two tables in `table`, in their order. An item that is a jump at a condition has the condition's name and number in
 the list of the code buffer: where `huqmeris_c` names or numbers it otherwise, it's refused. A call is refused that has no clause, that requires something of its
 caller, or in whose signature stands what isn't an integer, a slice or a reference of integers, or a struct of these without
@@ -25,9 +25,9 @@ import parts  # noqa: E402
 from core_lines import CORE, core_of  # noqa: E402
 from judging import table_of  # noqa: E402
 
-STRUCT_FILES = [f"crates/cax64_plain/src/{name}.rt" for name in ("place", "inst", "reading", "told")]
+STRUCT_FILES = [f"crates/x64_plain/src/{name}.rt" for name in ("place", "inst", "reading", "told")]
 STRUCT_FILES += [f"crates/huqmeris_c/src/{name}.rt" for name in ("progress", "item", "line_use")]
-STATUS_FILES = ["crates/cax64_plain/src/status.rt", "crates/huqmeris_c/src/status.rt"]
+STATUS_FILES = ["crates/x64_plain/src/status.rt", "crates/huqmeris_c/src/status.rt"]
 CONSTANT_FILES = ["crates/huqmeris_c/src/version.rt", *STATUS_FILES, *STRUCT_FILES, "crates/huqmeris_c/src/make.rt"]
 EXPORT_FOLDER = "crates/huqmeris_c/src"
 CONDITIONS = "crates/x64_code_buffer/src/jump.rt"

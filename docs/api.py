@@ -1,8 +1,8 @@
 #!/usr/bin/env python3
 """Writes docs/API.md, the reference of public items, from the sources; with --check tells whether it is as they have it.
 
-Each item of the facade, of the code buffer, of the core and of the layouts has its path, its documentation, its signature and
-the clauses of its contract, by name. An item that requires something says in its documentation what a build that wasn't proved
+Each item of the two facades, of the code buffer, of the core and of the layouts has its path, its documentation, its signature and
+the clauses of its contract, by name. An item that both facades have stands there once. An item that requires something says in its documentation what a build that wasn't proved
 does where that doesn't hold. Those of docs/silent.txt don't say it yet: no item comes to them, and one that says it is taken
 away, so they only get fewer.
 
@@ -17,6 +17,7 @@ from pathlib import Path
 ROOT = Path(__file__).resolve().parent.parent
 PAGE = ROOT / "docs/API.md"
 FACADE = "cranelift_assembler_x64"
+CORE_FACADE = "huqmeris"
 BUFFER = "x64_code_buffer"
 
 # The items in the order in which a reader looks for them.
@@ -31,7 +32,6 @@ SECTIONS = (
     ("Immediates", "Imm8 Imm16 Imm32 Imm64 Simm8 Simm16 Simm32 Extension OutOfRange"),
     ("Sinks", "CodeSink Recorder FixedSink Notice TrapCode DeferredTarget Label Constant KnownOffset SinkError"),
     ("The code buffer", "CodeBuffer Jump Condition BindError FinishError patched_field"),
-    ("Instructions as data", "InstData DataOperand DataOperands DataParts DataError"),
     ("Reading", "reader::read_inst reader::Reading reader::Place reader::RegView"),
     ("Features", "Feature AvailableFeatures Features"),
     ("Instructions of your own", "HasOperands RowAndOperands Task FromOperands Made Operand Operands Immediate ImmOperand Nop "
@@ -40,13 +40,16 @@ SECTIONS = (
     ("Laws", "laws"),
 )
 
-# The crates beside the facade whose public items all stand on the page, each with its heading.
+# The crates beside the facade of the port whose public items all stand on the page, each with its heading. What the facade of
+# the core has stands there by its path in it.
 CRATES = (
     ("The core", "x64_core"),
-    ("The core from bytes", "x64_core_reader"),
-    ("Texts of the core", "x64_core_text"),
-    ("The core of data, and back", "x64_core_data"),
+    ("Lines of the core", "x64_lines"),
+    ("Places of the core", "x64_place"),
+    ("The core from bytes", "x64_reader"),
+    ("Texts of the core", "x64_text"),
     ("What is encoded by a line", "x64_encode"),
+    ("Lists of what is encoded by a line", "cax64_sequence"),
     ("Lists in their least layout", "x64_assemble"),
     ("The least layout", "x64_layout"),
 )
@@ -339,24 +342,40 @@ def constants(crates, crate, modules):
         yield ""
 
 
-def below_root(crates, crate):
-    """The items of a crate's public modules that its root doesn't have."""
+def below_root(crates, crate, facade, above=()):
+    """The items of a crate's public modules that its root doesn't have, and that don't stand above."""
     crates.setdefault(crate, Crate(crate))
     root, modules = uses(crate), list(modules_of(crate))
     for module in modules:
         if not f"{module}::".startswith(CONSTANTS):
             for name in crates[crate].names.get(module, []):
-                if (crate, name) not in root.values():
-                    yield from shown(crates, f"{crate}::{module}::{name}", crate, name)
+                if (crate, name) not in root.values() and (crate, name) not in above:
+                    yield from shown(crates, path_of(crate, f"{module}::{name}", (crate, name), facade), crate, name)
     if tables := [module for module in modules if module.startswith(CONSTANTS)]:
         yield from constants(crates, crate, tables)
 
 
-def whole(crates, crate):
-    """All public items of a crate: those of its root, and then those of its public modules."""
-    for name, (source, item) in uses(crate).items():
-        yield from shown(crates, f"{crate}::{name}", source, item)
-    yield from below_root(crates, crate)
+def path_of(crate, name, item, facade):
+    """The path by which a user names an item of a crate: of the facade of the core, if that has it."""
+    return next((f"{CORE_FACADE}::{path}" for path, of in facade.items() if of == item), f"{crate}::{name}")
+
+
+def whole(crates, crate, facade, above):
+    """All public items of a crate that don't stand above: those of its root, and then those of its public modules."""
+    for name, item in uses(crate).items():
+        if item not in above:
+            yield from shown(crates, path_of(crate, name, item, facade), *item)
+    yield from below_root(crates, crate, facade, above)
+
+
+def in_both(facade, others):
+    """What the facade of the core has that stands on the page by another path."""
+    names = [f"`{path}`" for path, item in facade.items() if item in others]
+    yield "## What both facades have"
+    yield ""
+    yield from textwrap.wrap(f"`{CORE_FACADE}` has these too, which stand above: {', '.join(names)}.", 119, break_long_words=False,
+                             break_on_hyphens=False)
+    yield ""
 
 
 def instructions(crates, public):
@@ -379,16 +398,18 @@ def instructions(crates, public):
 
 
 def page():
-    crates, public, buffer = {}, uses(FACADE), uses(BUFFER)
+    crates, public, buffer, core = {}, uses(FACADE), uses(BUFFER), uses(CORE_FACADE)
     left = {path for path in public if not path.startswith(("inst::", "laws::"))} | set(buffer)
+    above = {*public.values(), *buffer.values()}
     yield "# Public items"
     yield ""
     yield "<!-- Written by docs/api.py from the sources. -->"
     yield ""
     yield from textwrap.wrap(
-        f"Items of `{FACADE}`; in *The code buffer* those of `{BUFFER}`; and behind these, with their crate, all public items of "
-        + ", ".join(f"`{crate}`" for _, crate in CRATES[:-1]) + f" and `{CRATES[-1][1]}`. Not here are the crates below, of which "
-        "the facade gives what it has, and the calls from C, which stand in `c/huqmeris.h` and [C.md](C.md).", 119,
+        f"Items of the port's facade, `{FACADE}`; in *The code buffer* those of `{BUFFER}`; and behind these those of the core's facade, "
+        f"`{CORE_FACADE}`, among all public items of " + ", ".join(f"`{crate}`" for _, crate in CRATES[:-1])
+        + f" and `{CRATES[-1][1]}`. Not here are the crates below, of which the facades give what they have, and the calls from C, which "
+        "stand in `c/huqmeris.h` and [C.md](C.md).", 119,
         break_long_words=False, break_on_hyphens=False)
     yield ""
     yield "Behind a signature stand the clauses of the contract, by name: what a call requires, and what it ensures."
@@ -404,12 +425,17 @@ def page():
                 yield from shown(crates, each, source, name)
                 left.discard(each)
                 left -= {other for other in left if public.get(other) == (source, name)}
+                above.add((source, name))
         if title == "The code buffer":
-            yield from below_root(crates, BUFFER)
+            yield from below_root(crates, BUFFER, {})
+            above |= {(BUFFER, name) for names in crates[BUFFER].names.values() for name in names}
+    yield from in_both(core, above)
     for title, crate in CRATES:
         yield f"## {title}"
         yield ""
-        yield from whole(crates, crate)
+        yield from whole(crates, crate, core, above)
+        above |= {*uses(crate).values(), *((crate, name) for names in crates[crate].names.values() for name in names)}
+    left |= {path for path, item in core.items() if item not in above and item not in (("x64_core", "makers"), ("x64_core", "ops"))}
     yield from instructions(crates, public)
     if left:
         raise SystemExit(f"api: no section has {', '.join(sorted(left))}")

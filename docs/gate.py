@@ -1,7 +1,7 @@
 #!/usr/bin/env python3
 """Writes what the gate takes into docs/GATE.md, of what a run of it printed: docs/gate.py LOG
 
-LOG is the standard output of .ci/run. The part of the page between its two marks is written anew: of which commit and machine the
+LOG is the standard output of .ci/run, or its end. The part of the page between its two marks is written anew: of which commit and machine the
 run was, what each step and each crate took, and what was kept from earlier runs. A log is refused that doesn't end with `0 failed`, that
 is of a checkout with changes, or that is of a commit between which and this checkout anything but pages (*.md) differs.
 
@@ -118,7 +118,8 @@ def page_of(text):
     if not last:
         raise Refused("the log doesn't end with `N passed, 0 failed`")
     commit, machine, whole = judge_commit(text), one(MACHINE, text, "the machine")[1], one(ALL, text, "what all took")
-    steps, crates = STEP.findall(text), [Crate(*found) for found in CRATE.findall(text)]
+    # (what the page has is told once more at the end)
+    steps, crates = list(dict.fromkeys(STEP.findall(text))), [Crate(*found) for found in CRATE.findall(text)]
     if not crates:
         raise Refused("the log has no line of a crate")
     kept = sum(bool(crate.kept) for crate in crates)

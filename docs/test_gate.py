@@ -21,6 +21,9 @@ rt: ok; handles allowed: none; must-fail edits: 205 refused; every proof and mus
 gate: crate high: proof 2 s to 3.0 min, tests 0 s to - min, edits 0 s, memory 1.0 GB{kept}
 gate: crate low: proof 1200 s to 12.6 min, tests 45 s to 20.2 min, edits 30 s, memory 2.4 GB
 gate: ended: rt ci: status 0, 269 passed, 7366.1 s by the clock, 22746.4 s of processor time
+gate: commit {commit}{changes}
+gate: ended: python3 docs/quotes.py: status 0, 1 passed, 0.2 s by the clock, 0.1 s of processor time
+gate: ended: rt ci: status 0, 269 passed, 7366.1 s by the clock, 22746.4 s of processor time
 gate: all: 7500.0 s by the clock, 23000.0 s of processor time
 not run: nasm is missing
 {last}

@@ -68,7 +68,7 @@ class Words(Pages):
 
     def test_a_clause_that_is_not_there(self):
         self.change("docs/words.py", r'"read_inst", "is"', '"read_inst", "was"')
-        self.refuses("read_inst of cax64_reader/src/reader.rt has no clause was", 2, "words", "--check")
+        self.refuses("read_inst of x64_reader/src/rows.rt has no clause was", 2, "words", "--check")
 
     def test_a_function_that_is_not_there(self):
         self.change("docs/words.py", r'"hq_decode", ""', '"hq_undecode", ""')
@@ -80,7 +80,7 @@ class Words(Pages):
 
     def test_a_clause_of_the_first_page_that_is_not_there(self):
         self.change("README.md", r"\| `read_inst`: `is` \|", "| `read_inst`: `isnt` |")
-        self.refuses("read_inst of cax64_reader/src/reader.rt has no clause isnt", 2, "words", "--check")
+        self.refuses("read_inst of x64_reader/src/rows.rt has no clause isnt", 2, "words", "--check")
 
     def test_a_page_without_a_mark(self):
         self.change("docs/TRUSTED.md", r"^<!-- docs/words.py: types -->\n", "")
@@ -90,30 +90,50 @@ class Words(Pages):
         self.refuses("Run at the top", 2, "words", "--chek")
 
 
-class Drawing(Pages):
+class House(Pages):
+    def test_a_crate_in_no_section(self):
+        self.change("crates.txt", r"^# == definitions ==\n", "")
+        self.refuses("cax64_sink stands in no section", 1, "house")
+
+    def test_a_crate_in_two_sections(self):
+        self.change("crates.txt", r"^# == layout:.*\n", r"\g<0>cax64_sink:\n")
+        self.refuses("cax64_sink stands in definitions and in layout", 1, "house")
+
+    def test_a_section_twice(self):
+        self.change("crates.txt", r"^# == layout:.*\n", r"# == encoder: on definitions ==\n")
+        self.refuses("crates.txt has two sections encoder", 1, "house")
+
+    def test_a_crate_that_stands_on_one_of_a_later_section(self):
+        self.change("crates.txt", r"^x64_layout:", "x64_layout: cax64_feature")
+        self.refuses("x64_layout stands on cax64_feature, and the section layout isn't on port", 1, "house")
+
+    def test_a_section_on_one_behind_it(self):
+        self.change("crates.txt", r"^# == encoder: on definitions ==", "# == encoder: on definitions layout ==")
+        self.refuses("the section encoder stands on layout, which isn't a section before it", 1, "house")
+
+    def test_a_name_of_another_section(self):
+        self.change("crates.txt", r"^x64_layout:", "cax64_layout:")
+        self.refuses("cax64_layout of the section layout doesn't begin with x64_", 1, "house")
+
     def test_a_crate_that_is_not_drawn(self):
-        self.change("docs/ARCHITECTURE.md", r"^x64_layout   .*\n", "")
-        self.refuses("x64_layout stands neither in the drawing nor in the sentence", 1, "drawing")
+        self.change("docs/ARCHITECTURE.md", r"^             x64_layout   .*\n", "")
+        self.refuses("x64_layout isn't drawn", 1, "house")
+
+    def test_a_crate_that_is_drawn_twice(self):
+        self.change("docs/ARCHITECTURE.md", r"^             x64_layout   ", "             x64_layout x64_layout   ")
+        self.refuses("x64_layout is drawn twice", 1, "house")
 
     def test_a_crate_on_the_line_of_another(self):
-        self.change("docs/ARCHITECTURE.md", r"^huqmeris_c   .*\ncax64_plain", "huqmeris_c cax64_plain")
-        self.refuses("huqmeris_c stands on cax64_plain, which isn't drawn below it", 1, "drawing")
+        self.change("docs/ARCHITECTURE.md", r"^C            huqmeris_c   .*\n  +x64_plain", "C            huqmeris_c x64_plain")
+        self.refuses("huqmeris_c stands on x64_plain, which isn't drawn below it", 1, "house")
 
-    def test_a_crate_that_is_left_out_and_drawn(self):
-        self.change("docs/ARCHITECTURE.md", "out `inst_twin`,", "out `inst_twin`, `x64tiny`,")
-        self.refuses("x64tiny stands both in the drawing and in the sentence", 1, "drawing")
-
-    def test_a_crate_that_there_is_not(self):
-        self.change("docs/ARCHITECTURE.md", r"^cax64_plain   ", "cax64_plane   ")
-        self.refuses("cax64_plane is drawn or left out, and crates.txt has no such crate", 1, "drawing")
+    def test_a_crate_that_is_drawn_in_another_section(self):
+        self.change("docs/ARCHITECTURE.md", r"^layout      ", "encoder     ")
+        self.refuses("x64_assemble is drawn in encoder, and doesn't stand there in crates.txt", 1, "house")
 
     def test_a_crate_without_a_row(self):
         self.change("docs/ARCHITECTURE.md", r"^\| `x64tiny` .*\n", "")
-        self.refuses("no row of the table has x64tiny", 1, "drawing")
-
-    def test_a_crate_that_stands_on_one_now(self):
-        self.change("crates.txt", r"^x64_layout:$", "x64_layout: cax64_sink")
-        self.refuses("the sentence on the crates that stand on nothing names others", 1, "drawing")
+        self.refuses("no row of the table has x64tiny", 1, "house")
 
 
 class Times(Pages):

@@ -7,14 +7,14 @@ from effects import FLAGS as FLAG_PLACES
 from formatting import filled, in_order, use
 from rows import hexadecimal, packed, uses_8bit
 
-SPECS = "crates/x64_core/specs/Lines.antt"
-NUMBERS = "crates/x64_core/src/lines.rt"
+SPECS = "crates/x64_lines/specs/Lines.antt"
+NUMBERS = "crates/x64_lines/src/lines.rt"
 HEADS = "crates/x64_core/src/heads.rt"
-SHAPES = "crates/x64_core/src/shapes.rt"
-KIND_LISTS = "crates/x64_core/src/kind_lists.rt"
-KIND_SPANS = "crates/x64_core/src/kind_spans.rt"
-FLAGS = "crates/x64_core/src/flags.rt"
-EXTENSION_TABLE = "crates/x64_core/src/extension.rt"
+SHAPES = "crates/x64_lines/src/shapes.rt"
+OPERAND_LISTS = "crates/x64_lines/src/operand_lists.rt"
+OPERAND_SPANS = "crates/x64_lines/src/operand_spans.rt"
+FLAGS = "crates/x64_lines/src/flags.rt"
+EXTENSION_TABLE = "crates/x64_lines/src/extension.rt"
 OPS = "crates/x64_core/src/ops"
 
 # How many constants a law speaks of at most: what it takes the prover grows with the square of them, to gigabytes.
@@ -161,7 +161,7 @@ def shapes(lines):
 def kind_record(use):
     """What an operand is, as the code has it."""
     home = f"Fixed({use.number})" if use.home == "Fixed" else use.home
-    return (f"Kind {{ home: Home::{home}, class: Class::{use.kind}, access: Access::{use.access}, bits: {use.bits}, "
+    return (f"LineOperand {{ home: Home::{home}, class: Class::{use.kind}, access: Access::{use.access}, bits: {use.bits}, "
             f"is_printed: {str(use.is_printed).lower()} }}")
 
 
@@ -173,7 +173,7 @@ def kinds(uses):
             firsts[line.uses] = len(records)
             records += map(kind_record, line.uses)
     spans = [f"    Span {{ first: {firsts[line.uses]}, count: {len(line.uses)} }}, // {line.name}" for line in uses]
-    return (["#[rattlefmt::skip]", f"pub(crate) static KINDS: [Kind; {len(records)}] = [", *(f"    {record}," for record in records), "];"],
+    return (["#[rattlefmt::skip]", f"pub(crate) static OPERANDS: [LineOperand; {len(records)}] = [", *(f"    {record}," for record in records), "];"],
             ["#[rattlefmt::skip]", f"pub(crate) static SPANS: [Span; {len(uses)}] = [", *spans, "];"])
 
 
@@ -254,8 +254,8 @@ def constants(about, groups):
         "ghost use Rattle.std.specs.List.{range_with_len};",
         "",
         *use("crate::makers", sorted({type_of(line) for line in lines})),
-        "use crate::op::Op;",
         *(["use std::marker::PhantomData;"] if "with_imm" in macros else []),
+        "use x64_lines::Op;",
     ]
     for doc, found, number in groups:
         text += ["", f"// {doc}", ""]
@@ -294,8 +294,8 @@ def write(table, core, uses, sources):
     sources.part(HEADS, "heads", heads(lines))
     sources.part(SHAPES, "shapes", shapes(lines))
     lists, spans = kinds(uses)
-    sources.part(KIND_LISTS, "kinds", lists)
-    sources.part(KIND_SPANS, "spans", spans)
+    sources.part(OPERAND_LISTS, "kinds", lists)
+    sources.part(OPERAND_SPANS, "spans", spans)
     sources.part(FLAGS, "flags", flags(uses))
     sources.part(EXTENSION_TABLE, "extensions", extensions(lines))
     sources.part(f"{OPS}.rt", "files", ops_module(core.files))

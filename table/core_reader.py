@@ -1,16 +1,31 @@
-"""What the reader of the core holds: its lines as values, and an index of them by opcode, digit, prefixes and W."""
+"""What the reader holds: the core's lines as values, and an index of them: a slot for each opcode of a map, or each digit of
+one, and in it a place for each set of prefixes, without W and with it."""
 
-from index import MAP_COUNT, NO_ROW, PREFIX_COUNT, map_lines, places_of, slots_of
+from formatting import filled
 from rows import PLACE_MEMORY, PLACE_REGISTER_8, TAIL_NONE, TAIL_REGISTER_8, place_field, tail_field
 
-LINES = "crates/x64_core_reader/src/lines.rt"
-INDEX = "crates/x64_core_reader/src/index.rt"
+LINES = "crates/x64_reader/src/lines.rt"
+INDEX = "crates/x64_reader/src/index.rt"
 
 # The number that stands where no line does.
 NO_LINE = 65535
+# From this number on an entry is so much more than the slot of digit 0.
+DIGITS_FROM = 32768
+# The legacy prefixes, or pp; and the four opcode maps, each with its half behind 0F.
+PREFIX_COUNT = 16
+MAP_COUNT = 8
+EMPTY = (None, None)
 
 # The bits of a set of legacy prefixes, in the order of the struct.
 BITS = ("F0", "66", "F2", "F3")
+
+
+class Unplaced(Exception):
+    """A line that the index has no place for, and why."""
+
+    def __init__(self, line, sentence):
+        super().__init__(sentence)
+        self.line = line
 
 
 def prefix_value(line):
@@ -50,6 +65,48 @@ def lines_table(lines):
             *(f"    {line_value(line)}, // {line.name}" for line in lines), "];"]
 
 
+def by_opcode(lines):
+    """The lines of each opcode of a map, in the order of maps and opcodes."""
+    found = {}
+    for line in sorted(lines, key=lambda line: line.code.opcode_in_map):
+        found.setdefault(line.code.opcode_in_map, []).append(line)
+    return found
+
+
+def slots_of(lines):
+    """The entry of each opcode of a map, and for each slot from 1 on its name and its lines."""
+    entries, slots = {}, []
+    for opcode, found in by_opcode(lines).items():
+        first = len(slots) + 1
+        code = found[0].code
+        if first + 8 > DIGITS_FROM:
+            raise Unplaced(found[0], f"the reader's index has {DIGITS_FROM} slots, and none is left for its opcode")
+        name = f"{code.map_name} {code.opcode_name}" if code.vex else code.opcode_name
+        if code.digit is None:
+            entries[opcode] = first
+            slots.append((name, found))
+            continue
+        entries[opcode] = DIGITS_FROM + first
+        slots += [(f"{name[:-1]}{digit}", [line for line in found if line.code.digit == digit]) for digit in range(8)]
+    return entries, slots
+
+
+def places_of(lines):
+    """For each set of legacy prefixes, or each pp, the lines without W and with it."""
+    places = [EMPTY] * PREFIX_COUNT
+    for line in lines:
+        place = line.code.prefix_number
+        without, with_w = places[place]
+        places[place] = (without if line.code.w == 1 else line, with_w if line.code.w == 0 else line)
+    return places
+
+
+def map_lines(entries, number):
+    """The entries of a map's opcodes."""
+    found = [entries.get((number, byte), 0) for byte in range(256)]
+    return ["    [", *filled(map(str, found), "        "), "    ],"] if any(found) else ["    [0; 256],"]
+
+
 def prefixes_of(lines):
     """The sets of legacy prefixes, or pp, that lines have, by their numbers."""
     return sorted({line.code.prefix_number for line in lines})
@@ -72,7 +129,7 @@ def index_table(slots, prefixes, numbers):
     found = ["#[rattlefmt::skip]", f"static INDEX: [[[u16; 2]; {len(prefixes) + 1}]; {len(named)}] = ["]
     for name, lines in named:
         places = places_of(lines)
-        values = [place_value(lines, numbers) for lines in [*(places[number] for number in prefixes), NO_ROW]]
+        values = [place_value(lines, numbers) for lines in [*(places[number] for number in prefixes), EMPTY]]
         found.append(f"    [{', '.join(values)}], // {name}")
     return [*found, "];"]
 

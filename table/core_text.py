@@ -2,9 +2,9 @@
 
 from core_lines import CORE
 
-SPECS = "crates/x64_core_text/specs/Mnemonics.antt"
-MNEMONICS = "crates/x64_core_text/src/mnemonic.rt"
-STYLES = "crates/x64_core_text/src/style.rt"
+SPECS = "crates/x64_text/specs/Mnemonics.antt"
+MNEMONICS = "crates/x64_text/src/mnemonic.rt"
+STYLES = "crates/x64_text/src/style.rt"
 
 # The styles of rows that call or jump by an operand.
 INDIRECT = ("call", "jump")

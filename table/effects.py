@@ -30,7 +30,7 @@ CLASSES = {"general": "General", "general or memory": "General", "fixed": "Gener
 
 
 class Use(NamedTuple):
-    """An operand of a line, as `Kind` of x64_core has it. `home` is Reg, Vvvv, Place, Fixed, Imm or Stack, and `number` that of
+    """An operand of a line, as `LineOperand` of x64_lines has it. `home` is Reg, Vvvv, Place, Fixed, Imm or Stack, and `number` that of
     a fixed register; `kind` is General, Vector or None, and `access` None, Read, Write or ReadWrite."""
 
     home: str

@@ -1,4 +1,4 @@
-"""The rows: their enumeration and names, their places, the packed table, and the heads of data."""
+"""The rows: their enumeration and names, their places, and the packed table."""
 
 import re
 
@@ -69,27 +69,6 @@ def packed_table(rows):
             "];"]
 
 
-def head(row, bits):
-    """What stands in front of the tail beside these bits; the layout stands above `HEADS` in heads.rt. A row with VEX has the
-    numbers of one without, which nobody asks for."""
-    code = row.code
-    legacy = [] if code.vex else code.legacy_bytes
-    is_special = uses_8bit(row) and bits & 0b0100
-    rex = 0x40 | (code.w == 1) << 3 | bits >> 1 & 0b0100 | bits & 0b0011
-    held = [*legacy, *([rex] if rex != 0x40 or is_special else []), *code.opcode_bytes]
-    return int.from_bytes(held, "little") | len(held) << 56
-
-
-def head_table(rows):
-    """Four numbers a line, which the formatter would put one by one."""
-    lines = ["#[rattlefmt::skip]", f"const HEADS: [[u64; 16]; {len(rows)}] = ["]
-    for row in rows:
-        numbers = [hexadecimal(head(row, bits)) for bits in range(16)]
-        first, *others, last = [", ".join(numbers[place:place + 4]) for place in range(0, 16, 4)]
-        lines += [f"    [{first}, // {row.name}", *(f"     {four}," for four in others), f"     {last}],"]
-    return [*lines, "];"]
-
-
 def all_rows(names):
     return [f"static ALL: [Row; {len(names)}] = [", *(f"    Row::{name}," for name in names), "];"]
 
@@ -146,6 +125,3 @@ def write(table, sources):
     sources.part("crates/cax64_table/src/packed.rt", "table", packed_table(table.rows))
     sources.part("crates/cax64_table/src/packed.rt", "number", number_function(len(names)))
     sources.part("crates/cax64_table/proofs/Table.antt", "number", number_lemmas(table.rows))
-    heads = "crates/cax64_inst_data/src/heads.rt"
-    sources.part(heads, "heads", head_table(table.rows))
-    sources.part(heads, "number", number_function(len(names)))

@@ -15,7 +15,7 @@ HERE = Path(__file__).resolve().parent
 CAP_DAC_OVERRIDE, CAP_DAC_READ_SEARCH, PR_CAPBSET_DROP = 1, 2, 24
 
 ROWS = "crates/cax64_machine_code/specs/Rows.antt"
-INDEX = "crates/cax64_table/src/index.rt"
+INDEX = "crates/x64_reader/src/index.rt"
 LEFT_OVER = "crates/lock_b/src/or.rt"
 
 ADD = "lock_addl_mi_sxb | F0 W0 83 /0 | m32 imm8:sx32 |  | Add sign-extended `imm8` to `m32`. Locked."
@@ -396,7 +396,8 @@ class Tests:
             self.same("digits in one map", checkout.run(), (0, []))
             lines = checkout.files()[INDEX].splitlines()
             found = [line for line in lines if line.endswith(("// 83 /0", "// 0F 83"))]
-            wanted = ["    lock_32!(lock_addl_mi_sxb), // 83 /0", "    plain!(jmp_d8), // 0F 83"]
+            empty = "[65535, 65535]"
+            wanted = [f"    [{empty}, [1, 65535], {empty}], // 83 /0", f"    [[0, 0], {empty}, {empty}], // 0F 83"]
             self.same("the slots of 83", found, wanted)
 
     def changed_by_hand(self, checkout, found):
@@ -406,7 +407,7 @@ class Tests:
         without = "it has no part index, which a line `// table/write.py: index` begins"
         changes = (
             (struct, found[struct].replace("visitor.read_amode", "visitor.read"), 1, f"{struct}:61: {differs}"),
-            (INDEX, found[INDEX].replace("32769, 0", "32770, 0"), 1, f"{INDEX}:8: {differs}"),
+            (INDEX, found[INDEX].replace("32769, 0", "32770, 0"), 1, f"{INDEX}:9: {differs}"),
             (left, found["crates/jump/src/d8.rt"], 1, f"{left}: {gone}"),
             (INDEX, found[INDEX].replace("// table/write.py: index", ""), 2, f"{INDEX}: {without}"),
         )

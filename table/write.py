@@ -10,20 +10,17 @@ part has no place, or a file can't be read or written: then nothing is written.
 import sys
 from pathlib import Path
 
-import classes
 import core_files
 import core_reader
 import core_text
 import enumeration
 import facade
-import fixed
-import index
 import parts
 import rows
 import signatures
 import structs
 import texts
-from core_lines import CORE, core_of
+from core_lines import CORE, CoreGroup, core_of
 from effects import EFFECTS, uses_of
 from judging import table_of
 from parts import TABLE
@@ -44,12 +41,9 @@ def sources_of(table, core, uses):
     sources = parts.Sources()
     structs.write(table, sources)
     rows.write(table, sources)
-    index.write(table, sources, parts.text_of(ROOT, index.SOURCE))
     enumeration.write(table, sources)
     texts.write(table, sources)
     signatures.write(table, sources)
-    classes.write(table, sources, parts.text_of(ROOT, classes.SOURCE))
-    fixed.write(table, sources)
     facade.write(table, sources)
     core_files.write(table, core, uses, sources)
     core_reader.write(table, core, sources)
@@ -77,8 +71,9 @@ def wanted():
             return None
         sources = sources_of(table, core, uses)
         return parts.texts(ROOT, sources), list(parts.left_over(ROOT, sources, (TABLE, CORE)))
-    except index.Unplaced as unplaced:
-        refuse(TABLE, unplaced.row.line, unplaced.row.name, unplaced)
+    except core_reader.Unplaced as unplaced:
+        line = unplaced.line
+        refuse(CORE if isinstance(line.group, CoreGroup) else TABLE, line.line, line.name, unplaced)
     except parts.Misplaced as misplaced:
         complain(misplaced)
     return None

@@ -3,8 +3,9 @@
 use/steps.txt lists it.
 
 It stops at the first step that fails. What each step and each crate takes stands in lines that begin with `gate: `, of which
-docs/gate.py writes a part of docs/GATE.md. What wasn't run on this machine stands in the lines before the last; that is
-`N passed, M failed`, and counts all that was run. The status is 0 only where M is 0.
+docs/gate.py writes a part of docs/GATE.md: all of them stand at the end, so that who has only the end of a log can write the page.
+What wasn't run on this machine stands in the lines before the last; that is `N passed, M failed`, and counts all that was run. The
+status is 0 only where M is 0.
 """
 
 import os
@@ -24,8 +25,17 @@ KEPT = re.compile(r"^rt: (\w+) is kept: ")
 FAILED = re.compile(r"\d+ passed, (\d+) failed")
 
 
+TOLD = []
+
+
 def say(text):
     print(f"gate: {text}", flush=True)
+
+
+def tell(text):
+    """Says what the page has of a run, and once more at its end."""
+    say(text)
+    TOLD.append(text)
 
 
 def output_of(*words):
@@ -43,10 +53,10 @@ def processor_seconds():
 def tell_of_machine():
     """The commit, and on what it is judged."""
     changes = ", with changes" if output_of("git", "status", "--porcelain") else ""
-    say(f"commit {output_of('git', 'rev-parse', 'HEAD') or 'none'}{changes}")
+    tell(f"commit {output_of('git', 'rev-parse', 'HEAD') or 'none'}{changes}")
     models = re.findall(r"^model name\s*: (.*)$", Path("/proc/cpuinfo").read_text(encoding="utf-8"), re.MULTILINE)
     memory = os.sysconf("SC_PAGE_SIZE") * os.sysconf("SC_PHYS_PAGES") / 1e9
-    say(f"machine {len(os.sched_getaffinity(0))} processors, {models[0] if models else 'of no name'}, {memory:.0f} GB; {output_of('rt', 'version')}")
+    tell(f"machine {len(os.sched_getaffinity(0))} processors, {models[0] if models else 'of no name'}, {memory:.0f} GB; {output_of('rt', 'version')}")
 
 
 class Step:
@@ -83,11 +93,11 @@ class Step:
         if watching:
             self.tell_of_crates(watching.end())
         clock, processor = time.monotonic() - begun, processor_seconds() - before
-        say(f"ended: {self.name}: status {status}, {self.count()} passed, {clock:.1f} s by the clock, {processor:.1f} s of processor time")
+        tell(f"ended: {self.name}: status {status}, {self.count()} passed, {clock:.1f} s by the clock, {processor:.1f} s of processor time")
         return status
 
     def tell_of_crates(self, crates):
-        """A line for each crate: the seconds of its proof, its tests and its edits, and after how many minutes it and they were proved."""
+        """A line for each crate, at the end: the seconds of its proof, its tests and its edits, and after how many minutes it and they were proved."""
         for name in sorted({*crates, *self.kept, *(crate for crate, _ in self.proved)}):
             took = crates.get(name, {})
             parts = []
@@ -95,7 +105,7 @@ class Step:
                 at = self.proved.get((name, kind))
                 parts.append(f"{kind} {took.get(kind, 0):.0f} s to {f'{at:.1f}' if at is not None else '-'} min")
             kept = ", kept" if name in self.kept else ""
-            say(f"crate {name}: {', '.join(parts)}, edits {took.get('edits', 0):.0f} s, memory {took.get('memory', 0) / 1e9:.1f} GB{kept}")
+            TOLD.append(f"crate {name}: {', '.join(parts)}, edits {took.get('edits', 0):.0f} s, memory {took.get('memory', 0) / 1e9:.1f} GB{kept}")
 
     def count(self):
         return steps.count_of("\n".join(self.said))
@@ -124,6 +134,8 @@ def main():
             say(f"{step.name} failed with status {status}, and what is behind it was not run")
             break
         passed += step.count()
+    for text in TOLD:
+        say(text)
     say(f"all: {time.monotonic() - begun:.1f} s by the clock, {processor_seconds():.1f} s of processor time")
     print("\n".join([*left_out, f"{passed} passed, {failed} failed"]), flush=True)
     return 1 if failed else 0

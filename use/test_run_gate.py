@@ -74,13 +74,14 @@ def of_passing(tests):
     tests.holds("what rt ci printed is handed on", "2 passed" in lines, lines)
     tests.holds("what wasn't run stands before the count", lines[-2] == "not run: nasm is missing", lines)
     tests.holds("the commit is told", re.fullmatch(r"gate: commit [0-9a-f]{40}", lines[0]), lines[:1])
+    tests.holds("the commit and the machine are told at the end too", [line for line in lines if line.startswith(("gate: commit", "gate: machine"))] == 2 * lines[:2], lines)
     tests.holds("and the machine", re.match(r"gate: machine \d+ processors, .*; kit none$", lines[1]), lines[1:2])
     crates = [line for line in lines if line.startswith("gate: crate ")]
     tests.holds("a crate is kept", crates[:1] == ["gate: crate high: proof 0 s to - min, tests 0 s to - min, edits 0 s, memory 0.0 GB, kept"], crates)
     of_low = re.fullmatch(r"gate: crate low: proof \d s to [\d.]+ min, tests \d s to [\d.]+ min, edits 0 s, memory [\d.]+ GB", crates[-1])
     tests.holds("what a crate takes is told", of_low, crates)
     ends = [line for line in lines if line.startswith("gate: ended: ")]
-    tests.holds("each step's end is told", len(ends) == 4 and re.match(r"gate: ended: rt ci: status 0, 7 passed, [\d.]+ s by the clock, [\d.]+ s of processor time$", ends[1]), ends)
+    tests.holds("each step's end is told, and all again at the end", len(ends) == 8 and ends[:4] == ends[4:] and re.match(r"gate: ended: rt ci: status 0, 7 passed, [\d.]+ s by the clock, [\d.]+ s of processor time$", ends[1]), ends)
 
 
 def of_watching(tests):

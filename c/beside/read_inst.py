@@ -23,7 +23,8 @@ SOURCE = """\
 ghost use Rattle.std.specs.Prelude.{◌≡◌, MatchOption};
 ghost use Rattle.cax64_machine_code.specs.Reading.{read};
 
-use cax64_reader::{Reading, read_inst};
+use cax64_machine_code::reading::Reading;
+use x64_reader::read_inst;
 
 /// Reads into a place. It isn't inlined, so that all of the reading is put into memory.
 #[inline(never)]
@@ -54,7 +55,7 @@ def main():
         source = Path(folder) / "src/lib.rt"
         source.parent.mkdir()
         source.write_text(SOURCE, encoding="utf-8")
-        return build.build("read_inst", folder, ["cax64_machine_code", "cax64_reader"], [("llvm", str(build.OUT / "libread_inst.a"))])
+        return build.build("read_inst", folder, ["cax64_machine_code", "x64_reader"], [("llvm", str(build.OUT / "libread_inst.a"))])
 
 
 if __name__ == "__main__":

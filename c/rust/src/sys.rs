@@ -43,9 +43,9 @@ pub const HQ_NO_MEMORY: i32 = 11;
 pub const HQ_BAD_ITEM: i32 = 12;
 /// The label's number isn't below that of all items.
 pub const HQ_BAD_LABEL: i32 = 13;
-/// The label or the constant has a place already.
+/// The label or the constant has a position already.
 pub const HQ_BOUND_TWICE: i32 = 14;
-/// A label or a constant that is referred to has no place.
+/// A label or a constant that is referred to has no position.
 pub const HQ_UNBOUND: i32 = 15;
 /// A register has no name: it isn't below 16.
 pub const HQ_NO_NAME: i32 = 21;
@@ -85,7 +85,7 @@ pub const HQ_TOLD_CONSTANT: u32 = 3;
 pub const HQ_TOLD_PLACE: u32 = 4;
 /// An item: an instruction.
 pub const HQ_ITEM_INST: u32 = 0;
-/// An item: the place of a label, which is that of what comes next.
+/// An item: the position of a label, which is that of what comes next.
 pub const HQ_ITEM_LABEL: u32 = 1;
 /// An item: a jump to a label, which is always taken.
 pub const HQ_ITEM_JMP: u32 = 2;
@@ -123,7 +123,7 @@ pub const HQ_ITEM_JGE: u32 = 17;
 pub const HQ_ITEM_JLE: u32 = 18;
 /// An item: a jump to a label at greater, of signed numbers.
 pub const HQ_ITEM_JG: u32 = 19;
-/// An item: the place of a constant, which is that of what comes next. It is data: behind it only data and places of labels
+/// An item: the position of a constant, which is that of what comes next. It is data: behind it only data and positions of labels
 /// stand.
 pub const HQ_ITEM_CONSTANT: u32 = 20;
 /// An item: bytes, which are data too: the first of the 24 in which an instruction would stand, as many as the number says.
@@ -896,7 +896,7 @@ pub struct hq_done {
 
 const _: () = assert!(size_of::<hq_done>() == 24 && align_of::<hq_done>() == 8);
 
-/// What is assembled: an instruction, the place of a label, a jump to one, or data behind the code.
+/// What is assembled: an instruction, the position of a label, a jump to one, or data behind the code.
 #[repr(C)]
 #[derive(Clone, Copy, Debug, Default, PartialEq, Eq, Hash)]
 pub struct hq_item {
@@ -945,18 +945,18 @@ const _: () = assert!(size_of::<hq_flags>() == 6 && align_of::<hq_flags>() == 2)
 
 #[link(name = "huqmeris", kind = "static")]
 unsafe extern "C" {
-    /// Assembles items into the front of some bytes, all of them or nothing: instructions, places of labels, and jumps to them;
+    /// Assembles items into the front of some bytes, all of them or nothing: instructions, positions of labels, and jumps to them;
     /// behind them data, which instructions refer to as constants or labels. The first item that is data begins it: behind that no
     /// instruction and no jump may stand.
     ///
     /// A label's number is below that of all items. Each jump has the shortest form in which all of them reach: no choice of forms
     /// has fewer bytes. A jump to a label behind data has its long form. An instruction may refer to a label too. `uses` gets the
-    /// traps of the instructions, in their order, each at the place of its instruction. No late offset is known.
+    /// traps of the instructions, in their order, each at the position of its instruction. No late offset is known.
     ///
     /// At `HQ_OK` `done` has how many items, bytes and traps there are, at `HQ_FULL` how many there would be. At another status
     /// `bytes` and `uses` are 0, and `items` is the number of the item that is refused, from 0: the first that is none, or else the
     /// first that has a fault or whose label or constant can't be bound, or else, at `HQ_UNBOUND`, the first that refers to what has no
-    /// place. At `HQ_TOO_MANY`, `HQ_OUT_OF_RANGE` and `HQ_NO_MEMORY` none is named, and `items` is 0.
+    /// position. At `HQ_TOO_MANY`, `HQ_OUT_OF_RANGE` and `HQ_NO_MEMORY` none is named, and `items` is 0.
     ///
     /// It asks for memory, and has given all of it back when it answers.
     pub unsafe fn hq_assemble(items: *const hq_item, items_len: usize, code: *mut u8, code_len: usize, uses: *mut hq_use, uses_len: usize, done: *mut hq_done) -> i32;
@@ -966,8 +966,8 @@ unsafe extern "C" {
     /// Reads the instruction at the front of some bytes, of which all lines of the core are known; what follows it is not read.
     /// `HQ_NONE` where no line reads what stands there.
     pub unsafe fn hq_decode(bytes: *const u8, bytes_len: usize, out: *mut hq_reading) -> i32;
-    /// Reads instructions one behind the other from the front of some bytes, into as many places as there are or until no line of the
-    /// core reads what stands there, and says how many were read and how many bytes they have. The other places are as before.
+    /// Reads instructions one behind the other from the front of some bytes, into as many slots as there are or until no line of the
+    /// core reads what stands there, and says how many were read and how many bytes they have. The other slots are as before.
     pub unsafe fn hq_decode_all(bytes: *const u8, bytes_len: usize, out: *mut hq_reading, out_len: usize, count: *mut usize, end: *mut usize) -> i32;
     /// Encodes an instruction into the front of some bytes, and says how many it has, 1 to 13, and what it tells beside them.
     /// `HQ_FULL` where they are too few. No late offset is known.
@@ -1022,7 +1022,7 @@ unsafe extern "C" {
     /// The operands of an instruction, of which `hq_make` makes it again: `HQ_NO_REG` and `HQ_NO_IMM` for those that its line lacks.
     pub unsafe fn hq_operands(inst: *const hq_inst, reg: *mut u16, vvvv: *mut u16, place: *mut hq_place, imm: *mut i64) -> i32;
     /// What a relative field is to hold: what is stored in it, and the distance from the field's end to the target. `place` is the
-    /// place of the field's first byte. `HQ_OUT_OF_RANGE` where that isn't of 32 bits.
+    /// position of the field's first byte. `HQ_OUT_OF_RANGE` where that isn't of 32 bits.
     pub unsafe fn hq_patched(place: u64, target: u64, stored: i32, field: *mut i32) -> i32;
     /// Puts others in the place of all registers of an instruction, each by its number in this table. All else stays.
     pub unsafe fn hq_rename(inst: *mut hq_inst, homes: *const [u8; 256]) -> i32;

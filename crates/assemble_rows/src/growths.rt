@@ -1,9 +1,9 @@
 //! Each growth that lists ask for is refused in turn: what a buffer holds is as before, and a second try gives the same bytes.
 
 use crate::making::{IF_NOT_EQUAL, with_labels};
-use cax64_inst_data::InstData;
 use cax64_operand::Nop;
 use cax64_sink::{DeferredTarget, Label};
+use cax64_test_support::Filler;
 use cax64_test_support::growth::{Grows, Outcome, is_refused};
 use std::alloc::Allocator;
 use x64_assemble::{Item, Layout, LayoutError};
@@ -21,7 +21,7 @@ const BACK: [u8; 6] = [0x0F, 0x85, 0x92, 0xFE, 0xFF, 0xFF];
 fn put<A: Allocator>(
     layout: &mut Layout<A>,
     buffer: &mut CodeBuffer<A>,
-    items: &[Item<InstData>],
+    items: &[Item<Filler>],
     bound: Label,
 ) -> Outcome {
     let len = buffer.bytes().len();
@@ -47,14 +47,14 @@ fn put<A: Allocator>(
 /// Two lists, one behind the other: of four items, and of 42.
 #[derive(Drop)]
 struct TwoLists<'a> {
-    many: &'a [Item<InstData>],
+    many: &'a [Item<Filler>],
 }
 
 impl<'a> Grows for TwoLists<'a> {
     fn run<A: Allocator + Copy>(&self, alloc: A) -> Outcome {
         let few = [
             Item::Jump(Jump::Always, Label(0)),
-            Item::Inst(InstData::nop(Nop::Nine)),
+            Item::Inst(Filler(Nop::Nine)),
             Item::Bind(Label(0)),
             Item::Jump(Jump::Call, Label(2)),
         ];
@@ -93,7 +93,7 @@ fn each_growth_is_refused_in_turn(rt: HostRuntime) {
     let mut many = Vec::new(rt.alloc());
     many.push(Item::Bind(Label(1))).expect(&rt, "room");
     for _ in 0..40usize {
-        let nine = Item::Inst(InstData::nop(Nop::Nine));
+        let nine = Item::Inst(Filler(Nop::Nine));
         many.push(nine).expect(&rt, "room");
     }
     let back = Item::Jump(IF_NOT_EQUAL, Label(1));

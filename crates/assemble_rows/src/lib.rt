@@ -2,6 +2,8 @@
 #![tactic(auto)]
 
 #[cfg(test)]
+mod core_list;
+#[cfg(test)]
 mod growths;
 #[cfg(test)]
 mod making;

@@ -1,8 +1,8 @@
 //! Lists of no-operations, jumps and labels.
 
-use cax64_inst_data::InstData;
 use cax64_operand::Nop;
 use cax64_sink::{Label, SinkError};
+use cax64_test_support::Filler;
 use std::alloc::{AllocError, Allocator, Global};
 use x64_assemble::Item;
 use x64_code_buffer::{CodeBuffer, Condition, Jump};
@@ -21,13 +21,13 @@ pub(crate) enum Piece {
 }
 
 /// The items of these pieces.
-pub(crate) fn items_of(alloc: Global, pieces: &[Piece]) -> Result<Vec<Item<InstData>>, AllocError> {
+pub(crate) fn items_of(alloc: Global, pieces: &[Piece]) -> Result<Vec<Item<Filler>>, AllocError> {
     let mut items = Vec::new(alloc);
     for piece in pieces {
         match piece {
             Piece::Nops(count, nop) => {
                 for _ in 0..*count {
-                    items.push(Item::Inst(InstData::nop(*nop)))?;
+                    items.push(Item::Inst(Filler(*nop)))?;
                 }
             }
             Piece::Jump(jump, to) => items.push(Item::Jump(*jump, Label(*to)))?,

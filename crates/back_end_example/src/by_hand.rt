@@ -8,7 +8,7 @@ use cranelift_assembler_x64::inst::lock_addl_mi_sxb;
 use cranelift_assembler_x64::{DeferredTarget, Label, Notice, Recorder, Simm8};
 use std::alloc::Allocator;
 
-/// Patches the field at a place. `None` where its four bytes aren't all there, or the target is too far.
+/// Patches the field at a position. `None` where its four bytes aren't all there, or the target is too far.
 fn patch<A: Allocator>(code: &mut Recorder<A>, at: usize, target: usize) -> Option<()> {
     let bytes = code.bytes();
     if bytes.len() < 4 || bytes.len() - 4 < at {
@@ -20,7 +20,7 @@ fn patch<A: Allocator>(code: &mut Recorder<A>, at: usize, target: usize) -> Opti
     Some(())
 }
 
-/// Patches the field of each use of a label, now that its place is known.
+/// Patches the field of each use of a label, now that its position is known.
 fn patch_label<A: Allocator>(code: &mut Recorder<A>, label: Label, target: usize) -> Option<()> {
     for i in 0..code.notices().len() {
         let notice = code.notices().get(i).copied();

@@ -74,7 +74,7 @@ fn a_loop_has_labels_and_a_pool(rt: HostRuntime) {
     assert_eq!(rt; code.as_slice(), LOOP.as_slice());
 }
 
-/// The row that is read at a place, its number of bytes, and the distance of its target where it has one.
+/// The row that is read at a position, its number of bytes, and the distance of its target where it has one.
 fn read_at(code: &[u8], at: usize) -> Option<(Row, u8, Option<i32>)> {
     let reading = read_inst(code.get(at..)?)?;
     match reading.place {

@@ -2,8 +2,8 @@
 
 use cranelift_assembler_x64::inst::lock_addl_mi_sxb;
 use cranelift_assembler_x64::{
-    Amode, CodeSink, DataError, EncodeError, Fault, FixedSink, Instruction, Numbers, OutOfRange,
-    Refused, Simm8, SinkError, Stopped,
+    Amode, CodeSink, EncodeError, Fault, FixedSink, Instruction, Numbers, OutOfRange, Refused,
+    Simm8, SinkError, Stopped,
 };
 use std::alloc::{AllocError, Global};
 use std::error::Error;
@@ -63,7 +63,6 @@ fn each_is_an_error(rt: HostRuntime) -> Result<(), AllocError> {
     );
     assert!(rt; tells(alloc, &Fault::Unknown(7), "the late offset 7 isn't known")?);
     assert!(rt; tells(alloc, &EncodeError::Sink(SinkError::Full), full)?);
-    assert!(rt; tells(alloc, &DataError::Count(1), "the row takes 1 operand")?);
     let refused = Refused {
         whole: 3,
         error: SinkError::Full,

@@ -8,8 +8,6 @@ mod classes;
 #[cfg(test)]
 mod counted_loop;
 #[cfg(test)]
-mod data;
-#[cfg(test)]
 mod errors;
 #[cfg(test)]
 mod examples;

@@ -1,13 +1,14 @@
 //! Worked examples.
 
 use crate::making::{
-    FIRST, POOL, SECOND, and_with, call_to, code_of, compare_with, jump_to, push, shift,
+    FIRST, POOL, SECOND, and_with, bytes_of, call_to, compare_with, jump_to, push, shift,
 };
+use cax64_machine_code::reading::Place;
 use cax64_machine_code::row::Row;
-use cax64_reader::{Place, read_inst};
 use cax64_sink::{CodeSink, Constant, DeferredTarget, Label, Notice, SinkError};
 use std::alloc::{Allocator, Global};
 use x64_code_buffer::{BindError, CodeBuffer, FinishError, patched_field};
+use x64_reader::read_inst;
 
 #[test]
 fn a_field_counts_from_its_end(rt: HostRuntime) {
@@ -21,7 +22,11 @@ fn forward(alloc: Global) -> Result<Option<Vec<u8>>, SinkError> {
     let label = buffer.new_label()?;
     push(&mut buffer, &compare_with(FIRST))?;
     let bound = buffer.bind(label);
-    Ok(if bound.is_ok() { code_of(buffer) } else { None })
+    Ok(if bound.is_ok() {
+        bytes_of(buffer)
+    } else {
+        None
+    })
 }
 
 /// A call through what comes before it.
@@ -30,7 +35,11 @@ fn backward(alloc: Global) -> Result<Option<Vec<u8>>, SinkError> {
     let label = buffer.new_label()?;
     let bound = buffer.bind(label);
     push(&mut buffer, &call_to(FIRST))?;
-    Ok(if bound.is_ok() { code_of(buffer) } else { None })
+    Ok(if bound.is_ok() {
+        bytes_of(buffer)
+    } else {
+        None
+    })
 }
 
 #[test]
@@ -52,7 +61,7 @@ fn bound_code<A: Allocator>(mut buffer: CodeBuffer<A>, label: Label) -> Option<V
     buffer.bind(label).ok()?;
     let bound = buffer.place_of(FIRST) == Some(6);
     if unbound && told && bound {
-        code_of(buffer)
+        bytes_of(buffer)
     } else {
         None
     }
@@ -84,7 +93,7 @@ fn a_constant_is_bound_by_its_key(rt: HostRuntime) {
     let mut buffer = CodeBuffer::new(rt.alloc());
     assert!(rt; buffer.bind_constant(Constant(7)) == Ok(()));
     assert!(rt; push(&mut buffer, &jump_to(POOL)).is_ok());
-    let code = code_of(buffer).expect(&rt, "code");
+    let code = bytes_of(buffer).expect(&rt, "code");
     assert!(rt; code.as_slice() == [0xFF, 0x25, 0xFA, 0xFF, 0xFF, 0xFF].as_slice());
 }
 
@@ -92,7 +101,7 @@ fn a_constant_is_bound_by_its_key(rt: HostRuntime) {
 fn no_target_stays_as_it_is(rt: HostRuntime) {
     let mut buffer = CodeBuffer::new(rt.alloc());
     assert!(rt; push(&mut buffer, &call_to(DeferredTarget::None)).is_ok());
-    let code = code_of(buffer).expect(&rt, "code");
+    let code = bytes_of(buffer).expect(&rt, "code");
     assert!(rt; code.as_slice() == [0xFF, 0x15, 0, 0, 0, 0].as_slice());
 }
 
@@ -128,7 +137,7 @@ fn a_pool_stands_behind_the_code(rt: HostRuntime) {
     assert!(rt; buffer.put1(0).is_ok());
     assert!(rt; buffer.bind_constant(Constant(7)) == Ok(()));
     assert!(rt; buffer.put4(0x0102_0304).is_ok());
-    let code = code_of(buffer).expect(&rt, "code");
+    let code = bytes_of(buffer).expect(&rt, "code");
     assert!(rt; code.as_slice() == [0x0F, 0x54, 0x05, 1, 0, 0, 0, 0, 4, 3, 2, 1].as_slice());
 }
 
@@ -139,7 +148,7 @@ fn a_label_stands_behind_a_later_instruction(rt: HostRuntime) {
     assert!(rt; push(&mut buffer, &call_to(FIRST)).is_ok());
     assert!(rt; push(&mut buffer, &shift()).is_ok());
     assert!(rt; buffer.bind(label) == Ok(()));
-    let code = code_of(buffer).expect(&rt, "code");
+    let code = bytes_of(buffer).expect(&rt, "code");
     assert!(rt; code.as_slice() == [0xFF, 0x15, 2, 0, 0, 0, 0xD0, 0xE0].as_slice());
 }
 
@@ -156,7 +165,7 @@ fn calls_through_memory(alloc: Global) -> Result<Option<Vec<u8>>, SinkError> {
     let third = buffer.bind_constant(Constant(7));
     buffer.put4(0x3F80_0000)?;
     let bound = first.is_ok() && second.is_ok() && third.is_ok();
-    Ok(if bound { code_of(buffer) } else { None })
+    Ok(if bound { bytes_of(buffer) } else { None })
 }
 
 /// The row that is read at a place, and what its address counts from its end.

@@ -1,6 +1,6 @@
 //! Each growth of a buffer is refused in turn: it is as before, and a second try with memory gives the same bytes.
 
-use crate::making::{FIRST, POOL, call_to, code_of, compare_with, push};
+use crate::making::{FIRST, POOL, bytes_of, call_to, compare_with, push};
 use cax64_encoder::instruction::Instruction;
 use cax64_sink::{CodeSink, Constant, DeferredTarget, Label, Notice, Recorder, SinkError};
 use cax64_test_support::TestHeap;
@@ -86,7 +86,7 @@ fn is_made<A: Allocator + Copy>(alloc: A, tries: &mut Tries<'_>) -> Option<bool>
     push_again(&mut buffer, tries, &compare_with(POOL))?;
     constant_again(&mut buffer, tries, Constant(7))?;
     buffer.bind(label).ok()?;
-    let code = code_of(buffer)?;
+    let code = bytes_of(buffer)?;
     Some(code.as_slice() == CODE.as_slice())
 }
 

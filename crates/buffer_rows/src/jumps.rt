@@ -1,6 +1,6 @@
 //! Jumps and calls to labels, at worked examples.
 
-use crate::making::{FIRST, POOL, SECOND, call_to, code_of, compare_with, push};
+use crate::making::{FIRST, POOL, SECOND, bytes_of, call_to, compare_with, push};
 use cax64_sink::{DeferredTarget, Label, Notice, SinkError};
 use nop::{nop_1b, nop_9b};
 use std::alloc::{Allocator, Global};
@@ -60,7 +60,7 @@ fn made<A: Allocator + Copy>(alloc: A, steps: &[Step]) -> Result<CodeBuffer<A>, 
 fn ends_in(alloc: Global, steps: &[Step], told: &[Notice], end: &[u8]) -> Option<bool> {
     let buffer = made(alloc, steps).ok()?;
     let is_told = buffer.notices() == told;
-    let code = code_of(buffer)?;
+    let code = bytes_of(buffer)?;
     Some(is_told && code.as_slice().ends_with(end))
 }
 
@@ -114,7 +114,7 @@ fn the_first_use_that_is_not_bound_refuses(rt: HostRuntime) {
     let (mut buffer, error) = refusal_of(buffer).expect(&rt, "a refusal");
     assert!(rt; error == FinishError::Unbound(FIRST));
     assert!(rt; buffer.bind(Label(0)) == Ok(()));
-    let code = code_of(buffer).expect(&rt, "code");
+    let code = bytes_of(buffer).expect(&rt, "code");
     assert!(rt; code.as_slice() == [0xE9, 6, 0, 0, 0, 0xFF, 0x15, 0, 0, 0, 0].as_slice());
 }
 
@@ -144,7 +144,7 @@ fn a_jump_leads_to_itself_and_a_call_before_it(rt: HostRuntime) {
     assert!(rt; buffer.bind(Label(0)) == Err(BindError::Twice));
     assert!(rt; buffer.push_jump(Jump::Call, FIRST).is_ok());
     assert!(rt; buffer.notices() == [Notice::Target(3, FIRST)].as_slice());
-    let code = code_of(buffer).expect(&rt, "code");
+    let code = bytes_of(buffer).expect(&rt, "code");
     assert!(rt; code.as_slice() == [0xEB, 0xFE, 0xE8, 0xF9, 0xFF, 0xFF, 0xFF].as_slice());
 }
 
@@ -164,7 +164,7 @@ fn a_constant_takes_a_jump(rt: HostRuntime) {
     let (mut buffer, error) = refusal_of(buffer).expect(&rt, "a refusal");
     assert!(rt; error == FinishError::Unbound(POOL));
     assert!(rt; buffer.bind_constant(cax64_sink::Constant(7)) == Ok(()));
-    let code = code_of(buffer).expect(&rt, "code");
+    let code = bytes_of(buffer).expect(&rt, "code");
     assert!(rt; code.as_slice() == [0x90, 0xE8, 0, 0, 0, 0].as_slice());
 }
 

@@ -71,7 +71,7 @@ pub(crate) fn push<I: Instruction, A: Allocator>(
 }
 
 /// The bytes of a buffer that can be finished.
-pub(crate) fn code_of<A: Allocator>(buffer: CodeBuffer<A>) -> Option<Vec<u8, A>> {
+pub(crate) fn bytes_of<A: Allocator>(buffer: CodeBuffer<A>) -> Option<Vec<u8, A>> {
     match buffer.finish() {
         Ok(code) => Some(code),
         Err((_, _)) => None,

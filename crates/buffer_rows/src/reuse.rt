@@ -1,6 +1,6 @@
 //! A buffer that is given room, finished in place, emptied and used again.
 
-use crate::making::{FIRST, POOL, SECOND, call_to, code_of, jump_to, push, shift};
+use crate::making::{FIRST, POOL, SECOND, bytes_of, call_to, jump_to, push, shift};
 use cax64_sink::{CodeSink, Constant, DeferredTarget, Label, SinkError};
 use cax64_test_support::TestHeap;
 use std::alloc::{Allocator, Global};
@@ -72,7 +72,7 @@ fn a_cleared_buffer_is_as_a_new_one(rt: HostRuntime) {
     assert!(rt; buffer.bind(Label(0)) == Err(BindError::Unknown));
     assert!(rt; buffer.knows_offset(3) && buffer.known_offset(3) == -5);
     fill(&mut buffer).expect(&rt, "memory");
-    let code = code_of(buffer).expect(&rt, "code");
+    let code = bytes_of(buffer).expect(&rt, "code");
     assert!(rt; code.as_slice() == CODE.as_slice());
 }
 

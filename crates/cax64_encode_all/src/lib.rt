@@ -47,7 +47,8 @@ pub fn encode_all<R: Registers, S: CodeSink>(insts: &[Inst<R>], sink: &mut S) ->
 /// isn't refused.
 ///
 /// Each instruction has to be encodable for the sink, as [`all_encodable`] tells. Where one isn't, a build that wasn't
-/// proved may put a wrong instruction and answer Ok, or abort. There have to be at most `usize::MAX / 13` of them.
+/// proved may put a wrong instruction and answer Ok, or abort. There have to be at most `usize::MAX / 13` of them; of more
+/// such a build may put a part and answer an error, or abort.
 pub fn encode_all_whole<R: Registers, A: Allocator>(
     insts: &[Inst<R>],
     recorder: &mut Recorder<A>,

@@ -18,16 +18,16 @@ use Rattle.cax64_address.specs.Memory.{option_when}
 use Rattle.cax64_address.specs.declared.tail.TailCode.{TailCode}
 use Rattle.cax64_address.proofs.MemoryTails.{Displaced, short, long, tailed}
 use Rattle.cax64_address.proofs.TailLengths.{alone_length}
-use Rattle.cax64_encoder.specs.Tails.{class_with, class_of, mode_of, memory_front, memory_entry, base_entry}
+use Rattle.cax64_encoder.specs.Tails.{width_with, width_of_word, mode_of, memory_front, memory_entry, base_entry}
 use Rattle.cax64_encoder.proofs.Bytes.{no_bytes, more_bytes, one_byte}
 use Rattle.cax64_encoder.proofs.Fronts.{tail_puts}
 
--- The tail of a base that is looked up is the tail of its displacement's class.
+-- The tail of a base that is looked up is the tail of its displacement's width.
 
 record Moded (zero small five : Bool) : Type 0 where
-  pub mode : (if class_with zero small == 0 then from_bool five else class_with zero small) ≡ from_bool (small && (not zero || five)) + 2 * from_bool (not small)
-  pub byte : ((if class_with zero small == 0 then from_bool five else class_with zero small) == 1) ≡ (small && (not zero || five))
-  pub four : (class_with zero small == 2) ≡ not small
+  pub mode : (if width_with zero small == 0 then from_bool five else width_with zero small) ≡ from_bool (small && (not zero || five)) + 2 * from_bool (not small)
+  pub byte : ((if width_with zero small == 0 then from_bool five else width_with zero small) == 1) ≡ (small && (not zero || five))
+  pub four : (width_with zero small == 2) ≡ not small
 
 moded : (zero small five : Bool) → (zero ≡ true → small ≡ true) → Moded zero small five
 moded true true true h = record { mode = refl; byte = refl; four = refl }
@@ -51,7 +51,7 @@ by_small base low word v false is el f e =
     let h : 256 ≤ (word + 128) % 4294967296 = grind (arith, nat_tests, is) in
     long base low word v el f e h (false && (not (word == 0) || (low == 5))) false (sym is) refl
 
-pub displaced : (base low word : ℕ) (v : ℤ) → low ≡ base % 8 → FitsSigned w32 v → word ≡ cast_unsigned w32 v → Displaced base v (mode_of (class_of word) low) (byte_actions (option_when (mode_of (class_of word) low == 1) (word % 256)) ++ long_actions (option_when (class_of word == 2) word))
+pub displaced : (base low word : ℕ) (v : ℤ) → low ≡ base % 8 → FitsSigned w32 v → word ≡ cast_unsigned w32 v → Displaced base v (mode_of (width_of_word word) low) (byte_actions (option_when (mode_of (width_of_word word) low == 1) (word % 256)) ++ long_actions (option_when (width_of_word word == 2) word))
 displaced base low word v el f e =
     let m = moded (word == 0) (nat_lt ((word + 128) % 4294967296) 256) (low == 5) (zero_is_small word) in
     rw (m.byte, m.four, m.mode) (by_small base low word v (nat_lt ((word + 128) % 4294967296) 256) refl el f e)
@@ -120,36 +120,36 @@ pub record Done (reg base index : ℕ) (named : Option (ℕ × ℕ)) (v : ℤ) (
   pub bytes : IsBytes (all_bytes acts)
   pub length : length (all_bytes acts) ≡ least_tail (Mem (Some base) named v)
 
-mode_below : (zero five : Bool) (class : ℕ) → class < 3 → (if zero then from_bool five else class) < 3
-mode_below true true class h = omega arith
-mode_below true false class h = omega arith
-mode_below false five class h = h
+mode_below : (zero five : Bool) (width : ℕ) → width < 3 → (if zero then from_bool five else width) < 3
+mode_below true true width h = omega arith
+mode_below true false width h = omega arith
+mode_below false five width h = h
 
-class_below : (zero small : Bool) → class_with zero small < 3
-class_below true true = omega arith
-class_below true false = omega arith
-class_below false true = omega arith
-class_below false false = omega arith
+width_below : (zero small : Bool) → width_with zero small < 3
+width_below true true = omega arith
+width_below true false = omega arith
+width_below false true = omega arith
+width_below false false = omega arith
 
 field_below : (s : Bool) (low rm : ℕ) → rm ≡ (if s then 4 else low) → low < 8 → rm < 8
 field_below true low rm e h = omega arith
 field_below false low rm e h = omega arith
 
-pub done : (reg base index scale word sib rm : ℕ) (v : ℤ) (s four : Bool) → (index == 4) ≡ four → (not four || (base % 8 == 4)) ≡ s → reg < 8 → scale < 4 → FitsSigned w32 v → word ≡ cast_unsigned w32 v → sib ≡ scale * 64 + index % 8 * 8 + base % 8 → rm ≡ (if s then 4 else base % 8) → (front : List ℕ) → front ≡ memory_front s (mode_of (class_of word) (base % 8)) rm reg sib (word % 256)
-    → Done reg base index (if four then std.None else Some (index, 2 ^ scale)) v (puts front ++ long_actions (option_when (class_of word == 2) word))
+pub done : (reg base index scale word sib rm : ℕ) (v : ℤ) (s four : Bool) → (index == 4) ≡ four → (not four || (base % 8 == 4)) ≡ s → reg < 8 → scale < 4 → FitsSigned w32 v → word ≡ cast_unsigned w32 v → sib ≡ scale * 64 + index % 8 * 8 + base % 8 → rm ≡ (if s then 4 else base % 8) → (front : List ℕ) → front ≡ memory_front s (mode_of (width_of_word word) (base % 8)) rm reg sib (word % 256)
+    → Done reg base index (if four then std.None else Some (index, 2 ^ scale)) v (puts front ++ long_actions (option_when (width_of_word word == 2) word))
 done reg base index scale word sib rm v s four i e hr hc f w es er front ef =
-    let mode = mode_of (class_of word) (base % 8) in
+    let mode = mode_of (width_of_word word) (base % 8) in
     let m = mode * 64 + reg * 8 + rm in
-    let small : mode < 3 = mode_below (class_of word == 0) (base % 8 == 5) (class_of word) (class_below (word == 0) (nat_lt ((word + 128) % 4294967296) 256)) in
+    let small : mode < 3 = mode_below (width_of_word word == 0) (base % 8 == 5) (width_of_word word) (width_below (word == 0) (nat_lt ((word + 128) % 4294967296) 256)) in
     let rm_small : rm < 8 = field_below s (base % 8) rm er (omega arith) in
-    let code : TailCode = code_with m s sib (mode == 1) (word % 256) (class_of word == 2) word in
-    let same : puts front ++ long_actions (option_when (class_of word == 2) word) ≡ address.tail_actions code = tail_puts code front ef in
+    let code : TailCode = code_with m s sib (mode == 1) (word % 256) (width_of_word word == 2) word in
+    let same : puts front ++ long_actions (option_when (width_of_word word == 2) word) ≡ address.tail_actions code = tail_puts code front ef in
     let d = displaced base (base % 8) word v refl f w in
     let t = tailed reg base index scale mode rm m sib (base % 8) v _ refl hr d refl (rw (i, e) er) es in
     let place : Place = Mem (Some base) (if four then std.None else Some (index, 2 ^ scale)) v in
     rw same (record {
       tail = rw (i, e) at t.tail;
-      bytes = code_bytes m s sib (mode == 1) (word % 256) (class_of word == 2) word (omega arith) (omega arith) (omega arith);
+      bytes = code_bytes m s sib (mode == 1) (word % 256) (width_of_word word == 2) word (omega arith) (omega arith) (omega arith);
       length = (rw (i, e) at t.length) ∙ alone_length place;
     })
 
@@ -161,17 +161,17 @@ module _ (reg base index scale word : ℕ) (has_index : Bool) (sib : ℕ) (v : �
   abbrev rm : ℕ
   rm = if has_sib then 4 else base % 8
 
-  pub looked_up_front : Front (base_entry has_index (class_of word) (base % 8)) reg sib (word % 256) (memory_front has_sib (mode_of (class_of word) (base % 8)) rm reg sib (word % 256))
+  pub looked_up_front : Front (base_entry has_index (width_of_word word) (base % 8)) reg sib (word % 256) (memory_front has_sib (mode_of (width_of_word word) (base % 8)) rm reg sib (word % 256))
   looked_up_front =
-      let small : mode_of (class_of word) (base % 8) < 3 = mode_below (class_of word == 0) (base % 8 == 5) (class_of word) (class_below (word == 0) (nat_lt ((word + 128) % 4294967296) 256)) in
-      front_is has_sib (mode_of (class_of word) (base % 8)) rm reg sib (word % 256) small (field_below has_sib (base % 8) rm refl (omega arith)) hr (omega arith) (omega arith)
+      let small : mode_of (width_of_word word) (base % 8) < 3 = mode_below (width_of_word word == 0) (base % 8 == 5) (width_of_word word) (width_below (word == 0) (nat_lt ((word + 128) % 4294967296) 256)) in
+      front_is has_sib (mode_of (width_of_word word) (base % 8)) rm reg sib (word % 256) small (field_below has_sib (base % 8) rm refl (omega arith)) hr (omega arith) (omega arith)
 
-  pub looked_up : (front : List ℕ) → front ≡ memory_front has_sib (mode_of (class_of word) (base % 8)) rm reg sib (word % 256) → Done reg base index (if index == 4 then std.None else Some (index, 2 ^ scale)) v (puts front ++ long_actions (option_when (class_of word == 2) word))
+  pub looked_up : (front : List ℕ) → front ≡ memory_front has_sib (mode_of (width_of_word word) (base % 8)) rm reg sib (word % 256) → Done reg base index (if index == 4 then std.None else Some (index, 2 ^ scale)) v (puts front ++ long_actions (option_when (width_of_word word == 2) word))
   looked_up front e = done reg base index scale word sib rm v has_sib (index == 4) refl (ap (λ (b : Bool). b || (base % 8 == 4)) (sym marked)) hr hc f w es refl front e
 
-pub class_small : (word : ℕ) → class_of word < 3
-class_small word = class_below (word == 0) (nat_lt ((word + 128) % 4294967296) 256)
+pub width_small : (word : ℕ) → width_of_word word < 3
+width_small word = width_below (word == 0) (nat_lt ((word + 128) % 4294967296) 256)
 
 -- whether four bytes follow
-pub long_is : (word : ℕ) → (class_of word == 2) ≡ not (nat_lt ((word + 128) % 4294967296) 256)
+pub long_is : (word : ℕ) → (width_of_word word == 2) ≡ not (nat_lt ((word + 128) % 4294967296) 256)
 long_is word = (moded (word == 0) (nat_lt ((word + 128) % 4294967296) 256) true (zero_is_small word)).four

@@ -3,7 +3,7 @@ use Rattle.std.specs.Int.{from_bool}
 use Rattle.cax64_encoder.specs.Tails.{base_entry}
 use Rattle.cax64_encoder.specs.declared.tails.TheConstants.{TAILS}
 
--- The table of tails has what is said of each class and base: it is computed for each entry.
+-- The table of tails has what is said of each width and base: it is computed for each cell.
 
 pub by_three : (P : ℕ → Type 0) → P 0 → P 1 → P 2 → (n : ℕ) → n < 3 → P n
 by_three P a b c zero l = a
@@ -23,13 +23,13 @@ by_eight P a b c d e f g h (suc (suc (suc (suc (suc (suc (suc zero))))))) l = h
 by_eight P a b c d e f g h (suc (suc (suc (suc (suc (suc (suc (suc n)))))))) l = absurd (omega (arith, l))
 
 abbrev EntryIs : Bool → ℕ → ℕ → Type 0
-EntryIs has_index class low = slice_index_or TAILS (from_bool has_index * 24 + class * 8 + low) [] ≡ base_entry has_index class low
+EntryIs has_index width low = slice_index_or TAILS (from_bool has_index * 24 + width * 8 + low) [] ≡ base_entry has_index width low
 
-entry_is : (has_index : Bool) (class low : ℕ) → class < 3 → low < 8 → EntryIs has_index class low
-entry_is false class low c l = by_three (λ n. EntryIs false n low) (by_eight (EntryIs false 0) refl refl refl refl refl refl refl refl low l) (by_eight (EntryIs false 1) refl refl refl refl refl refl refl refl low l) (by_eight (EntryIs false 2) refl refl refl refl refl refl refl refl low l) class c
-entry_is true class low c l = by_three (λ n. EntryIs true n low) (by_eight (EntryIs true 0) refl refl refl refl refl refl refl refl low l) (by_eight (EntryIs true 1) refl refl refl refl refl refl refl refl low l) (by_eight (EntryIs true 2) refl refl refl refl refl refl refl refl low l) class c
+entry_is : (has_index : Bool) (width low : ℕ) → width < 3 → low < 8 → EntryIs has_index width low
+entry_is false width low c l = by_three (λ n. EntryIs false n low) (by_eight (EntryIs false 0) refl refl refl refl refl refl refl refl low l) (by_eight (EntryIs false 1) refl refl refl refl refl refl refl refl low l) (by_eight (EntryIs false 2) refl refl refl refl refl refl refl refl low l) width c
+entry_is true width low c l = by_three (λ n. EntryIs true n low) (by_eight (EntryIs true 0) refl refl refl refl refl refl refl refl low l) (by_eight (EntryIs true 1) refl refl refl refl refl refl refl refl low l) (by_eight (EntryIs true 2) refl refl refl refl refl refl refl refl low l) width c
 
-pub found : (has_index : Bool) (class low i c l : ℕ) → class < 3 → low < 8 → i ≡ from_bool has_index → c ≡ class → l ≡ low → slice_index_or TAILS (i * 24 + c * 8 + l) [] ≡ base_entry has_index class low
-found has_index class low i c l hc hl ei ec el =
-    let at : i * 24 + c * 8 + l ≡ from_bool has_index * 24 + class * 8 + low = omega (arith, ei, ec, el) in
-    ap (λ (k : ℕ). slice_index_or TAILS k []) at ∙ entry_is has_index class low hc hl
+pub found : (has_index : Bool) (width low i c l : ℕ) → width < 3 → low < 8 → i ≡ from_bool has_index → c ≡ width → l ≡ low → slice_index_or TAILS (i * 24 + c * 8 + l) [] ≡ base_entry has_index width low
+found has_index width low i c l hc hl ei ec el =
+    let at : i * 24 + c * 8 + l ≡ from_bool has_index * 24 + width * 8 + low = omega (arith, ei, ec, el) in
+    ap (λ (k : ℕ). slice_index_or TAILS k []) at ∙ entry_is has_index width low hc hl

@@ -164,7 +164,7 @@ fn tail_part(reg: u8, place: &NumberedPlace, displacement: i32, bytes_at_end: u8
 
 /// The code of the instruction of a line with these operands, whose memory operand has this displacement.
 #[inline(always)]
-pub fn code_of_entry(entry: Entry, form: &NumberedForm, displacement: i32) -> Code
+pub fn code_by_entry(entry: Entry, form: &NumberedForm, displacement: i32) -> Code
     requires fits { IsTrue (fits (entry_line entry) (form_named (entry_line entry) form.now)) }
     requires numbered { IsNumbered form.now.place }
     requires imm { HasImmWord (entry_line entry) form.now }
@@ -212,12 +212,12 @@ pub fn encode_entry<S: CodeSink>(
     ensures enough { HasRoom (S.state sink.old).byte_room 13 → HasRoom (S.state sink.old).notice_room 1 → IsOk result }
     ensures beside { S.may_become sink.old sink.new }
 {
-    code_of_entry(entry, form, displacement).put(sink)
+    code_by_entry(entry, form, displacement).put(sink)
 }
 
 /// The code of the instruction of a row with these operands, whose memory operand has this displacement.
 #[inline(always)]
-pub fn code_of(row: Row, form: &NumberedForm, displacement: i32) -> Code
+pub fn code_by_row(row: Row, form: &NumberedForm, displacement: i32) -> Code
     requires fits { IsTrue (fits (line_of row) (form_named (line_of row) form.now)) }
     requires numbered { IsNumbered form.now.place }
     requires imm { HasImmWord (line_of row) form.now }
@@ -226,7 +226,7 @@ pub fn code_of(row: Row, form: &NumberedForm, displacement: i32) -> Code
     ensures length { length (all_bytes (code_actions result)) ≡ len_of (form_parts plain.enc row displacement (form_named (line_of row) form.now)) }
     ensures is { IsCode result }
 {
-    code_of_entry(Entry::of_row(row), form, displacement)
+    code_by_entry(Entry::of_row(row), form, displacement)
 }
 
 /// The sink calls that write an instruction of a row, of whose operands this was kept.
@@ -240,7 +240,7 @@ pub(crate) fn code_for<R: Registers, S: CodeSink>(row: Row, content: &Content, s
         Some(nop) => nop_code(nop),
         None => {
             let displacement = content.form.place.displacement.value(sink);
-            code_of(row, &content.form, displacement)
+            code_by_row(row, &content.form, displacement)
         }
     }
 }

@@ -4,7 +4,7 @@ ghost use Rattle.std.specs.Prelude.{◌≡◌, ◌==◌, ◌<◌, ◌≤◌, ◌
 ghost use Rattle.cax64_address.specs.Emitted.{TailOf};
 ghost use Rattle.cax64_address.specs.Memory.{index_named, option_when};
 ghost use Rattle.cax64_encoder.specs.Code.{tail_actions};
-ghost use Rattle.cax64_encoder.specs.Tails.{base_entry, class_of};
+ghost use Rattle.cax64_encoder.specs.Tails.{base_entry, width_of_word};
 ghost use Rattle.cax64_machine_code.specs.Fields.{IsBytes};
 ghost use Rattle.cax64_machine_code.specs.Len.{least_tail};
 ghost use Rattle.cax64_sink.specs.Run.{all_bytes};
@@ -15,7 +15,7 @@ use cax64_address::amode::Scale;
 use cax64_address::disp::encode_modrm;
 use cax64_machine_code::reading::Place;
 
-/// For a base without an index and with one, each class of its displacement (0, one byte, four bytes) and the low bits of the
+/// For a base without an index and with one, each width of its displacement (0, one byte, four bytes) and the low bits of the
 /// base: ModR/M but its reg field; what SIB and a displacement of one byte are multiplied by to stand behind it, 0 where
 /// there is none; and how many bytes these are.
 const TAILS: [[u32; 4]; 48] = [
@@ -80,18 +80,18 @@ fn is_long(word: u32) -> bool
 /// A displacement as four bytes, if it takes as many.
 #[inline(always)]
 fn long(word: u32) -> Option<u32>
-    ensures { result ≡ option_when (class_of word == 2) word }
+    ensures { result ≡ option_when (width_of_word word == 2) word }
 {
     if is_long(word) { Some(word) } else { None }
 }
 
 #[inline(always)]
 fn entry(has_index: bool, word: u32, base: u8) -> [u32; 4]
-    ensures { result ≡ base_entry has_index (class_of word) (base % 8) }
+    ensures { result ≡ base_entry has_index (width_of_word word) (base % 8) }
 {
-    let class = u8::from(word != 0) + u8::from(is_long(word));
+    let width = u8::from(word != 0) + u8::from(is_long(word));
     let entry = &TAILS[usize::from(has_index) * 24
-        + usize::from(class) * 8
+        + usize::from(width) * 8
         + usize::from(base % 8)];
     *entry
 }

@@ -50,9 +50,11 @@ fn byte3(ll: u8, flag: bool, vvvv: u8, low: u8) -> u8
 }
 
 impl EvexPrefix {
-    /// The prefix of an operation on registers below 32 in reg and vvvv, and an operand: its register or base, and its
-    /// index, below 16. `ll` is 0 to 2 for 128, 256 and 512 bits, `pp` 0 to 3 for none, 66, F3 and F2, `mmm` the opcode
-    /// map. Nothing is masked.
+    /// The prefix of an operation on registers in reg and vvvv, and an operand: its register or base, and its index.
+    ///
+    /// Registers in reg and vvvv have to be below 32, those of the operand below 16, `ll` 0 to 2 for 128, 256 and 512 bits,
+    /// `pp` 0 to 3 for none, 66, F3 and F2, and `mmm`, the opcode map, below 8. Where a number isn't, a build that wasn't
+    /// proved may make another prefix, or abort. Nothing is masked.
     pub fn new(
         reg: u8,
         vvvv: u8,
@@ -81,7 +83,10 @@ impl EvexPrefix {
         }
     }
 
-    /// The prefix of an operation without a register in vvvv, which then reads as 0. Numbers are as in `new`.
+    /// The prefix of an operation without a register in vvvv, which then reads as 0.
+    ///
+    /// Numbers have to be as in [`new`](Self::new). Where one isn't, a build that wasn't proved may make another prefix, or
+    /// abort.
     pub fn two_op(
         reg: u8,
         operand: (Option<u8>, Option<u8>),
@@ -102,7 +107,9 @@ impl EvexPrefix {
         EvexPrefix::new(reg, 0, operand, ll, pp, mmm, w, broadcast)
     }
 
-    /// `new`, by the name of the operation's kind.
+    /// [`new`](Self::new), by the name of the operation's kind.
+    ///
+    /// Numbers have to be as there. Where one isn't, a build that wasn't proved may make another prefix, or abort.
     pub fn three_op(
         reg: u8,
         vvvv: u8,
@@ -125,8 +132,10 @@ impl EvexPrefix {
         EvexPrefix::new(reg, vvvv, operand, ll, pp, mmm, w, broadcast)
     }
 
-    /// The prefix of an operation on general registers, all below 32; `mmm` is 4 in use. `nd` asks for a destination
-    /// of its own in vvvv, `nf` for no flags.
+    /// The prefix of an operation on general registers. `nd` asks for a destination of its own in vvvv, `nf` for no flags.
+    ///
+    /// Registers have to be below 32, `pp` 0 to 3 for none, 66, F3 and F2, and `mmm` below 8; it is 4 in use. Where a number
+    /// isn't, a build that wasn't proved may make another prefix, or abort.
     pub fn legacy(
         reg: u8,
         vvvv: u8,
@@ -155,7 +164,10 @@ impl EvexPrefix {
         }
     }
 
-    /// The prefix of an operation without a register in vvvv, which then reads as 0. Numbers are as in `legacy`.
+    /// The prefix of an operation without a register in vvvv, which then reads as 0.
+    ///
+    /// Numbers have to be as in [`legacy`](Self::legacy). Where one isn't, a build that wasn't proved may make another prefix,
+    /// or abort.
     pub fn legacy_two_op(
         reg: u8,
         operand: (Option<u8>, Option<u8>),
@@ -175,7 +187,9 @@ impl EvexPrefix {
         EvexPrefix::legacy(reg, 0, operand, pp, mmm, w, nd, nf)
     }
 
-    /// `legacy`, by the name of the operation's kind.
+    /// [`legacy`](Self::legacy), by the name of the operation's kind.
+    ///
+    /// Numbers have to be as there. Where one isn't, a build that wasn't proved may make another prefix, or abort.
     pub fn legacy_three_op(
         reg: u8,
         vvvv: u8,

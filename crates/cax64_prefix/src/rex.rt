@@ -58,8 +58,10 @@ fn rex_byte(w_bit: bool, enc_reg: u8, enc_index: u8, enc_base: u8) -> u8
 }
 
 impl RexPrefix {
-    /// The prefix of a register in reg, an index, and a base or a register, each below 16. Where no bit is set, a byte
-    /// stands if `must_emit` holds.
+    /// The prefix of a register in reg, an index, and a base or a register. Where no bit is set, a byte stands if
+    /// `must_emit` holds.
+    ///
+    /// Each number has to be below 16. Where one isn't, a build that wasn't proved may make another prefix, or abort.
     pub fn of_registers(
         enc_reg: u8,
         enc_index: u8,
@@ -82,7 +84,9 @@ impl RexPrefix {
         }
     }
 
-    /// The prefix of one register operand, below 16, in rm or in the opcode.
+    /// The prefix of one register operand, in rm or in the opcode.
+    ///
+    /// Its number has to be below 16. Where it isn't, a build that wasn't proved may make another prefix, or abort.
     pub fn one_op(enc: u8, w_bit: bool, uses_8bit: bool) -> Self
         requires { enc < 16 }
         ensures bits { rex_bits result ≡ record { w = from_bool w_bit; r = 0; x = 0; b = enc / 8 } }
@@ -91,7 +95,9 @@ impl RexPrefix {
         RexPrefix::of_registers(0, 0, enc, w_bit, uses_8bit && is_special_if_8bit(enc))
     }
 
-    /// The prefix of two registers, each below 16: one in reg and one in rm.
+    /// The prefix of two registers: one in reg and one in rm.
+    ///
+    /// Each number has to be below 16. Where one isn't, a build that wasn't proved may make another prefix, or abort.
     pub fn two_op(enc_reg: u8, enc_rm: u8, w_bit: bool, uses_8bit: bool) -> Self
         requires reg { enc_reg < 16 }
         requires rm { enc_rm < 16 }
@@ -104,8 +110,9 @@ impl RexPrefix {
         RexPrefix::of_registers(enc_reg, 0, enc_rm, w_bit, uses_8bit && special)
     }
 
-    /// The prefix of a register and the base of an address, each below 16. A base is a 64-bit register, so it asks for
-    /// no byte by itself.
+    /// The prefix of a register and the base of an address. A base is a 64-bit register, so it asks for no byte by itself.
+    ///
+    /// Each number has to be below 16. Where one isn't, a build that wasn't proved may make another prefix, or abort.
     pub fn mem_op(enc_reg: u8, enc_rm: u8, w_bit: bool, uses_8bit: bool) -> Self
         requires reg { enc_reg < 16 }
         requires rm { enc_rm < 16 }
@@ -118,7 +125,10 @@ impl RexPrefix {
         RexPrefix::of_registers(enc_reg, 0, enc_rm, w_bit, must_emit)
     }
 
-    /// The prefix of an opcode digit, below 8, and a register, below 16. A digit of 4 to 7 counts as a register's code.
+    /// The prefix of an opcode digit and a register. A digit of 4 to 7 counts as a register's code.
+    ///
+    /// The digit has to be below 8, and the register's number below 16. Where one isn't, a build that wasn't proved may make
+    /// another prefix, or abort.
     pub fn with_digit(digit: u8, enc_reg: u8, w_bit: bool, uses_8bit: bool) -> Self
         requires digit { digit < 8 }
         requires reg { enc_reg < 16 }
@@ -130,7 +140,9 @@ impl RexPrefix {
         RexPrefix::two_op(digit, enc_reg, w_bit, uses_8bit)
     }
 
-    /// The prefix of a register and an address with an index, all below 16.
+    /// The prefix of a register and an address with an index.
+    ///
+    /// Each number has to be below 16. Where one isn't, a build that wasn't proved may make another prefix, or abort.
     pub fn three_op(enc_reg: u8, enc_index: u8, enc_base: u8, w_bit: bool, uses_8bit: bool) -> Self
         requires reg { enc_reg < 16 }
         requires index { enc_index < 16 }

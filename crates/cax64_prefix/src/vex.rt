@@ -27,8 +27,10 @@ fn use_2byte_prefix(index: u8, base: u8, w: bool, mmmmm: u8) -> bool
 
 impl VexPrefix {
     /// The prefix of an operation on a register in reg, one in vvvv, and an operand: its register or base, and its
-    /// index. Registers are below 16; `l` is 0 or 1, `pp` 0 to 3 for none, 66, F3 and F2, `mmmmm` 1 to 3 for the opcode
-    /// maps 0F, 0F38 and 0F3A.
+    /// index.
+    ///
+    /// Registers have to be below 16, `l` 0 or 1, `pp` 0 to 3 for none, 66, F3 and F2, and `mmmmm` 1 to 3 for the opcode
+    /// maps 0F, 0F38 and 0F3A. Where a number isn't, a build that wasn't proved may make another prefix, or abort.
     pub fn three_op(
         reg: u8,
         vvvv: u8,
@@ -64,7 +66,10 @@ impl VexPrefix {
         }
     }
 
-    /// The prefix of an operation without a register in vvvv, which then reads as 0. Numbers are as in `three_op`.
+    /// The prefix of an operation without a register in vvvv, which then reads as 0.
+    ///
+    /// Numbers have to be as in [`three_op`](Self::three_op). Where one isn't, a build that wasn't proved may make another
+    /// prefix, or abort.
     pub fn two_op(
         reg: u8,
         operand: (Option<u8>, Option<u8>),

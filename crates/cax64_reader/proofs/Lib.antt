@@ -3,5 +3,4 @@ pub mod Prefixes
 pub mod Fronts
 pub mod Lengths
 pub mod Longest
-pub mod ByLine
 pub mod Range

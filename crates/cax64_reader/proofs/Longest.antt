@@ -5,8 +5,7 @@ use Rattle.std.proofs.lemmas.Bool.Decides.{nat_tests}
 use Rattle.cax64_machine_code.specs.Fields.{number_at}
 use Rattle.cax64_machine_code.specs.Line.{after, same_legacy, field_matches, prefix_matches, opcode_bytes, opcode_at}
 use Rattle.cax64_machine_code.specs.Prefix.{no_legacy, is_no_legacy, begins_vex, after_vex, after_legacy, prefix_at, legacy_at, Rex, rex_at, Vex, is_vex_map, vex_at, Prefix, legacy_prefix, vex_prefix, x_of, b_of}
-use Rattle.cax64_machine_code.specs.Reading.{Found, FoundOf, imm_at, matched_at, operands_of, operands_at, place_at, find}
-use Rattle.cax64_machine_code.specs.Rows.{line_of, all_rows}
+use Rattle.cax64_machine_code.specs.Reading.{FoundOf, imm_at, matched_at, operands_of, place_at}
 use Rattle.cax64_machine_code.specs.Tail.{read_tail}
 use Rattle.cax64_machine_code.specs.declared.line.LegacySet.{LegacySet}
 use Rattle.cax64_machine_code.specs.declared.line.Line.{Line}
@@ -16,10 +15,7 @@ use Rattle.cax64_machine_code.specs.declared.line.TailField.{TailField}
 use Rattle.cax64_machine_code.specs.declared.line.PrefixField.TheVariants.{LegacyField, VexField}
 use Rattle.cax64_machine_code.specs.declared.line.TailField.TheVariants.{NoTail, Modrm}
 use Rattle.cax64_machine_code.specs.declared.line.ImmField.TheVariants.{NoImm, Imm, Simm}
-use Rattle.cax64_machine_code.specs.declared.row.Row.{Row}
-use Rattle.cax64_machine_code.specs.declared.row.Row.TheVariants.{lock_addb_mi}
 use Rattle.cax64_machine_code.proofs.Uniqueness.{behind, some_if, legacy_same}
-use Rattle.cax64_machine_code.proofs.Whole.{steps, row_matches}
 use Rattle.cax64_reader.specs.Lengths.{Within, HasSize}
 use Rattle.cax64_reader.proofs.Lengths.{some_same, mapped_from, chained_from, either_from, number_length, tail_length}
 
@@ -56,11 +52,6 @@ has_size (Simm size) = nat_le 1 size && nat_le size 4
 -- the instructions of a line have one to thirteen bytes, of which an immediate is one to four
 unfoldable pub is_short : Line → Bool
 is_short line = (nat_le (line_most line) 13 && nat_le 1 (length (opcode_bytes line.opcode))) && has_size line.imm
-
-row_short : (row : Row) → is_short (line_of row) ≡ true
-unfolding one count prefix_most tail_most imm_size line_most has_size is_short line_of
-row_short lock_addb_mi = refl
-row_short _ = refl
 
 -- the legacy prefixes that are read are so many bytes
 
@@ -250,13 +241,6 @@ steps_length key line p bytes left rest found short hp hm ho =
     let t = total line short in
     (omega arith, omega arith)
 
--- no instruction is longer than 13 bytes
-pub find_length : (bytes : List ℕ) (found : Found) → find bytes ≡ Some found → (1 + length found.rest ≤ length bytes) × (length bytes ≤ 13 + length found.rest)
-unfolding operands_at
-find_length bytes found h =
-    let s = steps bytes found h in
-    steps_length s.row (line_of s.row) s.prefix bytes s.behind s.rest found (row_short s.row) s.prefix_is (row_matches s.prefix s.behind all_rows s.row s.rest s.row_is) s.operands_are
-
 size_of : (field : ImmField) → has_size field ≡ true → HasSize field
 unfolding has_size
 size_of NoImm h = tt
@@ -266,7 +250,3 @@ size_of (Simm size) h = let p = and_parts (nat_le 1 size) (nat_le size 4) h in (
 pub line_size : (line : Line) → is_short line ≡ true → HasSize line.imm
 unfolding is_short
 line_size line h = size_of line.imm (and_parts (nat_le (line_most line) 13 && nat_le 1 (length (opcode_bytes line.opcode))) (has_size line.imm) h).1
-
--- the immediates of the table have one to four bytes
-pub row_size : (row : Row) → HasSize (line_of row).imm
-row_size row = line_size (line_of row) (row_short row)

@@ -1,4 +1,4 @@
-//! Reads one instruction from the front of some bytes.
+//! Reads the parts of an instruction: what stands before its opcode, and the operands of its line.
 #![tactic(auto)]
 
 pub mod by_line;
@@ -6,8 +6,4 @@ pub mod front;
 mod number;
 pub mod operands;
 pub mod prefix;
-mod reader;
 mod tail;
-
-pub use cax64_machine_code::reading::{Place, Reading, RegView};
-pub use reader::read_inst;

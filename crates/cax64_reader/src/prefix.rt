@@ -59,7 +59,7 @@ fn with_vex(r: bool, x: bool, b: bool, map: u8, w: bool, last: u8) -> Front
 {
     let vvvv = 15 - last / 8 % 16;
     Front {
-        numbers: PrefixNumbers::vex(last % 4, map, last / 4 % 2, w, vvvv),
+        numbers: PrefixNumbers::vex(last % 4, map, last / 4 % 2, w),
         has_rex: false,
         r,
         x,

@@ -1,29 +1,28 @@
-use Rattle.std.proofs.Common.{◌≡◌, ℕ, zero, suc, ◌+◌, ◌-◌, ◌<◌, ◌≤◌, ◌↔◌, inl, inr, arith, List, [], ◌∷◌, ◌++◌, Bool, true, false, refl, ◌∙◌, ap, sym, subst, ℤ, Option, Some, None, Result, Ok, Err, append_assoc, append-nil, take, drop, map, length, get_or, slice_get}
-use Rattle.std.specs.Prelude.{option_map, option_and_then, if◌then◌else◌, IfSome, IfErr, OnOk, OnErr, IsOk}
+use Rattle.std.proofs.Common.{◌≡◌, ℕ, zero, suc, ◌+◌, ◌-◌, ◌≤◌, ◌↔◌, arith, List, [], ◌∷◌, ◌++◌, Bool, true, false, refl, ◌∙◌, ap, sym, subst, Option, Some, None, Result, Ok, Err, append_assoc, append-nil, take, drop, map, length}
+use Rattle.std.specs.Prelude.{option_map, option_and_then, if◌then◌else◌, IfSome, IfErr, OnOk, IsOk}
 use Rattle.std.proofs.Math.Seq.{drop-append_seam, take-length}
-use Rattle.std.proofs.lemmas.Bool.{cases_lt}
-use Rattle.std.proofs.lemmas.List.{take_more, map-append, length-append, length-map, take-append-le, drop-append-le, length-drop}
-use Rattle.std.proofs.lemmas.Option.{slice_get_read, slice_get-map}
-use Rattle.cax64_encoder.specs.Instruction.{ShortestFor, AddsInstruction, LeavesInstruction}
+use Rattle.std.proofs.lemmas.List.{map-append, length-append, length-map, take-append-le, drop-append-le, length-drop}
+use Rattle.cax64_encoder.specs.Instruction.{ShortestFor, AddsInstruction}
 use Rattle.cax64_encoder.specs.Meant.{Meant, len}
-use Rattle.cax64_encoder.specs.Notices.{notices_of, notice_count}
+use Rattle.cax64_encoder.specs.Notices.{notices_of}
 use Rattle.cax64_encoder.proofs.Bytes.{no_bytes, both_bytes}
 use Rattle.cax64_machine_code.specs.Reading.{Parts, read}
-use Rattle.cax64_machine_code.specs.Sequence.{IsFront, Same, EachSame, read_all, total_length, ReadsAs, ReadsAllAs}
+use Rattle.cax64_machine_code.specs.Sequence.{Same, EachSame, read_all, total_length, ReadsAs, ReadsAllAs}
 use Rattle.cax64_machine_code.specs.declared.reading.Reading.{Reading}
 use Rattle.cax64_sequence.specs.List.{each_notices, EachShortest, EachExact, total_len, total_notices, AddsAll, LeavesAll}
 use Rattle.cax64_sequence.specs.declared.sequence.Refused.{Refused}
+use Rattle.cax64_sequence.proofs.Rooms.{from_ok}
 use Rattle.cax64_encoder.proofs.Instructions.{taken_fits}
 use Rattle.cax64_sink.specs.FixedSink.{fixed_sink_state}
 use Rattle.cax64_sink.specs.Keeps.{Keeps}
-use Rattle.cax64_sink.specs.Room.{Room, HasRoom, FallsBy}
+use Rattle.cax64_sink.specs.Room.{HasRoom}
 use Rattle.cax64_sink.specs.Sink.{State, is_full}
 use Rattle.cax64_sink.specs.declared.Notice.{Notice}
 use Rattle.cax64_sink.specs.declared.SinkError.{SinkError}
 use Rattle.cax64_sink.specs.declared.SinkError.TheVariants.{NoMemory, Full}
 use Rattle.cax64_sink.specs.declared.fixed_sink.FixedSink.{FixedSink}
 use Rattle.cax64_sink.proofs.Runs.{told_next}
-use Rattle.cax64_sink.proofs.Rooms.{less_room}
+use Rattle.x64_encode.specs.Encode.{SamePut}
 
 some_same : {A : Type 0} (a b : A) → ◌≡◌ {A = Option A} (Some a) (Some b) → a ≡ b
 some_same a b e = cc
@@ -144,11 +143,7 @@ pub len_more : {M : Type 0} (ms : List (Meant M)) (m : Meant M) → total_len (m
 len_more [] m = omega arith
 len_more (n ∷ ms) m = omega (arith, len_more ms m)
 
-pub notice_count_more : {M : Type 0} (ms : List (Meant M)) (m : Meant M) → total_notices (ms ++ m ∷ []) ≡ total_notices ms + notice_count m
-notice_count_more [] m = omega arith
-notice_count_more (n ∷ ms) m = omega (arith, notice_count_more ms m)
-
--- fewer instructions have no more bytes and notices
+-- fewer instructions have no more bytes
 len_of_fewer : {M : Type 0} (ms : List (Meant M)) (i j : ℕ) → i ≤ j → total_len (take i ms) ≤ total_len (take j ms)
 len_of_fewer [] zero j h = omega arith
 len_of_fewer [] (suc i) zero h = omega arith
@@ -156,14 +151,6 @@ len_of_fewer [] (suc i) (suc j) h = omega arith
 len_of_fewer (m ∷ ms) zero j h = omega arith
 len_of_fewer (m ∷ ms) (suc i) zero h = absurd (omega arith)
 len_of_fewer (m ∷ ms) (suc i) (suc j) h = omega (arith, len_of_fewer ms i j (omega arith))
-
-notices_of_fewer : {M : Type 0} (ms : List (Meant M)) (i j : ℕ) → i ≤ j → total_notices (take i ms) ≤ total_notices (take j ms)
-notices_of_fewer [] zero j h = omega arith
-notices_of_fewer [] (suc i) zero h = omega arith
-notices_of_fewer [] (suc i) (suc j) h = omega arith
-notices_of_fewer (m ∷ ms) zero j h = omega arith
-notices_of_fewer (m ∷ ms) (suc i) zero h = absurd (omega arith)
-notices_of_fewer (m ∷ ms) (suc i) (suc j) h = omega (arith, notices_of_fewer ms i j (omega arith))
 
 -- One instruction more.
 
@@ -204,130 +191,24 @@ adds_more ms m s u t h keeps k =
       length = length-append h.added k.added ∙ omega (arith, h.length, k.length, len_more ms m);
     }
 
--- the old bytes stay in front
-pub adds_in_front : {M : Type 0} (ms : List (Meant M)) (s t : State) → AddsAll ms s t → IsFront s.bytes t.bytes
-adds_in_front ms s t h = record { rest = h.added; whole = sym h.bytes }
-
-pub leaves_in_front : {M : Type 0} (ms : List (Meant M)) (whole : ℕ) (s t : State) → LeavesAll ms whole s t → IsFront s.bytes t.bytes
-leaves_in_front ms whole s t h = record {
-  rest = h.adds.added ++ h.leaves.left;
-  whole = sym (append_assoc s.bytes h.adds.added h.leaves.left) ∙ ap (λ (x : List ℕ). x ++ h.leaves.left) (sym h.adds.bytes) ∙ sym h.leaves.bytes;
-}
-
-pub stays_in_front : {M : Type 0} (ms : List (Meant M)) (s t : State) (r : Result (Unit {0}) Refused) → OnOk r (AddsAll ms s t) → IfErr r (λ e. LeavesAll ms e.whole s t) → IsFront s.bytes t.bytes
-stays_in_front ms s t (Ok tt) adds leaves = adds_in_front ms s t adds
-stays_in_front ms s t (Err e) adds leaves = leaves_in_front ms e.whole s t leaves
-
--- the bytes and notices of a state are all that counts before
-pub adds_from : {M : Type 0} {ms : List (Meant M)} (s u t : State) → u.bytes ≡ s.bytes → u.notices ≡ s.notices → u.records ≡ s.records → AddsAll ms u t → AddsAll ms s t
-adds_from {ms = ms} s u t bytes notices records h = record {
+-- at the end nothing may have changed but the rooms
+pub adds_to : {M : Type 0} (ms : List (Meant M)) (s u t : State) → AddsAll ms s u → SamePut u t → AddsAll ms s t
+adds_to ms s u t h same = record {
   added = h.added;
-  bytes = rw bytes at h.bytes;
+  bytes = same.bytes ∙ h.bytes;
   are_bytes = h.are_bytes;
   reads = h.reads;
-  notices = rw (bytes, notices, records) at h.notices;
+  notices = same.notices ∙ h.notices;
   shortest = h.shortest;
   exact = h.exact;
   length = h.length;
 }
-
--- The loop.
-
-pub map_more : {A B : Type 0} (f : A → B) (xs : List A) (i : ℕ) (x : A) → i < length xs → x ≡ get_or xs i x → map f (take (i + 1) xs) ≡ map f (take i xs) ++ f x ∷ []
-map_more f xs i x h e = ap (map f) (take_more xs i x h) ∙ map-append f (take i xs) (get_or xs i x ∷ []) ∙ ap (λ z. map f (take i xs) ++ f z ∷ []) (sym e)
 
 pub take_map : {A B : Type 0} (f : A → B) (xs : List A) (i : ℕ) → take i (map f xs) ≡ map f (take i xs)
 take_map f [] zero = refl
 take_map f [] (suc i) = refl
 take_map f (x ∷ xs) zero = refl
 take_map f (x ∷ xs) (suc i) = ap (λ z. f x ∷ z) (take_map f xs i)
-
-pub keeps_on : {s u t : State} → Keeps s u → Keeps u t → Keeps s t
-keeps_on h k = record { offsets = k.offsets ∙ h.offsets; records = k.records ∙ h.records; answers = k.answers ∙ h.answers }
-
-pub keeps_self : (s : State) → Keeps s s
-keeps_self s = record { offsets = refl; records = refl; answers = refl }
-
--- a call behind others lowers a room by its own part more
-pub falls_on : (old mid new : Room) (n m both : ℕ) → both ≡ n + m → FallsBy old mid n → FallsBy mid new m → FallsBy old new both
-falls_on old mid new n m both e h k count room =
-    let more : count + both ≡ (count + m) + n = omega arith in
-    k count (h (count + m) (rw more at room))
-
-pub falls_zero : (room : Room) → FallsBy room room 0
-falls_zero room count h = less_room room (count + 0) count (omega arith) h
-
--- what is left of a room for more than has been taken
-pub room_left : (old now : Room) (taken more all : ℕ) → taken + more ≤ all → FallsBy old now taken → HasRoom old all → HasRoom now more
-room_left old now taken more all h falls room = falls more (less_room old all (more + taken) (omega arith) room)
-
-pub err_is_no_ok : {E : Type 0} (e : E) → IsOk {T = Unit {0}} (Err e) → ⊥
-err_is_no_ok e h = cc
-
--- an instruction that is refused comes no earlier than those that there is room for
-pub refused_late : {A M : Type 0} (meant : A → Meant M) (xs : List A) (i j : ℕ) (x : A) (old now : State) → i < length xs → x ≡ get_or xs i x → FallsBy old.byte_room now.byte_room (total_len (map meant (take i xs))) → FallsBy old.notice_room now.notice_room (total_notices (map meant (take i xs))) → (HasRoom now.byte_room (len (meant x)) → HasRoom now.notice_room (notice_count (meant x)) → ⊥) → HasRoom old.byte_room (total_len (take j (map meant xs))) → HasRoom old.notice_room (total_notices (take j (map meant xs))) → j ≤ i
-refused_late meant xs i j x old now within e bytes notices refused byte_room notice_room =
-    let ms = map meant xs in
-    let one_more : take (i + 1) ms ≡ map meant (take i xs) ++ meant x ∷ [] = take_map meant xs (i + 1) ∙ map_more meant xs i x within e in
-    let all_len : total_len (take (i + 1) ms) ≡ total_len (map meant (take i xs)) + len (meant x) = ap total_len one_more ∙ len_more (map meant (take i xs)) (meant x) in
-    let all_notices : total_notices (take (i + 1) ms) ≡ total_notices (map meant (take i xs)) + notice_count (meant x) = ap total_notices one_more ∙ notice_count_more (map meant (take i xs)) (meant x) in
-    elim (cases_lt i j) [
-      | inl h ↦
-          let next : i + 1 ≤ j = omega arith in
-          absurd (refused
-          (room_left old.byte_room now.byte_room (total_len (map meant (take i xs))) (len (meant x)) (total_len (take j ms)) (omega (arith, all_len, len_of_fewer ms (i + 1) j next)) bytes byte_room)
-          (room_left old.notice_room now.notice_room (total_notices (map meant (take i xs))) (notice_count (meant x)) (total_notices (take j ms)) (omega (arith, all_notices, notices_of_fewer ms (i + 1) j next)) notices notice_room))
-      | inr h ↦ h
-    ]
-
--- a room that falls by less falls by no more than all
-pub falls_less : (old new : Room) (n all : ℕ) → n ≤ all → FallsBy old new n → FallsBy old new all
-falls_less old new n all h falls count room = falls count (less_room old (count + all) (count + n) (omega arith) room)
-
--- what was taken of a list that stopped lowers the rooms by no more than the list
-pub stopped_bytes : {A M : Type 0} (meant : A → Meant M) (xs : List A) (i : ℕ) (x : A) (old mid new : Room) → i < length xs → x ≡ get_or xs i x → FallsBy old mid (total_len (map meant (take i xs))) → FallsBy mid new (len (meant x)) → FallsBy old new (total_len (map meant xs))
-stopped_bytes meant xs i x old mid new h e before last =
-    let ms = map meant xs in
-    let one_more : take (i + 1) ms ≡ map meant (take i xs) ++ meant x ∷ [] = take_map meant xs (i + 1) ∙ map_more meant xs i x h e in
-    let all_len : total_len (take (i + 1) ms) ≡ total_len (map meant (take i xs)) + len (meant x) = ap total_len one_more ∙ len_more (map meant (take i xs)) (meant x) in
-    let whole : take (length ms) ms ≡ ms = take-length ms in
-    let within : i + 1 ≤ length ms = omega (arith, length-map xs meant) in
-    let fewer_than : total_len (take (i + 1) ms) ≤ total_len (take (length ms) ms) = len_of_fewer ms (i + 1) (length ms) within in
-    let fewer : total_len (take (i + 1) ms) ≤ total_len ms = rw whole at fewer_than in
-    falls_less old new (total_len (take (i + 1) ms)) (total_len ms) fewer (falls_on old mid new (total_len (map meant (take i xs))) (len (meant x)) _ all_len before last)
-
-pub stopped_notices : {A M : Type 0} (meant : A → Meant M) (xs : List A) (i : ℕ) (x : A) (old mid new : Room) → i < length xs → x ≡ get_or xs i x → FallsBy old mid (total_notices (map meant (take i xs))) → FallsBy mid new (notice_count (meant x)) → FallsBy old new (total_notices (map meant xs))
-stopped_notices meant xs i x old mid new h e before last =
-    let ms = map meant xs in
-    let one_more : take (i + 1) ms ≡ map meant (take i xs) ++ meant x ∷ [] = take_map meant xs (i + 1) ∙ map_more meant xs i x h e in
-    let all_notices : total_notices (take (i + 1) ms) ≡ total_notices (map meant (take i xs)) + notice_count (meant x) = ap total_notices one_more ∙ notice_count_more (map meant (take i xs)) (meant x) in
-    let whole : take (length ms) ms ≡ ms = take-length ms in
-    let within : i + 1 ≤ length ms = omega (arith, length-map xs meant) in
-    let fewer_than : total_notices (take (i + 1) ms) ≤ total_notices (take (length ms) ms) = notices_of_fewer ms (i + 1) (length ms) within in
-    let fewer : total_notices (take (i + 1) ms) ≤ total_notices ms = rw whole at fewer_than in
-    falls_less old new (total_notices (take (i + 1) ms)) (total_notices ms) fewer (falls_on old mid new (total_notices (map meant (take i xs))) (notice_count (meant x)) _ all_notices before last)
-
--- at the end all has been taken
-pub all_but_none : {A : Type 0} (xs : List A) (i : ℕ) → length xs ≤ i → i ≤ length xs → take i xs ≡ xs
-all_but_none xs i most least =
-    let all : i ≡ length xs = omega arith in
-    ap (λ (n : ℕ). take n xs) all ∙ take-length xs
-
--- a list that stopped at an instruction
-pub leaves_at : {A M : Type 0} (meant : A → Meant M) (xs : List A) (i : ℕ) (x : A) (s u t : State) → i < length xs → x ≡ get_or xs i x → AddsAll (map meant (take i xs)) s u → Keeps s u → FallsBy s.byte_room u.byte_room (total_len (map meant (take i xs))) → FallsBy s.notice_room u.notice_room (total_notices (map meant (take i xs))) → LeavesInstruction (meant x) u t → LeavesAll (map meant xs) i s t
-leaves_at meant xs i x s u t h e adds keeps byte_room notice_room leaves =
-    let found : slice_get xs i ≡ Some x = slice_get_read xs (length xs) i x refl h e in
-    record {
-      within = rw (length-map xs meant) h;
-      between = u;
-      adds = rw (take_map meant xs i) adds;
-      keeps = keeps;
-      byte_room = rw (take_map meant xs i) byte_room;
-      notice_room = rw (take_map meant xs i) notice_room;
-      next = meant x;
-      next_is = slice_get-map meant xs i ∙ ap (option_map meant) found;
-      leaves = leaves;
-    }
 
 -- Lists that a sink has room for.
 
@@ -336,37 +217,12 @@ whole_or_stopped : {M : Type 0} (ms : List (Meant M)) (count : ℕ) (s t : State
 whole_or_stopped ms count s t (Ok tt) all leaves late = refl
 whole_or_stopped ms count s t (Err e) all leaves late = absurd (omega (arith, leaves.within, late))
 
--- a list is taken where there is room for it; the offsets are said twice, since they may be known as those of an earlier state
-pub all_taken : {A M : Type 0} (meant : A → (ℕ → Option ℤ) → Meant M) (xs : List A) (old now : ℕ → Option ℤ) (s t : State) (r : Result (Unit {0}) Refused) → now ≡ old → HasRoom s.byte_room (total_len (map (λ i. meant i old) xs)) → HasRoom s.notice_room (total_notices (map (λ i. meant i old) xs)) → IfErr r (λ e. LeavesAll (map (λ i. meant i now) xs) e.whole s t) → ((j : ℕ) → j ≤ length xs → HasRoom s.byte_room (total_len (take j (map (λ i. meant i now) xs))) → HasRoom s.notice_room (total_notices (take j (map (λ i. meant i now) xs))) → IfErr r (λ e. j ≤ e.whole)) → IsOk r
-all_taken meant xs old now s t r e bytes notices leaves room =
-    let ms = map (λ i. meant i now) xs in
-    let whole : map (λ i. meant i old) xs ≡ take (length xs) ms = ap (λ o. map (λ i. meant i o) xs) (sym e) ∙ ap (map (λ i. meant i now)) (sym (take-length xs)) ∙ sym (take_map (λ i. meant i now) xs (length xs)) in
-    whole_or_stopped ms (length xs) s t r (length-map xs (λ i. meant i now)) leaves
+-- a list is taken where there is room for it
+all_taken : {A M : Type 0} (meant : A → Meant M) (xs : List A) (s t : State) (r : Result (Unit {0}) Refused) → HasRoom s.byte_room (total_len (map meant xs)) → HasRoom s.notice_room (total_notices (map meant xs)) → IfErr r (λ e. LeavesAll (map meant xs) e.whole s t) → ((j : ℕ) → j ≤ length xs → HasRoom s.byte_room (total_len (take j (map meant xs))) → HasRoom s.notice_room (total_notices (take j (map meant xs))) → IfErr r (λ e. j ≤ e.whole)) → IsOk r
+all_taken meant xs s t r bytes notices leaves room =
+    let whole : map meant xs ≡ take (length xs) (map meant xs) = ap (map meant) (sym (take-length xs)) ∙ sym (take_map meant xs (length xs)) in
+    whole_or_stopped (map meant xs) (length xs) s t r (length-map xs meant) leaves
     (room (length xs) (omega arith) (subst (λ z. HasRoom s.byte_room (total_len z)) whole bytes) (subst (λ z. HasRoom s.notice_room (total_notices z)) whole notices))
-
-from_ok : {P : Type 0} (r : Result (Unit {0}) Refused) → IsOk r → OnOk r P → P
-from_ok (Ok u) ok h = h
-from_ok (Err e) ok h = absurd (err_is_no_ok e ok)
-
--- A list that a state has room for, which has all else from an earlier state: it is taken, as from the earlier state.
-pub whole_list : {A M : Type 0} (meant : A → (ℕ → Option ℤ) → Meant M) (xs : List A) (s u t : State) (r : Result (Unit {0}) Refused) → u.bytes ≡ s.bytes → u.notices ≡ s.notices → u.records ≡ s.records → u.offsets ≡ s.offsets → HasRoom u.byte_room (total_len (map (λ i. meant i s.offsets) xs)) → HasRoom u.notice_room (total_notices (map (λ i. meant i s.offsets) xs)) → OnOk r (AddsAll (map (λ i. meant i u.offsets) xs) u t) → IfErr r (λ e. LeavesAll (map (λ i. meant i u.offsets) xs) e.whole u t) → ((j : ℕ) → j ≤ length xs → HasRoom u.byte_room (total_len (take j (map (λ i. meant i u.offsets) xs))) → HasRoom u.notice_room (total_notices (take j (map (λ i. meant i u.offsets) xs))) → IfErr r (λ e. j ≤ e.whole)) → IsOk r × AddsAll (map (λ i. meant i s.offsets) xs) s t
-whole_list meant xs s u t r bytes notices records offsets byte_room notice_room adds leaves room =
-    let ok = all_taken meant xs s.offsets u.offsets u t r offsets byte_room notice_room leaves room in
-    let added : AddsAll (map (λ i. meant i u.offsets) xs) s t = adds_from s u t bytes notices records (from_ok r ok adds) in
-    (ok, subst (λ o. AddsAll (map (λ i. meant i o) xs) s t) offsets added)
-
--- what is said of an Ok and of an Err, where there is an Ok
-pub on_ok : {E P : Type 0} (r : Result (Unit {0}) E) → P → OnOk r P
-on_ok (Ok u) h = h
-on_ok (Err e) h = tt
-
-pub no_err : {E : Type 0} (P : Type 0) (r : Result (Unit {0}) E) → IsOk r → OnErr r P
-no_err P (Ok u) ok = tt
-no_err P (Err e) ok = absurd (err_is_no_ok e ok)
-
-pub never_err : {E : Type 0} (P : E → Type 0) (r : Result (Unit {0}) E) → IsOk r → IfErr r P
-never_err P (Ok u) ok = tt
-never_err P (Err e) ok = absurd (err_is_no_ok e ok)
 
 -- Sinks of fixed size.
 
@@ -380,7 +236,7 @@ front_fits ms s t u left h e =
 -- a fixed sink takes a list exactly where its bytes fit in what is left
 pub fixed_takes_all : {A M : Type 0} {N : ℕ} (meant : A → Meant M) (xs : List A) (s t : FixedSink N) (r : Result (Unit {0}) Refused) → OnOk r (AddsAll (map meant xs) (fixed_sink_state s) (fixed_sink_state t)) → IfErr r (λ e. LeavesAll (map meant xs) e.whole (fixed_sink_state s) (fixed_sink_state t)) → ((j : ℕ) → j ≤ length xs → HasRoom (fixed_sink_state s).byte_room (total_len (take j (map meant xs))) → HasRoom (fixed_sink_state s).notice_room (total_notices (take j (map meant xs))) → IfErr r (λ e. j ≤ e.whole)) → IsOk r ↔ (total_len (map meant xs) ≤ N - length (fixed_sink_state s).bytes)
 fixed_takes_all meant xs s t r adds leaves room =
-    (λ ok. let h = from_ok r ok adds in taken_fits s t h.added (total_len (map meant xs)) h.bytes h.length, λ fit. all_taken (λ i o. meant i) xs (λ n. None) (λ n. None) (fixed_sink_state s) (fixed_sink_state t) r refl fit tt leaves room)
+    (λ ok. let h = from_ok r ok adds in taken_fits s t h.added (total_len (map meant xs)) h.bytes h.length, λ fit. all_taken meant xs (fixed_sink_state s) (fixed_sink_state t) r fit tt leaves room)
 
 -- and where they don't, of the fronts of the list exactly those that fit are whole
 pub fixed_takes_front : {A M : Type 0} {N : ℕ} (meant : A → Meant M) (xs : List A) (s t : FixedSink N) (r : Result (Unit {0}) Refused) → IfErr r (λ e. LeavesAll (map meant xs) e.whole (fixed_sink_state s) (fixed_sink_state t)) → ((j : ℕ) → j ≤ length xs → HasRoom (fixed_sink_state s).byte_room (total_len (take j (map meant xs))) → HasRoom (fixed_sink_state s).notice_room (total_notices (take j (map meant xs))) → IfErr r (λ e. j ≤ e.whole)) → IfErr r (λ e. (j : ℕ) → j ≤ length xs → (j ≤ e.whole) ↔ (total_len (take j (map meant xs)) ≤ N - length (fixed_sink_state s).bytes))

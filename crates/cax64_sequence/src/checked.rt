@@ -9,6 +9,7 @@ ghost use Rattle.cax64_sequence.specs.Stopped.{fault_at, AtFault, AtRefusal, Nev
 ghost use Rattle.cax64_sink.specs.Keeps.{Keeps};
 ghost use Rattle.cax64_sink.specs.Room.{HasRoom, FallsBy};
 
+use crate::each::put_each_checked;
 use cax64_encoder::EncodeError;
 use cax64_encoder::instruction::Instruction;
 use cax64_sink::CodeSink;
@@ -26,7 +27,7 @@ pub struct Stopped {
 ///
 /// Each is tested just before it is put, so those before the first fault stand whole, and nothing of the one with the fault
 /// is put or told. A refusal leaves what [`encode_each`](crate::encode_each) leaves.
-#[inline(never)]
+#[inline(always)]
 pub fn encode_each_checked<I: Instruction, S: CodeSink>(
     insts: &[I],
     sink: &mut S,
@@ -47,10 +48,5 @@ pub fn encode_each_checked<I: Instruction, S: CodeSink>(
     ensures byte_room { FallsBy (S.state sink.old).byte_room (S.state sink.new).byte_room (list_len (S.state sink.old) I.meant insts.now) }
     ensures notice_room { FallsBy (S.state sink.old).notice_room (S.state sink.new).notice_room (list_notices (S.state sink.old) I.meant insts.now) }
 {
-    for (whole, inst) in insts.iter().enumerate() {
-        if let Err(error) = inst.encode_checked(sink) {
-            return Err(Stopped { whole, error });
-        }
-    }
-    Ok(())
+    put_each_checked(insts, sink)
 }

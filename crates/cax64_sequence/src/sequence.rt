@@ -7,6 +7,7 @@ ghost use Rattle.cax64_sequence.specs.List.{AddsList, LeavesList, meants, total_
 ghost use Rattle.cax64_sink.specs.Keeps.{Keeps};
 ghost use Rattle.cax64_sink.specs.Room.{HasRoom, FallsBy};
 
+use crate::each::{are_encodable, put_each};
 use cax64_encoder::instruction::Instruction;
 use cax64_sink::{CodeSink, SinkError};
 
@@ -20,10 +21,11 @@ pub struct Refused {
 }
 
 /// Whether each of some instructions can be encoded for this sink, as the calls that put lists ask.
+#[inline(always)]
 pub fn all_encodable<I: Instruction, S: CodeSink>(insts: &[I], sink: &S) -> bool
     ensures { IsTrue result ↔ All (λ i. IsTrue (can_encode_in (S.state sink.now) (I.meant i))) insts.now }
 {
-    insts.iter().all(|inst| inst.is_encodable(sink))
+    are_encodable(insts, sink)
 }
 
 /// Puts instructions of one type one behind the other, and tells the sink of their traps and targets.
@@ -33,7 +35,7 @@ pub fn all_encodable<I: Instruction, S: CodeSink>(insts: &[I], sink: &S) -> bool
 /// Each instruction has to be encodable for the sink, as [`all_encodable`] tells. Where one isn't, a build that wasn't
 /// proved may put a wrong instruction and answer Ok, or abort. [`encode_each_checked`] tests each, and has no
 /// condition.
-#[inline(never)]
+#[inline(always)]
 pub fn encode_each<I: Instruction, S: CodeSink>(insts: &[I], sink: &mut S) -> Result<(), Refused>
     requires { All (λ i. IsTrue (can_encode_in (S.state sink.old) (I.meant i))) insts.now }
     ensures adds { OnOk result (AddsList I.meant insts.now (S.state sink.old) (S.state sink.new)) }
@@ -47,10 +49,5 @@ pub fn encode_each<I: Instruction, S: CodeSink>(insts: &[I], sink: &mut S) -> Re
     ensures byte_room { FallsBy (S.state sink.old).byte_room (S.state sink.new).byte_room (list_len (S.state sink.old) I.meant insts.now) }
     ensures notice_room { FallsBy (S.state sink.old).notice_room (S.state sink.new).notice_room (list_notices (S.state sink.old) I.meant insts.now) }
 {
-    for (whole, inst) in insts.iter().enumerate() {
-        if let Err(error) = inst.encode(sink) {
-            return Err(Refused { whole, error });
-        }
-    }
-    Ok(())
+    put_each(insts, sink)
 }

@@ -8,27 +8,10 @@ ghost use Rattle.cax64_sink.specs.Keeps.{Keeps};
 ghost use Rattle.cax64_sink.specs.Recorder.{recorder_state};
 ghost use Rattle.cax64_sink.specs.Room.{HasRoom, FallsBy};
 
-use crate::sequence::encode_each;
+use crate::each::put_each_whole;
 use cax64_encoder::instruction::Instruction;
-use cax64_sink::{CodeSink, Recorder, SinkError};
+use cax64_sink::{Recorder, SinkError};
 use std::alloc::Allocator;
-
-/// How many bytes and how many notices instructions have.
-fn measure<I: Instruction, S: CodeSink>(insts: &[I], sink: &S) -> (usize, usize)
-    requires encodable { All (λ i. IsTrue (can_encode_in (S.state sink.now) (I.meant i))) insts.now }
-    requires few { length insts.now ≤ usize.MAX / 13 }
-    ensures bytes { result.0 ≡ list_len (S.state sink.now) I.meant insts.now }
-    ensures notices { result.1 ≡ list_notices (S.state sink.now) I.meant insts.now }
-{
-    let mut bytes: usize = 0;
-    let mut notices: usize = 0;
-    for inst in insts {
-        let room = inst.room_needed(sink);
-        bytes += usize::from(room.bytes);
-        notices += usize::from(room.notices);
-    }
-    (bytes, notices)
-}
 
 /// Puts all instructions of a list of one type, or none.
 ///
@@ -36,7 +19,9 @@ fn measure<I: Instruction, S: CodeSink>(insts: &[I], sink: &S) -> (usize, usize)
 /// isn't refused.
 ///
 /// Each instruction has to be encodable for the sink, as [`all_encodable`] tells. Where one isn't, a build that wasn't
-/// proved may put a wrong instruction and answer Ok, or abort. There have to be at most `usize::MAX / 13` of them.
+/// proved may put a wrong instruction and answer Ok, or abort. There have to be at most `usize::MAX / 13` of them; of more
+/// such a build may put a part and answer an error, or abort.
+#[inline(always)]
 pub fn encode_each_whole<I: Instruction, A: Allocator>(
     insts: &[I],
     recorder: &mut Recorder<A>,
@@ -52,7 +37,5 @@ pub fn encode_each_whole<I: Instruction, A: Allocator>(
     ensures notice_room { FallsBy (recorder_state recorder.old).notice_room (recorder_state recorder.new).notice_room (list_notices (recorder_state recorder.old) I.meant insts.now) }
     ensures room { HasRoom (recorder_state recorder.old).byte_room (list_len (recorder_state recorder.old) I.meant insts.now) → HasRoom (recorder_state recorder.old).notice_room (list_notices (recorder_state recorder.old) I.meant insts.now) → IsOk result }
 {
-    let (bytes, notices) = measure(insts, &*recorder);
-    recorder.reserve(bytes, notices)?;
-    encode_each(insts, recorder).map_err(|refused| refused.error)
+    put_each_whole(insts, recorder)
 }

@@ -8,6 +8,3 @@ pub mod Numbers
 pub mod Packed
 pub mod Entry
 pub mod EntryLine
--- Steps of the proofs.
-pub mod Slot
-pub mod Matching

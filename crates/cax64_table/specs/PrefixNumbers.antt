@@ -4,7 +4,7 @@ use Rattle.cax64_machine_code.specs.Prefix.{Prefix, Rex, legacy_prefix, vex_pref
 use Rattle.cax64_table.specs.LegacyNumber.{set_number, set_of}
 use Rattle.cax64_table.specs.declared.prefix.PrefixNumbers.{PrefixNumbers}
 
--- A prefix as the numbers that are compared with a row's.
+-- A prefix as the numbers that are compared with a line's.
 
 -- the number of pp and map, which no set of legacy prefixes has; 63 of those that no prefix has
 abbrev pub map_number : ℕ → ℕ → ℕ
@@ -16,14 +16,12 @@ numbers_of (legacy_prefix set rex) = record {
   high = 1;
   has_high = has_rex (legacy_prefix set rex);
   w = w_of (legacy_prefix set rex) == 1;
-  is_free = true;
 }
 numbers_of (vex_prefix vex) = record {
   low = map_number vex.pp vex.map;
   high = vex.l;
   has_high = true;
   w = vex.w == 1;
-  is_free = vex.vvvv == 0;
 }
 
 -- numbers are those of a prefix, whose W is a bit
@@ -34,7 +32,7 @@ pub record AreNumbers (numbers : PrefixNumbers) (prefix : Prefix) : Type 0 where
 abbrev pub rex_with : Bool → ℕ → Bool → Bool → Bool → Option Rex
 rex_with stands w r x b = if stands then Some (record { w = w; r = from_bool r; x = from_bool x; b = from_bool b }) else None
 
--- the prefix of these numbers, and of what a row isn't compared with; L counts without a REX byte where it is VEX
+-- the prefix of these numbers, and of what isn't among them; L counts without a REX byte where it is VEX
 unfoldable pub prefix_with : PrefixNumbers → Bool → Bool → Bool → Bool → ℕ → Prefix
 prefix_with numbers rex r x b vvvv =
     if numbers.has_high && not rex

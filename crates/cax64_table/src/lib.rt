@@ -1,14 +1,12 @@
-//! The table of rows as the program holds it: what each row asks for, and which row some bytes match.
+//! The table of rows as the program holds it: what each row asks for.
 #![tactic(auto)]
 
 pub mod cursor;
 mod encodable;
 pub mod entry;
 mod fields;
-mod index;
 pub mod laws;
 pub mod legacy;
-pub mod lookup;
 pub mod numbers;
 mod packed;
 pub mod prefix;

@@ -1,5 +1,5 @@
 //! The table, one packed number for each row, and how a line is packed: `Packed.antt` has the layout. Beside this module
-//! only `entry` and `ready`, and `prefix` and `lookup` where they compare a row with bytes, know it.
+//! only `entry` and `ready` know it.
 
 ghost use Rattle.std.specs.Prelude.{◌≡◌, ◌≤◌, ◌/◌, ◌%◌, ◌^◌, ◌<◌};
 ghost use Rattle.cax64_machine_code.specs.Rows.{line_of};

@@ -4,23 +4,19 @@ ghost use Rattle.std.specs.Prelude.{◌≡◌, ◌<◌, true, if◌then◌else�
 ghost use Rattle.std.specs.Int.{from_bool};
 ghost use Rattle.cax64_machine_code.specs.Prefix.{is_vex_map, Rex, Vex, legacy_prefix, vex_prefix};
 ghost use Rattle.cax64_table.specs.Legacy.{set_in};
-ghost use Rattle.cax64_table.specs.Matching.{others_fit};
 ghost use Rattle.cax64_table.specs.PrefixNumbers.{AreNumbers};
 
 use crate::legacy::LegacyPrefixes;
-use crate::packed::{bits, flag};
 
-/// A prefix as the numbers that are compared with a row's.
+/// A prefix as the numbers that are compared with a line's.
 #[derive(Clone, Copy)]
 pub struct PrefixNumbers {
     /// The legacy prefixes F0, 66, F2 and F3 from bit 0 up, or pp, and from bit 4 up the map.
-    pub(crate) low: u8,
+    low: u8,
     /// L, or 1 where a REX byte stands, and whether it counts.
     high: u8,
     has_high: bool,
-    pub(crate) w: bool,
-    /// Whether vvvv may be stored as 1111.
-    is_free: bool,
+    w: bool,
 }
 
 impl PrefixNumbers {
@@ -34,23 +30,21 @@ impl PrefixNumbers {
             high: 1,
             has_high: rex_w.is_some(),
             w: rex_w == Some(true),
-            is_free: true,
         }
     }
 
-    /// Those of a VEX prefix with these fields, of which vvvv isn't inverted.
+    /// Those of a VEX prefix with these fields.
     #[inline(always)]
-    pub fn vex(pp: u8, map: u8, l: u8, w: bool, vvvv: u8) -> PrefixNumbers
+    pub fn vex(pp: u8, map: u8, l: u8, w: bool) -> PrefixNumbers
         requires pp { pp < 4 }
         requires map { is_vex_map map ≡ true }
-        ensures { (vex : Vex) → vex.pp ≡ pp → vex.map ≡ map → vex.l ≡ l → vex.w ≡ from_bool w → vex.vvvv ≡ vvvv → AreNumbers result (vex_prefix vex) }
+        ensures { (vex : Vex) → vex.pp ≡ pp → vex.map ≡ map → vex.l ≡ l → vex.w ≡ from_bool w → AreNumbers result (vex_prefix vex) }
     {
         PrefixNumbers {
             low: pp + 16 * map,
             high: l,
             has_high: true,
             w,
-            is_free: vvvv == 0,
         }
     }
 
@@ -76,13 +70,5 @@ impl PrefixNumbers {
         ensures { result ≡ (if self.has_high then Some self.high else None) }
     {
         if self.has_high { Some(self.high) } else { None }
-    }
-
-    /// What a key leaves open of these numbers is as a packed row has it.
-    #[inline(always)]
-    pub(crate) fn fit_beside_key(self, packed: u64) -> bool
-        ensures { result ≡ others_fit self packed }
-    {
-        (!self.has_high || bits(packed, 11, 1) == self.high) && (self.is_free || flag(packed, 12))
     }
 }

@@ -3,7 +3,7 @@
 ghost use Rattle.std.specs.Prelude.{◌≡◌};
 ghost use Rattle.x64_code_buffer.specs.Field.{patched};
 
-/// What the four bytes at a place are to hold: the distance from the end of the instruction to the target. Until then
+/// What the four bytes at a position are to hold: the distance from the end of the instruction to the target. Until then
 /// they hold minus the number of bytes that follow within the instruction. `None` where the distance isn't an `i32`.
 pub fn distance(at: u64, target: u64, held: i32) -> Option<i32>
     ensures { result ≡ patched at target held }

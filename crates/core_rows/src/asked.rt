@@ -1,10 +1,12 @@
 //! What lines are asked: their row, and whether they can be used.
 
+use cax64_feature::Feature;
+use cax64_feature::rows::second_feature;
 use cax64_machine_code::row::Row;
 use x64_core::ops::bits::{LZCNTQ_RM, POPCNTL_RM};
 use x64_core::ops::moves::MOVQ_RM;
 use x64_core::ops::scalar::ADDSD_A;
-use x64_core::{Extensions, Op};
+use x64_lines::{Extension, Extensions, Op};
 
 /// Each row is a line, by its number, and `movq`, which is no row's, has none.
 #[test]
@@ -32,4 +34,28 @@ fn extensions_are_looked_at(rt: HostRuntime) {
     assert!(rt; !POPCNTL_RM.regs(0, 7).op().is_available(&Extensions::BASE));
     assert!(rt; POPCNTL_RM.regs(0, 7).op().is_available(&all));
     assert!(rt; !LZCNTQ_RM.regs(0, 7).op().is_available(&all));
+}
+
+/// The extension of this name.
+fn named(feature: Feature) -> Option<Extension> {
+    match feature {
+        Feature::_64b | Feature::compat => None,
+        Feature::sse => Some(Extension::Sse),
+        Feature::sse2 => Some(Extension::Sse2),
+        Feature::avx => Some(Extension::Avx),
+        Feature::bmi2 => Some(Extension::Bmi2),
+        Feature::cmpxchg16b => Some(Extension::Cmpxchg16b),
+    }
+}
+
+/// The line of a row asks for what the row asks for beside its mode.
+#[test]
+fn rows_ask_for_their_extension(rt: HostRuntime) {
+    for row in Row::all() {
+        let asked = match second_feature(*row) {
+            Some(feature) => named(feature),
+            None => None,
+        };
+        assert!(rt; Op::of_row(*row).extension() == asked, "{row:?}");
+    }
 }

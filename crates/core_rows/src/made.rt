@@ -3,14 +3,15 @@
 use crate::words::{at, has_bytes, indexed};
 use cax64_address::amode::Scale;
 use std::mem::size_of;
-use x64_core::kinds::{Access, Class, Home, Kind};
 use x64_core::ops::arithmetic::{ADDB_I, ADDL_I, ADDW_MI, CMPQ_RM};
 use x64_core::ops::bits::POPCNTL_RM;
 use x64_core::ops::control::{PUSHQ_I8, PUSHQ_I32, RETQ_I};
 use x64_core::ops::multiplication::{IDIVQ_M, IMULQ_RMI_SXB};
 use x64_core::ops::rows::{CMPPS_A, LOCK_ADDQ_MI_SXB, LOCK_CMPXCHG16B_M, MULXQ_RVM, VCMPPS_B};
-use x64_core::shapes::{OpFields, OpImm, OpShape};
-use x64_core::{Core, CorePlace, Extension};
+use x64_core::{Core, CorePlace};
+use x64_lines::Extension;
+use x64_lines::operands::{Access, Class, Home, LineOperand};
+use x64_lines::shapes::{OpFields, OpImm, OpShape};
 
 /// An instruction has 24 bytes.
 #[test]
@@ -82,8 +83,8 @@ fn places(rt: HostRuntime) {
     assert!(rt; has_bytes(&CMPPS_A.regs(1, 2, 0), &[0x0F, 0xC2, 0xCA, 0x00]));
 }
 
-fn general(home: Home, access: Access, is_printed: bool) -> Kind {
-    Kind {
+fn general(home: Home, access: Access, is_printed: bool) -> LineOperand {
+    LineOperand {
         home,
         class: Class::General,
         access,
@@ -99,13 +100,13 @@ fn kinds(rt: HostRuntime) {
         general(Home::Reg, Access::Read, true),
         general(Home::Place, Access::Read, true),
     ];
-    assert!(rt; CMPQ_RM.op().kinds() == compared.as_slice());
+    assert!(rt; CMPQ_RM.op().operands() == compared.as_slice());
     let divided = [
         general(Home::Fixed(0), Access::ReadWrite, false),
         general(Home::Fixed(2), Access::ReadWrite, false),
         general(Home::Place, Access::Read, true),
     ];
-    assert!(rt; IDIVQ_M.op().kinds() == divided.as_slice());
+    assert!(rt; IDIVQ_M.op().operands() == divided.as_slice());
 }
 
 #[test]

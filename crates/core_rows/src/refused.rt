@@ -11,33 +11,38 @@ use x64_core::ops::arithmetic::{ADDQ_MI_SXB, ADDQ_RM, ADDW_I};
 use x64_core::ops::control::RETQ_ZO;
 use x64_core::ops::moves::{LEAQ_RM, MOVQ_MI_SXL, MOVQ_RM};
 use x64_core::ops::rows::{LOCK_ADDL_MI, MULXQ_RVM, VCMPPS_B};
-use x64_core::{Core, CorePlace, Op, Shape};
+use x64_core::{Core, CorePlace};
+use x64_lines::{Op, OperandError};
 
 /// The registers in reg and in vvvv, the place, and the immediate have to be those of the line.
 #[test]
 fn operands_of_another_shape(rt: HostRuntime) {
     assert!(rt;
-        Core::new(LEAQ_RM.op(), Some(0), None, CorePlace::Register(7), None) == Err(Shape::Place)
+        Core::new(LEAQ_RM.op(), Some(0), None, CorePlace::Register(7), None)
+            == Err(OperandError::Place)
     );
     assert!(rt;
-        Core::new(MOVQ_RM.op(), None, None, CorePlace::Register(7), None) == Err(Shape::Register)
+        Core::new(MOVQ_RM.op(), None, None, CorePlace::Register(7), None)
+            == Err(OperandError::Register)
     );
     assert!(rt;
-        Core::new(MOVQ_RM.op(), Some(0), Some(0), CorePlace::Register(7), None) == Err(Shape::Vvvv)
+        Core::new(MOVQ_RM.op(), Some(0), Some(0), CorePlace::Register(7), None)
+            == Err(OperandError::Vvvv)
     );
     assert!(rt;
-        Core::new(MOVQ_RM.op(), Some(0), None, CorePlace::Absent, None) == Err(Shape::Place)
+        Core::new(MOVQ_RM.op(), Some(0), None, CorePlace::Absent, None) == Err(OperandError::Place)
     );
     assert!(rt;
         Core::new(MOVQ_RM.op(), Some(0), None, CorePlace::Register(7), Some(1))
-            == Err(Shape::Immediate)
+            == Err(OperandError::Immediate)
     );
     assert!(rt;
         Core::new(ADDQ_MI_SXB.op(), None, None, CorePlace::Register(7), None)
-            == Err(Shape::Immediate)
+            == Err(OperandError::Immediate)
     );
     assert!(rt;
-        Core::new(RETQ_ZO.op(), None, None, CorePlace::Register(7), None) == Err(Shape::Place)
+        Core::new(RETQ_ZO.op(), None, None, CorePlace::Register(7), None)
+            == Err(OperandError::Place)
     );
 }
 
@@ -51,7 +56,7 @@ fn immediates_out_of_range(rt: HostRuntime) {
             None,
             CorePlace::Register(0),
             Some(128)
-        ) == Err(Shape::Range)
+        ) == Err(OperandError::Range)
     );
     assert!(rt;
         Core::new(
@@ -60,7 +65,7 @@ fn immediates_out_of_range(rt: HostRuntime) {
             None,
             CorePlace::Register(0),
             Some(-129)
-        ) == Err(Shape::Range)
+        ) == Err(OperandError::Range)
     );
     assert!(rt;
         Core::new(
@@ -69,7 +74,7 @@ fn immediates_out_of_range(rt: HostRuntime) {
             None,
             CorePlace::Register(0),
             Some(1 << 31)
-        ) == Err(Shape::Range)
+        ) == Err(OperandError::Range)
     );
     assert!(rt;
         Core::new(
@@ -78,7 +83,7 @@ fn immediates_out_of_range(rt: HostRuntime) {
             None,
             CorePlace::of_amode(&at(0, 0)),
             Some(1 << 32)
-        ) == Err(Shape::Range)
+        ) == Err(OperandError::Range)
     );
     assert!(rt;
         Core::new(
@@ -87,10 +92,11 @@ fn immediates_out_of_range(rt: HostRuntime) {
             None,
             CorePlace::of_amode(&at(0, 0)),
             Some(-1)
-        ) == Err(Shape::Range)
+        ) == Err(OperandError::Range)
     );
     assert!(rt;
-        Core::new(ADDW_I.op(), None, None, CorePlace::Absent, Some(65536)) == Err(Shape::Range)
+        Core::new(ADDW_I.op(), None, None, CorePlace::Absent, Some(65536))
+            == Err(OperandError::Range)
     );
 }
 
@@ -195,17 +201,17 @@ fn tells<E: Error>(alloc: Global, error: &E, text: &str) -> Result<bool, AllocEr
 fn refusals_print(rt: HostRuntime) -> Result<(), AllocError> {
     let alloc = rt.alloc();
     let register = "the line has a register in reg and none is given, or the other way round";
-    assert!(rt; tells(alloc, &Shape::Register, register)?);
+    assert!(rt; tells(alloc, &OperandError::Register, register)?);
     let vvvv = "the line has a register in vvvv and none is given, or the other way round";
-    assert!(rt; tells(alloc, &Shape::Vvvv, vvvv)?);
+    assert!(rt; tells(alloc, &OperandError::Vvvv, vvvv)?);
     let place = "a register, memory or nothing is given where the line has another of these";
-    assert!(rt; tells(alloc, &Shape::Place, place)?);
+    assert!(rt; tells(alloc, &OperandError::Place, place)?);
     let immediate = "the line has an immediate and none is given, or the other way round";
-    assert!(rt; tells(alloc, &Shape::Immediate, immediate)?);
+    assert!(rt; tells(alloc, &OperandError::Immediate, immediate)?);
     assert!(rt;
         tells(
             alloc,
-            &Shape::Range,
+            &OperandError::Range,
             "the immediate is out of the line's range"
         )?
     );

@@ -2,9 +2,6 @@
 //! named instructions.)
 
 use std::mem::size_of;
-use x64_core::Op;
-use x64_core::flags::{Flag, FlagSet, Flags};
-use x64_core::kinds::{Access, Class, Home, Kind};
 use x64_core::ops::arithmetic::{ADCL_RM, ANDQ_MR, CMPB_I};
 use x64_core::ops::bits::{BSFL_RM, BTQ_MI, CMPXCHG16B_M, POPCNTQ_RM};
 use x64_core::ops::conditions::{CMOVLEQ_RM, SETAE_M};
@@ -14,10 +11,13 @@ use x64_core::ops::multiplication::{DIVL_M, MULQ_M, NOTB_M};
 use x64_core::ops::rows::{CALLQ_D, JA_D8, LOCK_XADDL_MR, NOPL_RM, ROLB_M1, SHLQ_M1, VCMPSS_B};
 use x64_core::ops::scalar::{CVTSS2SD_A, MOVSD_A_M, SQRTSD_A, UCOMISS_A};
 use x64_core::ops::shifts::{RORL_MC, SARW_MI, SHLB_MC, SHLDW_MRI, SHRQ_MI};
+use x64_lines::Op;
+use x64_lines::flags::{Flag, FlagSet, Flags};
+use x64_lines::operands::{Access, Class, Home, LineOperand};
 
 /// An operand that isn't printed.
-fn beside(home: Home, class: Class, access: Access, bits: u8) -> Kind {
-    Kind {
+fn beside(home: Home, class: Class, access: Access, bits: u8) -> LineOperand {
+    LineOperand {
         home,
         class,
         access,
@@ -26,17 +26,17 @@ fn beside(home: Home, class: Class, access: Access, bits: u8) -> Kind {
     }
 }
 
-fn register(number: u8, access: Access) -> Kind {
+fn register(number: u8, access: Access) -> LineOperand {
     beside(Home::Fixed(number), Class::General, access, 64)
 }
 
-fn stack(access: Access, bits: u8) -> Kind {
+fn stack(access: Access, bits: u8) -> LineOperand {
     beside(Home::Stack, Class::None, access, bits)
 }
 
 /// An operand that is printed.
-fn printed(home: Home, class: Class, access: Access, bits: u8) -> Kind {
-    Kind {
+fn printed(home: Home, class: Class, access: Access, bits: u8) -> LineOperand {
+    LineOperand {
         is_printed: true,
         ..beside(home, class, access, bits)
     }
@@ -48,26 +48,26 @@ fn the_stack(rt: HostRuntime) {
     let moved = register(4, Access::ReadWrite);
     let byte = printed(Home::Imm, Class::None, Access::Read, 8);
     let pushed = [byte, moved, stack(Access::Write, 64)];
-    assert!(rt; PUSHQ_I8.op().kinds() == pushed.as_slice());
+    assert!(rt; PUSHQ_I8.op().operands() == pushed.as_slice());
     let word = printed(Home::Place, Class::General, Access::Write, 16);
     let popped = [word, moved, stack(Access::Read, 16)];
-    assert!(rt; POPW_M.op().kinds() == popped.as_slice());
+    assert!(rt; POPW_M.op().operands() == popped.as_slice());
     let distance = printed(Home::Imm, Class::None, Access::Read, 32);
     let called = [distance, moved, stack(Access::Write, 64)];
-    assert!(rt; CALLQ_D.op().kinds() == called.as_slice());
+    assert!(rt; CALLQ_D.op().operands() == called.as_slice());
     let returned = [moved, stack(Access::Read, 64)];
-    assert!(rt; RETQ_ZO.op().kinds() == returned.as_slice());
+    assert!(rt; RETQ_ZO.op().operands() == returned.as_slice());
     let left = [
         register(4, Access::Write),
         register(5, Access::ReadWrite),
         stack(Access::Read, 64),
     ];
-    assert!(rt; LEAVEQ_ZO.op().kinds() == left.as_slice());
+    assert!(rt; LEAVEQ_ZO.op().operands() == left.as_slice());
 }
 
 /// What is done with the first operand of a line.
 fn first_access(op: Op) -> Option<Access> {
-    match op.kinds().first() {
+    match op.operands().first() {
         Some(kind) => Some(kind.access),
         None => None,
     }
@@ -75,7 +75,7 @@ fn first_access(op: Op) -> Option<Access> {
 
 /// What is done with the second one.
 fn second_access(op: Op) -> Option<Access> {
-    match op.kinds().get(1) {
+    match op.operands().get(1) {
         Some(kind) => Some(kind.access),
         None => None,
     }

@@ -3,9 +3,10 @@
 use crate::columns::{optional, place_of, value_of};
 use cax64_sink::FixedSink;
 use std::alloc::{AllocError, Global};
-use x64_core::{Core, Op};
-use x64_core_reader::read_core;
-use x64_core_text::CoreText;
+use x64_core::Core;
+use x64_lines::Op;
+use x64_reader::read_core;
+use x64_text::CoreText;
 
 /// The instruction of a line, where each column is of its form and the operands are those of the line of the core.
 fn core_of(line: &str) -> Option<Core> {
@@ -36,7 +37,7 @@ fn is_read_back(core: Core, bytes: &[u8]) -> bool {
             return false;
         }
     }
-    usize::from(reading.length) == bytes.len() && reading.core() == Some(core)
+    usize::from(reading.length) == bytes.len() && Core::of_reading(&reading) == Some(core)
 }
 
 /// The text of an instruction, if its registers have names.

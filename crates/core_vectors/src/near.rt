@@ -4,7 +4,7 @@ ghost use Rattle.std.specs.Prelude.{◌<◌, IfSome};
 
 use crate::columns::value_of;
 use std::alloc::{AllocError, Global};
-use x64_core_reader::{CoreReading, read_core};
+use x64_reader::{CoreReading, read_core};
 
 fn digit_of(byte: u8) -> Option<u8>
     ensures { IfSome result (λ digit. digit < 16) }

@@ -75,17 +75,6 @@ pub use Rattle.cax64_sequence.specs.List
 pub use Rattle.cax64_sequence.specs.Stopped
 pub use Rattle.cax64_sequence.specs.Message as RefusedMessage
 pub use Rattle.cax64_renaming.specs.Renamed
--- Instructions as data.
-pub use Rattle.cax64_inst_data.specs.Operands as DataOperands
-pub use Rattle.cax64_inst_data.specs.Data
-pub use Rattle.cax64_inst_data.specs.Given
-pub use Rattle.cax64_inst_data.specs.Refusal
-pub use Rattle.cax64_inst_data.specs.Made as DataMade
-pub use Rattle.cax64_inst_data.specs.Homes
-pub use Rattle.cax64_inst_data.specs.Numbered
-pub use Rattle.cax64_inst_data.specs.OfReading
-pub use Rattle.cax64_inst_data.specs.Parts as DataParts
-pub use Rattle.cax64_inst_data.specs.Message as DataMessage
 -- Texts and features.
 pub use Rattle.cax64_immediate.specs.Text as ImmediateText
 pub use Rattle.cax64_address.specs.Text as AddressText

@@ -36,7 +36,6 @@ pub use cax64_immediate::{
     Extension, Imm8, Imm16, Imm32, Imm64, OutOfRange, Simm8, Simm16, Simm32,
 };
 pub use cax64_inst::Inst;
-pub use cax64_inst_data::{DataError, DataOperand, DataOperands, DataParts, InstData};
 pub use cax64_machine_code::row::{Branch, Row};
 pub use cax64_operand::{
     FromOperands, HasOperands, ImmOperand, Immediate, ImmediateKind, Made, Nop, Numbers, Operand,
@@ -260,10 +259,6 @@ pub mod laws {
     pub use cax64_address::laws::emit_to_fixed_sink;
     pub use cax64_encode_all::encode_all_to_fixed_sink;
     pub use cax64_encoder::laws::encode_to_fixed_sink;
-    pub use cax64_inst_data::laws::{
-        data_is_made_of_what_it_lists, numbers_mean_the_same, the_length_tells_a_no_operation,
-        what_bytes_have_is_data,
-    };
     pub use cax64_sequence::laws::{encode_each_to_fixed_sink, first_of_a_list};
     pub use cax64_shortest::laws::{len_is_least, whole_instruction_is_shortest};
     pub use cax64_text::laws::laws_of_texts;
@@ -271,5 +266,6 @@ pub mod laws {
 
 /// The reading of machine code.
 pub mod reader {
-    pub use cax64_reader::{Place, Reading, RegView, read_inst};
+    pub use cax64_machine_code::reading::{Place, Reading, RegView};
+    pub use x64_reader::read_inst;
 }

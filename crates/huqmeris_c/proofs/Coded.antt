@@ -1,4 +1,5 @@
-use Rattle.std.proofs.Common.{◌≡◌, ◌∙◌, ◌+◌, ◌≤◌, ℕ, pos, refl, sym, ap, subst, arith, Bool, true, false, Option, Some, None, List, [], ◌∷◌, ◌++◌, Ok, drop, length, take, append-nil, append_assoc, length-append, IsTrue, w64}
+use Rattle.std.proofs.Common.{◌≡◌, ◌∙◌, ◌+◌, ◌<◌, ◌≤◌, ℕ, pos, refl, sym, ap, subst, arith, Bool, true, false, Option, Some, None, List, [], ◌∷◌, ◌++◌, Ok, drop, length, take, append-nil, append_assoc, length-append, IsTrue, w64}
+use Rattle.std.proofs.Math.Seq.{take-append_seam}
 use Rattle.std.proofs.lemmas.Bool.Decides.{nat_tests}
 use Rattle.std.proofs.lemmas.List.{length-take-le}
 use Rattle.std.specs.Prelude.{◌==◌, is_none, slice_get}
@@ -17,12 +18,12 @@ use Rattle.cax64_encoder.specs.declared.role.PlaceOperand.TheVariants.{NoPlace, 
 use Rattle.cax64_encoder.proofs.Encodes.{trap_bytes}
 use Rattle.cax64_encoder.proofs.Faults.{no_fault}
 use Rattle.cax64_machine_code.specs.ReadLine.{LineReading, read_line}
-use Rattle.cax64_plain.specs.Plain.{place_of, plain, plain_place, target_place}
-use Rattle.cax64_plain.specs.Told.{place_told, told, told_at}
-use Rattle.cax64_plain.specs.declared.inst.HqInst.{HqInst}
-use Rattle.cax64_plain.specs.declared.told.HqUse.{HqUse}
-use Rattle.cax64_plain.proofs.Places.{zero_value}
-use Rattle.cax64_plain.proofs.Views.{same_view}
+use Rattle.x64_plain.specs.Plain.{place_of, plain, plain_place, target_place}
+use Rattle.x64_plain.specs.Told.{place_told, told, told_at}
+use Rattle.x64_plain.specs.declared.inst.HqInst.{HqInst}
+use Rattle.x64_plain.specs.declared.told.HqUse.{HqUse}
+use Rattle.x64_plain.proofs.Places.{zero_value}
+use Rattle.x64_plain.proofs.Views.{same_view}
 use Rattle.cax64_sink.specs.Call.{Action, Step, bytes_of}
 use Rattle.cax64_sink.specs.Puts.{puts}
 use Rattle.cax64_sink.specs.Rest.{is_imm_len, long_actions, rest_actions, word_actions}
@@ -189,6 +190,9 @@ none_of (Some a) h = cc
 pub faultless : (v : CoreView) → IsTrue (is_encodable no_offsets v) → fault_of no_offsets v ≡ None
 faultless v can = none_of (fault_of no_offsets v) (no_fault no_offsets (core_meant v no_offsets).visited (core_meant v no_offsets).memory ∙ can)
 
+pub encodable_by : (v : CoreView) → fault_of no_offsets v ≡ None → IsTrue (is_encodable no_offsets v)
+encodable_by v none = sym (no_fault no_offsets (core_meant v no_offsets).visited (core_meant v no_offsets).memory) ∙ ap (λ (o : Option Fault). is_none o) none
+
 -- of integers that are encodable, whoever they are
 pub no_fault_of : (i : HqInst) (c other : Core) → plain (core_view c) ≡ i → IsTrue (is_encodable no_offsets (core_view c)) → plain (core_view other) ≡ i → fault_of no_offsets (core_view other) ≡ None
 no_fault_of i c other is can h = ap (λ (v : CoreView). fault_of no_offsets v) (sym (same_view i c other is h)) ∙ faultless (core_view c) can
@@ -201,3 +205,27 @@ put_code_done v w code code' behind len len' heard before same can room k is =
     let size = k.size in
     let done : Written v code code' len heard = record { added = k.added; front = k.front; count = k.count; is = k.size; encodes = record { adds = k.adds; tells = is ∙ k.tells } } in
     rw none (record { fits = λ _. (refl, done); full = λ m. absurd (omega (arith, size, most, room, m)) }))
+
+-- of bytes that were made apart
+pub added_is : (v : CoreView) (whole whole' : List ℕ) (behind len : ℕ) (put : PutCode v whole whole' behind len) → take len whole' ≡ put.added
+added_is v whole whole' behind len put =
+    ap (λ (l : List ℕ). take len l) put.front ∙ ap (λ (n : ℕ). take n (put.added ++ drop len whole)) put.count ∙ take-append_seam put.added (drop len whole)
+
+-- of which as many as they are were written at the front
+pub whole_done : (v : CoreView) (code copied whole whole' : List ℕ) (behind len size held : ℕ) (before heard : HqUse) → fault_of no_offsets v ≡ None → size ≡ len → size ≤ length code → copied ≡ take size whole' → PutCode v whole whole' behind len → heard ≡ told_at (place_of (plain v)) behind → PutAs v code (copied ++ drop size code) held len before heard (pos 0)
+whole_done v code copied whole whole' behind len size held before heard none same fits c put is =
+    let is_size = put.size in
+    let first : copied ≡ put.added = c ∙ ap (λ (n : ℕ). take n whole') same ∙ added_is v whole whole' behind len put in
+    let done : Written v code (copied ++ drop size code) len heard = record {
+      added = put.added;
+      front = ap (λ (l : List ℕ). l ++ drop size code) first ∙ ap (λ (n : ℕ). put.added ++ drop n code) same;
+      count = put.count;
+      is = put.size;
+      encodes = record { adds = put.adds; tells = is ∙ put.tells };
+    } in
+    rw none (record { fits = λ _. (refl, done); full = λ m. absurd (omega (arith, is_size, same, fits, m)) })
+
+pub whole_full : (v : CoreView) (code whole whole' : List ℕ) (behind len size held : ℕ) (before : HqUse) → fault_of no_offsets v ≡ None → size ≡ len → length code < size → PutCode v whole whole' behind len → PutAs v code code held held before before (pos 6)
+whole_full v code whole whole' behind len size held before none same few put =
+    let is_size = put.size in
+    rw none (record { fits = λ m. absurd (omega (arith, is_size, same, few, m)); full = λ _. (refl, record { same_code = refl; same_len = refl; same_told = refl }) })

@@ -1,4 +1,4 @@
-use Rattle.std.proofs.Common.{◌≡◌, ◌≢◌, ◌∙◌, ◌+◌, ◌-◌, ◌*◌, ◌<◌, ◌≤◌, ◌^◌, ℕ, refl, sym, ap, subst, arith, Option, Some, None, List, [], ◌∷◌, ◌++◌, ℤ, Result, Ok, Err, drop, get_or, take, length, append-nil, append_assoc, length-append, ◌⊎◌, inl, inr, Bool, true, false}
+use Rattle.std.proofs.Common.{◌≡◌, ◌≢◌, ◌∙◌, ◌+◌, ◌-◌, ◌*◌, ◌<◌, ◌≤◌, ◌^◌, ℕ, suc, zero, refl, sym, ap, subst, arith, Option, Some, None, List, [], ◌∷◌, ◌++◌, ℤ, Result, Ok, Err, drop, get_or, take, length, append-nil, append_assoc, length-append, ◌⊎◌, inl, inr, Bool, true, false}
 use Rattle.std.proofs.lemmas.List.{length-drop, take_at, drop_at, drop-drop, drop_all, drop_more, length-take-le, take-append-drop, take_all, take_more}
 use Rattle.std.proofs.lemmas.Option.{slice_get-get_or}
 use Rattle.std.proofs.lemmas.Bool.Decides.{nat_tests}
@@ -12,12 +12,12 @@ use Rattle.cax64_machine_code.specs.Line.{imm_bytes}
 use Rattle.cax64_machine_code.specs.ReadLine.{LineReading, read_of}
 use Rattle.cax64_machine_code.specs.Reading.{PartsOf}
 use Rattle.cax64_machine_code.specs.declared.line.Line.{Line}
-use Rattle.cax64_plain.specs.Encodable.{IsReady}
-use Rattle.cax64_plain.specs.Plain.{plain}
-use Rattle.cax64_plain.specs.Told.{told}
-use Rattle.cax64_plain.specs.declared.inst.HqInst.{HqInst}
-use Rattle.cax64_plain.specs.declared.told.HqUse.{HqUse}
-use Rattle.cax64_plain.proofs.Views.{same_view}
+use Rattle.x64_plain.specs.Encodable.{IsReady}
+use Rattle.x64_plain.specs.Plain.{plain}
+use Rattle.x64_plain.specs.Told.{told}
+use Rattle.x64_plain.specs.declared.inst.HqInst.{HqInst}
+use Rattle.x64_plain.specs.declared.told.HqUse.{HqUse}
+use Rattle.x64_plain.proofs.Views.{same_view}
 use Rattle.cax64_sink.specs.FixedSink.{fixed_sink_state}
 use Rattle.cax64_sink.specs.declared.DeferredTarget.{DeferredTarget}
 use Rattle.cax64_sink.specs.declared.DeferredTarget.TheVariants as target
@@ -28,12 +28,12 @@ use Rattle.cax64_sink.specs.declared.fixed_sink.FixedSink.{FixedSink}
 use Rattle.huqmeris_c.specs.Each.{AreSound, EachSound, EncodesEach, IsRefused, PutEach, StoppedAt, list_len, list_uses, plains, uses_told}
 use Rattle.huqmeris_c.specs.Encodes.{no_offsets, written}
 use Rattle.huqmeris_c.specs.declared.progress.HqDone.{HqDone}
-use Rattle.huqmeris_c.specs.Listed.{AreReady, CanPut, HasRoomFor, HasSize, IsSized, PutBehind, PutNext, moved}
+use Rattle.huqmeris_c.specs.Listed.{AreReady, CanPut, HasRoomFor, HasSize, IsSized, PutBehind, PutNext, moved, use_list}
 use Rattle.huqmeris_c.specs.PutCode.{PutCode}
 use Rattle.x64_core.specs.Adds.{AddsCore}
 use Rattle.x64_core.specs.Core.{core_len, core_notices, fault_of}
-use Rattle.x64_core.specs.Line.{core_line}
-use Rattle.x64_core.specs.Lines.{core_lines}
+use Rattle.x64_lines.specs.Line.{core_line}
+use Rattle.x64_lines.specs.Lines.{core_lines}
 use Rattle.x64_core.specs.View.{CoreView, core_view}
 use Rattle.x64_core.specs.declared.instruction.Core.{Core}
 use Rattle.x64_layout.specs.declared.span.TheConstants.{MOST_SPANS}
@@ -338,26 +338,6 @@ pub next_near : (done left : List HqInst) (first code : List ℕ) (before uses :
 next_near done left first code before uses at count i h small = let m = h.most in omega (arith, m, small)
 
 -- One that is put, and what it tells.
-pub behind_put : (v : CoreView) (at : ℕ) (code copied bytes : List ℕ) (s : FixedSink 24) (heard : List HqUse) → copied ≡ bytes → bytes ≡ (fixed_sink_state s).bytes → AddsCore v (written []) (written (fixed_sink_state s).bytes) → length (fixed_sink_state s).bytes ≡ core_len no_offsets v → core_len no_offsets v ≤ 13
-    → ((reading : LineReading) → read_of core_lines bytes ≡ Some reading → reading.line ≡ core_line v.op → heard ≡ uses_told (line_notices_of (memory_in v.place) at reading))
-    → PutBehind v at code (take at code ++ (copied ++ drop (at + length bytes) code)) (length bytes) heard
-behind_put v at code copied bytes s heard c e adds size most told =
-    let reading : LineReading = adds.line.reads.reading in
-    let line : reading.line ≡ core_line v.op = ap (λ (p : PartsOf Line). p.row) adds.line.reads.same in
-    let whole : bytes ≡ adds.line.added ++ [] = e ∙ adds.line.bytes ∙ sym (append-nil adds.line.added) in
-    let read : read_of core_lines bytes ≡ Some reading = ap (λ (l : List ℕ). read_of core_lines l) whole ∙ adds.alone [] in
-    let tells : heard ≡ uses_told (line_notices_of (memory_in v.place) at reading) = told reading read line in
-    record {
-      added = (fixed_sink_state s).bytes;
-      is = ap (λ (l : List ℕ). take at code ++ (l ++ drop (at + length bytes) code)) (c ∙ e);
-      count = ap (λ (l : List ℕ). length l) e;
-      most = subst (λ (n : ℕ). n ≤ 13) (sym (ap (λ (l : List ℕ). length l) e ∙ size)) most;
-      size = ap (λ (l : List ℕ). length l) e ∙ size;
-      adds = adds;
-      tells = tells;
-      number = ap (λ (l : List HqUse). length l) tells ∙ number_told (memory_in v.place) at reading;
-    }
-
 pub at_end : (insts : List HqInst) (first code : List ℕ) (before uses : List HqUse) (at count i : ℕ) → PutSoFar (take i insts) (drop i insts) first code before uses at count i → length insts ≤ i → PutEach insts first code before uses at count
 at_end insts first code before uses at count i h end =
     put_all insts first code before uses at count i (subst (λ (l : List HqInst). PutSoFar insts l first code before uses at count i) (drop_all i insts end) (subst (λ (l : List HqInst). PutSoFar l (drop i insts) first code before uses at count i) (take_all i insts end) h))
@@ -441,6 +421,15 @@ tells_one memory at r heard some is = by_first (slice_get (line_notices_of memor
         ap (λ (h : HqUse). moved at h ∷ []) (is ∙ ap (λ (n : Option Notice). told n) e)
         ∙ ap (λ (n : Option Notice). moved_if at n) (sym e)
         ∙ all_moved memory at r
+
+pub use_tells : (memory : Option (Amode ℕ)) (at : ℕ) (r : LineReading) (found : Option HqUse) (heard : HqUse) → (memory_notices memory ≡ 0 → found ≡ None) → (memory_notices memory ≢ 0 → found ≡ Some (moved at heard)) → heard ≡ told (slice_get (line_notices_of memory 0 r) 0) → use_list found ≡ uses_told (line_notices_of memory at r)
+use_tells memory at r found heard none some is = by_count (memory_notices memory) refl
+  where
+    by_count : (n : ℕ) → memory_notices memory ≡ n → use_list found ≡ uses_told (line_notices_of memory at r)
+    by_count zero e = ap (λ (o : Option HqUse). use_list o) (none e) ∙ tells_nothing memory at r e
+    by_count (suc n) e =
+        let one : memory_notices memory ≢ 0 = λ z. omega (arith, e, z) in
+        ap (λ (o : Option HqUse). use_list o) (some one) ∙ tells_one memory at r heard one is
 
 -- An instruction that can be encoded was put, and what it tells was noted.
 pub ready_next : (inst : HqInst) (core : Core) (code code' : List ℕ) (uses uses' heard : List HqUse) (at count at' count' len : ℕ) → plain (core_view core) ≡ inst → PutBehind (core_view core) at code code' len heard → at' ≡ at + len → count' ≡ count + length heard → length code' ≡ length code → take count' uses' ≡ take count uses ++ heard → drop count' uses' ≡ drop count' uses → length uses' ≡ length uses → PutNext inst code code' uses uses' at count at' count'

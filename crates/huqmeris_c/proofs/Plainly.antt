@@ -1,5 +1,5 @@
 use Rattle.std.proofs.Common.{pos}
-use Rattle.cax64_plain.specs.declared.inst.HqInst.{HqInst}
+use Rattle.x64_plain.specs.declared.inst.HqInst.{HqInst}
 use Rattle.huqmeris_c.specs.declared.item.HqItem.{HqItem}
 
 -- What stands where nothing does.

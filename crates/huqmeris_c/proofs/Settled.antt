@@ -26,11 +26,11 @@ use Rattle.cax64_sink.specs.declared.Label.{Label}
 use Rattle.cax64_sink.specs.declared.Notice.{Notice}
 use Rattle.cax64_sink.specs.declared.Notice.TheVariants.{Trap, Target}
 use Rattle.cax64_sink.specs.declared.TrapCode.{TrapCode}
-use Rattle.cax64_plain.specs.Plain.{plain}
-use Rattle.cax64_plain.specs.Told.{told}
-use Rattle.cax64_plain.specs.declared.told.HqUse.{HqUse}
+use Rattle.x64_plain.specs.Plain.{plain}
+use Rattle.x64_plain.specs.Told.{told}
+use Rattle.x64_plain.specs.declared.told.HqUse.{HqUse}
 use Rattle.huqmeris_c.proofs.Made.{finished, if_none, list_is, map_none}
-use Rattle.huqmeris_c.specs.Data.{AreBound, code_of, data_from, data_of}
+use Rattle.huqmeris_c.specs.Data.{AreBound, items_of_code, data_from, data_of}
 use Rattle.huqmeris_c.specs.Encodes.{no_offsets}
 use Rattle.huqmeris_c.specs.Items.{Assembled, Counted, ItemsAre, LeadsTo, ReadAs, jump_named, lengths, list_spans, target_in}
 use Rattle.huqmeris_c.specs.Each.{uses_told}
@@ -51,7 +51,7 @@ use Rattle.x64_code_buffer.specs.Laid.{EachOpen, EachSettled, JumpSettledBy, Jum
 use Rattle.x64_code_buffer.specs.Use.{IsOutside, Use, links, uses_of}
 use Rattle.x64_code_buffer.specs.declared.jump.Jump.{Jump}
 use Rattle.x64_core.specs.Core.{core_len, core_meant}
-use Rattle.x64_core.specs.Line.{core_line}
+use Rattle.x64_lines.specs.Line.{core_line}
 use Rattle.x64_core.specs.View.{CoreView, core_view}
 use Rattle.x64_core.specs.declared.instruction.Core.{Core}
 use Rattle.x64_layout.proofs.Places.{place_more}
@@ -438,9 +438,9 @@ rest_stays n old new size same =
 
 -- All of them.
 
-abbrev all_assembled : (given : ℕ) (items : List HqItem) (s : State) (places : DeferredTarget → Option ℕ) (new : List ℕ) → (h : Behind given (code_of items) (data_of items) s places) → LaidOut h.items.put.more (length h.before.bytes) s places new → length new ≡ length s.bytes → ((i : ℕ) → All (IsOutside i) (links (uses_of s.notices)) → get_or new i 0 ≡ get_or s.bytes i 0) → Assembled items new
+abbrev all_assembled : (given : ℕ) (items : List HqItem) (s : State) (places : DeferredTarget → Option ℕ) (new : List ℕ) → (h : Behind given (items_of_code items) (data_of items) s places) → LaidOut h.items.put.more (length h.before.bytes) s places new → length new ≡ length s.bytes → ((i : ℕ) → All (IsOutside i) (links (uses_of s.notices)) → get_or new i 0 ≡ get_or s.bytes i 0) → Assembled items new
 all_assembled given items s places new h out size others =
-    let front : HasItems given (code_of items) h.before h.old = h.items in
+    let front : HasItems given (items_of_code items) h.before h.old = h.items in
     let xs : List (Item Core) = front.list in
     let lens : List ℕ = front.put.lens in
     let n : ℕ = length h.before.bytes in
@@ -464,16 +464,16 @@ all_assembled given items s places new h out size others =
       readings = out.now;
       reads = out.reads;
       places = places;
-      are = items_are places lens xs 0 0 (code_of items) xs front.put.more (uses_of s.notices) out.now front.makes front.put.reads refl spots bound told out.settled;
+      are = items_are places lens xs 0 0 (items_of_code items) xs front.put.more (uses_of s.notices) out.now front.makes front.put.reads refl spots bound told out.settled;
       bound = subst (λ (m : ℕ). AreBound places m (data_of items)) (sym count) h.bound;
       list = xs;
-      lists = list_is (code_of items) xs front.makes;
+      lists = list_is (items_of_code items) xs front.makes;
       least = subst (λ (l : List ℕ). IsLeast (list_spans xs) l) (sym long) front.put.least;
     }
 
-abbrev all_counted : (given : ℕ) (items : List HqItem) (heard : List HqUse) (done : HqDone) (s : State) (places : DeferredTarget → Option ℕ) (bytes : List ℕ) → (h : Behind given (code_of items) (data_of items) s places) → LaidOut h.items.put.more (length h.before.bytes) s places bytes → length bytes ≡ length s.bytes → ((i : ℕ) → All (IsOutside i) (links (uses_of s.notices)) → get_or bytes i 0 ≡ get_or s.bytes i 0) → heard ≡ traps_in s.notices → done.items ≡ length items → done.bytes ≡ length bytes → done.uses ≡ length heard → Counted items done
+abbrev all_counted : (given : ℕ) (items : List HqItem) (heard : List HqUse) (done : HqDone) (s : State) (places : DeferredTarget → Option ℕ) (bytes : List ℕ) → (h : Behind given (items_of_code items) (data_of items) s places) → LaidOut h.items.put.more (length h.before.bytes) s places bytes → length bytes ≡ length s.bytes → ((i : ℕ) → All (IsOutside i) (links (uses_of s.notices)) → get_or bytes i 0 ≡ get_or s.bytes i 0) → heard ≡ traps_in s.notices → done.items ≡ length items → done.bytes ≡ length bytes → done.uses ≡ length heard → Counted items done
 all_counted given items heard done s places bytes h out size others traps number len count =
-    let front : HasItems given (code_of items) h.before h.old = h.items in
+    let front : HasItems given (items_of_code items) h.before h.old = h.items in
     let xs : List (Item Core) = front.list in
     let start : length front.before.bytes ≡ 0 = ap (λ (l : List ℕ). length l) front.bytes in
     let notices : s.notices ≡ all_told core_becomes xs 0 xs front.put.more = h.notices ∙ front.put.told ∙ ap (λ (l : List Notice). l ++ all_told core_becomes xs (length front.before.bytes) xs front.put.more) front.notices ∙ ap (λ (n : ℕ). all_told core_becomes xs n xs front.put.more) start in
@@ -487,7 +487,7 @@ all_counted given items heard done s places bytes h out size others traps number
       count = count;
     }
 
-abbrev pub finished_counted : {T E : Type 0} (r : Result T E) (given : ℕ) (items : List HqItem) (heard : List HqUse) (done : HqDone) (s : State) (places : DeferredTarget → Option ℕ) (new bytes : List ℕ) → is_err r ≡ false → Behind given (code_of items) (data_of items) s places → ((pieces : List Piece) (n : ℕ) → Laid pieces n s places → OnOk r (LaidOut pieces n s places new)) → length new ≡ length s.bytes → ((i : ℕ) → All (IsOutside i) (links (uses_of s.notices)) → OnOk r (get_or new i 0 ≡ get_or s.bytes i 0)) → bytes ≡ new → heard ≡ traps_in s.notices → done.items ≡ length items → done.bytes ≡ length bytes → done.uses ≡ length heard → Counted items done
+abbrev pub finished_counted : {T E : Type 0} (r : Result T E) (given : ℕ) (items : List HqItem) (heard : List HqUse) (done : HqDone) (s : State) (places : DeferredTarget → Option ℕ) (new bytes : List ℕ) → is_err r ≡ false → Behind given (items_of_code items) (data_of items) s places → ((pieces : List Piece) (n : ℕ) → Laid pieces n s places → OnOk r (LaidOut pieces n s places new)) → length new ≡ length s.bytes → ((i : ℕ) → All (IsOutside i) (links (uses_of s.notices)) → OnOk r (get_or new i 0 ≡ get_or s.bytes i 0)) → bytes ≡ new → heard ≡ traps_in s.notices → done.items ≡ length items → done.bytes ≡ length bytes → done.uses ≡ length heard → Counted items done
 finished_counted r given items heard done s places new bytes well h laid size others same traps number len count =
     all_counted given items heard done s places bytes h
     (subst (λ (l : List ℕ). LaidOut h.items.put.more (length h.before.bytes) s places l) (sym same) (finished r well (laid h.items.put.more (length h.before.bytes) h.laid)))

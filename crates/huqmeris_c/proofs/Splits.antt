@@ -2,7 +2,7 @@ use Rattle.std.proofs.Common.{◌≡◌, ◌∙◌, ◌+◌, ◌-◌, ◌<◌, �
 use Rattle.std.proofs.lemmas.List.{length-drop, take_all, take_more}
 use Rattle.std.proofs.lemmas.Option.{slice_get-get_or}
 use Rattle.std.specs.Prelude.{◌||◌, IfSome, if◌then◌else◌}
-use Rattle.huqmeris_c.specs.Data.{code_of, data_of, is_data}
+use Rattle.huqmeris_c.specs.Data.{items_of_code, data_of, is_data}
 use Rattle.huqmeris_c.specs.Items.{has_data}
 use Rattle.huqmeris_c.specs.declared.item.HqItem.{HqItem}
 
@@ -28,13 +28,13 @@ or_else false b e = e
 abbrev pub Starts : List HqItem → Type 0
 Starts items = IfSome (slice_get items 0) (λ x. is_data x.kind ≡ true)
 
-pub split_code : (items : List HqItem) (n : ℕ) → has_data (take n items) ≡ false → IfSome (slice_get items n) (λ x. is_data x.kind ≡ true) → take n items ≡ code_of items
+pub split_code : (items : List HqItem) (n : ℕ) → has_data (take n items) ≡ false → IfSome (slice_get items n) (λ x. is_data x.kind ≡ true) → take n items ≡ items_of_code items
 split_code [] zero none here = refl
 split_code [] (suc n) none here = refl
-split_code (x ∷ later) zero none here = sym (if_true (is_data x.kind) [] (x ∷ code_of later) here)
+split_code (x ∷ later) zero none here = sym (if_true (is_data x.kind) [] (x ∷ items_of_code later) here)
 split_code (x ∷ later) (suc n) none here =
     let apart = neither (is_data x.kind) (has_data (take n later)) none in
-    ap (λ (l : List HqItem). x ∷ l) (split_code later n apart.1 here) ∙ sym (if_false (is_data x.kind) [] (x ∷ code_of later) apart.0)
+    ap (λ (l : List HqItem). x ∷ l) (split_code later n apart.1 here) ∙ sym (if_false (is_data x.kind) [] (x ∷ items_of_code later) apart.0)
 
 pub split_data : (items : List HqItem) (n : ℕ) → has_data (take n items) ≡ false → IfSome (slice_get items n) (λ x. is_data x.kind ≡ true) → drop n items ≡ data_of items
 split_data [] zero none here = refl
@@ -44,19 +44,19 @@ split_data (x ∷ later) (suc n) none here =
     let apart = neither (is_data x.kind) (has_data (take n later)) none in
     split_data later n apart.1 here ∙ sym (if_false (is_data x.kind) (x ∷ later) (data_of later) apart.0)
 
-joined_by : (x : HqItem) (later : List HqItem) (b : Bool) → code_of later ++ data_of later ≡ later → (if b then [] else x ∷ code_of later) ++ (if b then x ∷ later else data_of later) ≡ x ∷ later
+joined_by : (x : HqItem) (later : List HqItem) (b : Bool) → items_of_code later ++ data_of later ≡ later → (if b then [] else x ∷ items_of_code later) ++ (if b then x ∷ later else data_of later) ≡ x ∷ later
 joined_by x later true e = refl
 joined_by x later false e = ap (λ (l : List HqItem). x ∷ l) e
 
-pub joined : (items : List HqItem) → code_of items ++ data_of items ≡ items
+pub joined : (items : List HqItem) → items_of_code items ++ data_of items ≡ items
 joined [] = refl
 joined (x ∷ later) = joined_by x later (is_data x.kind) (joined later)
 
-no_data_by : (x : HqItem) (later : List HqItem) (b : Bool) → is_data x.kind ≡ b → has_data (code_of later) ≡ false → has_data (if b then [] else x ∷ code_of later) ≡ false
+no_data_by : (x : HqItem) (later : List HqItem) (b : Bool) → is_data x.kind ≡ b → has_data (items_of_code later) ≡ false → has_data (if b then [] else x ∷ items_of_code later) ≡ false
 no_data_by x later true e h = refl
-no_data_by x later false e h = ap (λ (c : Bool). c || has_data (code_of later)) e ∙ h
+no_data_by x later false e h = ap (λ (c : Bool). c || has_data (items_of_code later)) e ∙ h
 
-pub no_data : (items : List HqItem) → has_data (code_of items) ≡ false
+pub no_data : (items : List HqItem) → has_data (items_of_code items) ≡ false
 no_data [] = refl
 no_data (x ∷ later) = no_data_by x later (is_data x.kind) refl (no_data later)
 

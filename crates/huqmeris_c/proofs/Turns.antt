@@ -5,10 +5,10 @@ use Rattle.std.specs.Prelude.{MatchOption, option_map}
 use Rattle.cax64_machine_code.specs.Reading.{FoundOf}
 use Rattle.cax64_machine_code.specs.ReadLine.{LineReading, find_line, line_reading_of, or_else, read_line, read_of}
 use Rattle.cax64_machine_code.specs.declared.line.Line.{Line}
-use Rattle.cax64_plain.specs.Reading.{IsReading}
-use Rattle.cax64_plain.specs.declared.reading.HqReading.{HqReading}
+use Rattle.x64_plain.specs.Reading.{IsReading}
+use Rattle.x64_plain.specs.declared.reading.HqReading.{HqReading}
 use Rattle.huqmeris_c.specs.InTurn.{InTurn, IsRead}
-use Rattle.x64_core.specs.Lines.{core_lines}
+use Rattle.x64_lines.specs.Lines.{core_lines}
 
 -- Instructions read one behind the other.
 

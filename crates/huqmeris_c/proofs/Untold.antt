@@ -1,8 +1,8 @@
 use Rattle.std.proofs.Common.{◌≡◌, ◌∙◌, ◌+◌, ◌*◌, ◌<◌, ◌⊎◌, inl, inr, ℕ, ℤ, pos, refl, sym, subst, arith, List, length, take}
 use Rattle.cax64_encoder.specs.declared.fault.Fault.{Fault}
 use Rattle.cax64_encoder.specs.declared.fault.Fault.TheVariants as fault
-use Rattle.cax64_plain.specs.Status.{fault_status}
-use Rattle.cax64_plain.specs.declared.status.TheConstants.{HQ_OUT_OF_RANGE}
+use Rattle.x64_plain.specs.Status.{fault_status}
+use Rattle.x64_plain.specs.declared.status.TheConstants.{HQ_OUT_OF_RANGE}
 use Rattle.huqmeris_c.specs.Items.{CantBePut, NoItem, NoneRefused, NotAssembled, RefusedAt, Unlisted}
 use Rattle.huqmeris_c.specs.Putting.{Denied, Unfinished}
 use Rattle.huqmeris_c.specs.declared.item.HqItem.{HqItem}

@@ -1,23 +1,23 @@
 -- Data behind code.
 use Rattle.std.specs.Int.{cast_unsigned, to_le_bytes, w16, w32}
 use Rattle.std.specs.Prelude.{◌≡◌, ◌==◌, ◌||◌, ◌+◌, ◌^◌, ◌++◌, ℕ, Bool, if◌then◌else◌, Option, Some, List, [], ◌∷◌, length, replicate, take}
-use Rattle.cax64_plain.specs.declared.inst.HqInst.{HqInst}
+use Rattle.x64_plain.specs.declared.inst.HqInst.{HqInst}
 use Rattle.cax64_sink.specs.declared.DeferredTarget.{DeferredTarget}
 use Rattle.cax64_sink.specs.declared.DeferredTarget.TheVariants as target
 use Rattle.huqmeris_c.specs.declared.item.HqItem.{HqItem}
 use Rattle.huqmeris_c.specs.declared.item.TheConstants.{HQ_ITEM_ALIGN, HQ_ITEM_BYTES, HQ_ITEM_CONSTANT, HQ_ITEM_LABEL}
 use Rattle.x64_code_buffer.specs.Padding.{missing_to}
 
--- The first item that is data begins it: behind it only data and places of labels stand.
+-- The first item that is data begins it: behind it only data and positions of labels stand.
 
--- the place of a constant, bytes, and padding are data
+-- the position of a constant, bytes, and padding are data
 abbrev pub is_data : ℕ → Bool
 is_data kind = kind == HQ_ITEM_CONSTANT || (kind == HQ_ITEM_BYTES || kind == HQ_ITEM_ALIGN)
 
 -- the items of code
-abbrev pub code_of : List HqItem → List HqItem
-code_of [] = []
-code_of (item ∷ later) = if is_data item.kind then [] else item ∷ code_of later
+abbrev pub items_of_code : List HqItem → List HqItem
+items_of_code [] = []
+items_of_code (item ∷ later) = if is_data item.kind then [] else item ∷ items_of_code later
 
 -- the items from the first one on that is data
 abbrev pub data_of : List HqItem → List HqItem
@@ -45,7 +45,7 @@ abbrev pub data_from : ℕ → List HqItem → List ℕ
 data_from at [] = []
 data_from at (item ∷ later) = data_in at item ++ data_from (at + length (data_in at item)) later
 
--- a label or a constant that an item is the place of is bound to this place
+-- a label or a constant that an item is the position of is bound to this position
 pub record IsBound (places : DeferredTarget → Option ℕ) (at : ℕ) (item : HqItem) : Type 0 where
   pub label : item.kind ≡ HQ_ITEM_LABEL → places (target.Label (record { 0 = item.number })) ≡ Some at
   pub constant : item.kind ≡ HQ_ITEM_CONSTANT → places (target.Constant (record { 0 = item.number })) ≡ Some at

@@ -2,14 +2,14 @@ use Rattle.std.specs.Prelude.{◌≡◌, ◌<◌, ◌+◌, ◌++◌, ◌⊎◌, 
 use Rattle.cax64_encoder.specs.EncodesLine.{line_notices_of}
 use Rattle.cax64_encoder.specs.Place.{memory_in}
 use Rattle.cax64_encoder.specs.declared.fault.Fault.{Fault}
-use Rattle.cax64_plain.specs.Plain.{plain}
-use Rattle.cax64_plain.specs.Status.{fault_status}
-use Rattle.cax64_plain.specs.Told.{told}
-use Rattle.cax64_plain.specs.declared.status.TheConstants.{HQ_BAD_INST, HQ_FULL, HQ_OK}
+use Rattle.x64_plain.specs.Plain.{plain}
+use Rattle.x64_plain.specs.Status.{fault_status}
+use Rattle.x64_plain.specs.Told.{told}
+use Rattle.x64_plain.specs.declared.status.TheConstants.{HQ_BAD_INST, HQ_FULL, HQ_OK}
 use Rattle.huqmeris_c.specs.declared.progress.HqDone.{HqDone}
 use Rattle.huqmeris_c.specs.declared.status.TheConstants.{HQ_TOO_MANY}
-use Rattle.cax64_plain.specs.declared.inst.HqInst.{HqInst}
-use Rattle.cax64_plain.specs.declared.told.HqUse.{HqUse}
+use Rattle.x64_plain.specs.declared.inst.HqInst.{HqInst}
+use Rattle.x64_plain.specs.declared.told.HqUse.{HqUse}
 use Rattle.cax64_sink.specs.declared.Notice.{Notice}
 use Rattle.huqmeris_c.specs.Encodes.{no_offsets, written}
 use Rattle.x64_core.specs.Adds.{AddsCore}
@@ -46,7 +46,7 @@ uses_told [] = []
 uses_told (notice ∷ later) = told (Some notice) ∷ uses_told later
 
 -- An instruction's bytes stand at the front of some that begin behind so many others, and what it tells before what others
--- tell: its trap, or what a relative place refers to, each at its place. Behind them comes what is said of the later ones.
+-- tell: its trap, or what a relative place refers to, each at its position. Behind them comes what is said of the later ones.
 pub record EncodesFirst (v : CoreView) (Later : ℕ → List ℕ → List HqUse → Type 0) (at : ℕ) (bytes : List ℕ) (uses : List HqUse) : Type 0 where
   pub added : List ℕ
   pub rest : List ℕ
@@ -107,7 +107,7 @@ pub record PutEach (insts : List HqInst) (code code' : List ℕ) (uses uses' : L
   pub len : bytes ≡ length added
   pub number : count ≡ length heard
 
--- What all of them have is told, and one of the slices has too few places.
+-- What all of them have is told, and one of the slices has too few slots.
 pub record TooShort (insts : List HqInst) (room places : ℕ) (done : HqDone) : Type 0 where
   pub items : done.items ≡ length insts
   pub sound : AreSound insts done.bytes done.uses

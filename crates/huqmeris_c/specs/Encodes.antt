@@ -1,8 +1,8 @@
 use Rattle.std.specs.Prelude.{◌≡◌, ℕ, Option, None, ℤ, List, [], slice_get}
 use Rattle.cax64_encoder.specs.EncodesLine.{line_notices_of}
 use Rattle.cax64_encoder.specs.Place.{memory_in}
-use Rattle.cax64_plain.specs.Told.{told}
-use Rattle.cax64_plain.specs.declared.told.HqUse.{HqUse}
+use Rattle.x64_plain.specs.Told.{told}
+use Rattle.x64_plain.specs.declared.told.HqUse.{HqUse}
 use Rattle.cax64_sink.specs.Room.{endless}
 use Rattle.cax64_sink.specs.Sink.{State, bytes_only, is_full}
 use Rattle.x64_core.specs.Adds.{AddsCore}

@@ -1,8 +1,8 @@
 use Rattle.std.specs.Prelude.{◌≡◌, ℕ, Some, List, [], ◌∷◌, drop}
 use Rattle.cax64_machine_code.specs.ReadLine.{LineReading, read_of}
-use Rattle.cax64_plain.specs.Reading.{IsReading}
-use Rattle.cax64_plain.specs.declared.reading.HqReading.{HqReading}
-use Rattle.x64_core.specs.Lines.{core_lines}
+use Rattle.x64_plain.specs.Reading.{IsReading}
+use Rattle.x64_plain.specs.declared.reading.HqReading.{HqReading}
+use Rattle.x64_lines.specs.Lines.{core_lines}
 
 -- an instruction is read at the front of some bytes
 pub record IsRead (bytes : List ℕ) (plain : HqReading) : Type 0 where

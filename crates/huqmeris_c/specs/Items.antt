@@ -7,9 +7,9 @@ use Rattle.cax64_machine_code.specs.Reading.{PartsOf}
 use Rattle.cax64_machine_code.specs.Rows.{line_of}
 use Rattle.cax64_machine_code.specs.declared.line.Line.{Line}
 use Rattle.cax64_machine_code.specs.declared.row.Row.{Row}
-use Rattle.cax64_plain.specs.Plain.{plain}
-use Rattle.cax64_plain.specs.declared.status.TheConstants.{HQ_BAD_INST, HQ_FULL, HQ_OK, HQ_OUT_OF_RANGE}
-use Rattle.cax64_plain.specs.declared.told.HqUse.{HqUse}
+use Rattle.x64_plain.specs.Plain.{plain}
+use Rattle.x64_plain.specs.declared.status.TheConstants.{HQ_BAD_INST, HQ_FULL, HQ_OK, HQ_OUT_OF_RANGE}
+use Rattle.x64_plain.specs.declared.told.HqUse.{HqUse}
 use Rattle.huqmeris_c.specs.Traps.{traps_told}
 use Rattle.huqmeris_c.specs.declared.progress.HqDone.{HqDone}
 use Rattle.huqmeris_c.specs.declared.data_items.TheConstants.{MOST_BYTES, MOST_POWER}
@@ -18,7 +18,7 @@ use Rattle.huqmeris_c.specs.declared.item.TheConstants.{HQ_ITEM_ALIGN, HQ_ITEM_B
 use Rattle.huqmeris_c.specs.declared.status.TheConstants.{HQ_BAD_ITEM, HQ_BAD_LABEL, HQ_BOUND_TWICE, HQ_NO_MEMORY, HQ_TOO_MANY, HQ_UNBOUND}
 use Rattle.cax64_sink.specs.declared.DeferredTarget.{DeferredTarget}
 use Rattle.cax64_sink.specs.declared.DeferredTarget.TheVariants as target
-use Rattle.huqmeris_c.specs.Data.{AreBound, code_of, data_from, data_of, is_data}
+use Rattle.huqmeris_c.specs.Data.{AreBound, items_of_code, data_from, data_of, is_data}
 use Rattle.huqmeris_c.specs.Each.{HasFault, none_done}
 use Rattle.huqmeris_c.specs.Encodes.{no_offsets}
 use Rattle.x64_code_buffer.specs.Filled.{HasAddress}
@@ -78,7 +78,7 @@ target_in (Some (ImmReg base simm32 trap)) = None
 target_in (Some (ImmRegRegShift base index scale simm32 trap)) = None
 target_in (Some (RipRelative target)) = Some target
 
--- An instruction that ends here is read as what is meant but for its place, whose address is the place that this is bound to.
+-- An instruction that ends here is read as what is meant but for its place, whose address is the position that this is bound to.
 pub record LeadsTo (places : DeferredTarget → Option ℕ) (goes_to : DeferredTarget) (end : ℕ) (parts : PartsOf Line) (reading : LineReading) : Type 0 where
   pub place : ℕ
   pub bound : places goes_to ≡ Some place
@@ -105,13 +105,13 @@ pub record InstIs (places : DeferredTarget → Option ℕ) (Later : ℕ → List
   pub reads : ReadAs places (at + reading.length) (core_meant (core_view core) no_offsets).parts (target_in (memory_in (core_view core).place)) reading
   pub later : Later (at + reading.length) rest
 
--- a label, which is bound to this place
+-- a label, which is bound to this position
 pub record LabelIs {T : Type 0} (places : DeferredTarget → Option ℕ) (Later : ℕ → T → Type 0) (at : ℕ) (item : HqItem) (readings : T) : Type 0 where
   pub kind : item.kind ≡ HQ_ITEM_LABEL
   pub bound : places (target.Label (record { 0 = item.number })) ≡ Some at
   pub later : Later at readings
 
--- a jump, which is read by one of its rows, and whose distance leads from its end to the place of its label
+-- a jump, which is read by one of its rows, and whose distance leads from its end to the position of its label
 pub record JumpIs (places : DeferredTarget → Option ℕ) (Later : ℕ → List LineReading → Type 0) (at : ℕ) (item : HqItem) (readings : List LineReading) : Type 0 where
   pub jump : Jump
   pub kind : jump_named item.kind ≡ Some jump
@@ -165,15 +165,15 @@ pub record Assembled (items : List HqItem) (bytes : List ℕ) : Type 0 where
   pub readings : List LineReading
   pub reads : LinesRead readings code
   pub places : DeferredTarget → Option ℕ
-  pub are : ItemsAre places (code_of items) 0 readings
+  pub are : ItemsAre places (items_of_code items) 0 readings
   pub bound : AreBound places (length code) (data_of items)
   pub list : List (Item Core)
-  pub lists : ListIs (code_of items) list
+  pub lists : ListIs (items_of_code items) list
   pub least : IsLeast (list_spans list) (lengths readings)
 
 -- Why items aren't assembled.
 
--- one of some items has this kind and number: is the place of this label, or of this constant
+-- one of some items has this kind and number: is the position of this label, or of this constant
 abbrev pub Binds : ℕ → ℕ → List HqItem → Type 0
 Binds kind number [] = ⊥
 Binds kind number (item ∷ later) = ((item.kind ≡ kind) × (item.number ≡ number)) ⊎ Binds kind number later
@@ -197,7 +197,7 @@ NoItem before item status =
     ⊎ ((status ≡ HQ_BAD_INST) × (item.kind ≡ HQ_ITEM_INST) × (has_data before ≡ false) × ((core : Core) → plain (core_view core) ≡ item.inst → ⊥))))
 
 -- one can't be put behind these, among so many: the instruction has a fault; or the label's number isn't below theirs; or the
--- label or the constant has a place already
+-- label or the constant has a position already
 abbrev pub CantBePut : ℕ → List HqItem → HqItem → ℤ → Type 0
 CantBePut count before item status =
     ((item.kind ≡ HQ_ITEM_INST) × HasFault item.inst status)
@@ -238,13 +238,13 @@ RefersTo item goes_to =
     ((item.kind ≡ HQ_ITEM_INST) × ((core : Core) × (plain (core_view core) ≡ item.inst) × (target_in (memory_in (core_view core).place) ≡ Some goes_to)))
     ⊎ (((jump : Jump) × (jump_named item.kind ≡ Some jump)) × (goes_to ≡ target.Label (record { 0 = item.number })))
 
--- no item is the place of this label or constant
+-- no item is the position of this label or constant
 abbrev pub IsPlaceless : List HqItem → DeferredTarget → Type 0
 IsPlaceless items (target.Label label) = Binds HQ_ITEM_LABEL label.0 items → ⊥
 IsPlaceless items (target.Constant constant) = Binds HQ_ITEM_CONSTANT constant.0 items → ⊥
 IsPlaceless items target.None = ⊥
 
--- the first that refers to what has no place has this number
+-- the first that refers to what has no position has this number
 pub record UnboundAt (items : List HqItem) (number : ℕ) : Type 0 where
   pub item : HqItem
   pub there : slice_get items number ≡ Some item
@@ -253,7 +253,7 @@ pub record UnboundAt (items : List HqItem) (number : ℕ) : Type 0 where
   pub unbound : IsPlaceless items goes_to
   pub first : (k : ℕ) (earlier : HqItem) (other : DeferredTarget) → k < number → slice_get items k ≡ Some earlier → RefersTo earlier other → IsPlaceless items other → ⊥
 
--- none refers to what has no place
+-- none refers to what has no position
 abbrev pub NoneUnbound : List HqItem → Type 0
 NoneUnbound items = (k : ℕ) (item : HqItem) (goes_to : DeferredTarget) → slice_get items k ≡ Some item → RefersTo item goes_to → IsPlaceless items goes_to → ⊥
 
@@ -271,7 +271,7 @@ pub record Counted (items : List HqItem) (done : HqDone) : Type 0 where
 abbrev pub at_item : ℕ → HqDone
 at_item number = record none_done { items = number }
 
--- Nothing was put, though no item is refused: what one refers to has no place, or is too far; or there is too little room for what
+-- Nothing was put, though no item is refused: what one refers to has no position, or is too far; or there is too little room for what
 -- all of them have, which is told.
 abbrev pub NotFinished : List HqItem → ℕ → ℕ → HqDone → ℤ → Type 0
 NotFinished items room places done status =

@@ -2,15 +2,15 @@ use Rattle.std.specs.Prelude.{ℕ, false, if◌then◌else◌, slice_index_or}
 use Rattle.huqmeris_c.specs.declared.line_use.HqFlags.{HqFlags}
 use Rattle.huqmeris_c.specs.declared.line_use.HqOperand.{HqOperand}
 use Rattle.huqmeris_c.specs.declared.line_use.TheConstants as number
-use Rattle.x64_core.specs.Kinds.{kinds_of}
-use Rattle.x64_core.specs.declared.flags.Flags.{Flags}
-use Rattle.x64_core.specs.declared.kinds.Access.{Access}
-use Rattle.x64_core.specs.declared.kinds.Access.TheVariants as access
-use Rattle.x64_core.specs.declared.kinds.Class.{Class}
-use Rattle.x64_core.specs.declared.kinds.Class.TheVariants as class
-use Rattle.x64_core.specs.declared.kinds.Home.{Home}
-use Rattle.x64_core.specs.declared.kinds.Home.TheVariants as home
-use Rattle.x64_core.specs.declared.kinds.Kind.{Kind}
+use Rattle.x64_lines.specs.LineOperands.{line_operands}
+use Rattle.x64_lines.specs.declared.flags.Flags.{Flags}
+use Rattle.x64_lines.specs.declared.operands.Access.{Access}
+use Rattle.x64_lines.specs.declared.operands.Access.TheVariants as access
+use Rattle.x64_lines.specs.declared.operands.Class.{Class}
+use Rattle.x64_lines.specs.declared.operands.Class.TheVariants as class
+use Rattle.x64_lines.specs.declared.operands.Home.{Home}
+use Rattle.x64_lines.specs.declared.operands.Home.TheVariants as home
+use Rattle.x64_lines.specs.declared.operands.LineOperand.{LineOperand}
 
 -- What a line does, in integers.
 
@@ -42,7 +42,7 @@ access_number access.Write = number.HQ_ACCESS_WRITE
 access_number access.ReadWrite = number.HQ_ACCESS_READ_WRITE
 
 -- an operand
-abbrev pub plain_operand : Kind → HqOperand
+abbrev pub plain_operand : LineOperand → HqOperand
 plain_operand kind = record {
   home = home_number kind.home;
   number = fixed_number kind.home;
@@ -53,8 +53,8 @@ plain_operand kind = record {
 }
 
 -- that of an index of a line
-abbrev pub operand_at : ℕ → ℕ → Kind
-operand_at line index = slice_index_or (kinds_of line) index (record { home = home.Reg; class = class.None; access = access.None; bits = 0; is_printed = false })
+abbrev pub operand_at : ℕ → ℕ → LineOperand
+operand_at line index = slice_index_or (line_operands line) index (record { home = home.Reg; class = class.None; access = access.None; bits = 0; is_printed = false })
 
 -- flags
 abbrev pub plain_flags : Flags → HqFlags

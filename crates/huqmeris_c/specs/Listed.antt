@@ -1,10 +1,10 @@
 use Rattle.std.specs.Prelude.{◌≡◌, ◌≤◌, ◌<◌, ◌+◌, ◌*◌, ◌++◌, ℕ, Option, Some, None, List, [], ◌∷◌, drop, slice_get, take, length}
 use Rattle.cax64_encoder.specs.EncodesLine.{line_notices_of}
 use Rattle.cax64_encoder.specs.Place.{memory_in}
-use Rattle.cax64_plain.specs.Encodable.{IsReady}
-use Rattle.cax64_plain.specs.Plain.{plain}
-use Rattle.cax64_plain.specs.declared.inst.HqInst.{HqInst}
-use Rattle.cax64_plain.specs.declared.told.HqUse.{HqUse}
+use Rattle.x64_plain.specs.Encodable.{IsReady}
+use Rattle.x64_plain.specs.Plain.{plain}
+use Rattle.x64_plain.specs.declared.inst.HqInst.{HqInst}
+use Rattle.x64_plain.specs.declared.told.HqUse.{HqUse}
 use Rattle.huqmeris_c.specs.Each.{AreSound, uses_told}
 use Rattle.huqmeris_c.specs.Encodes.{no_offsets, written}
 use Rattle.x64_core.specs.Adds.{AddsCore}

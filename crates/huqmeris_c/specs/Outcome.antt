@@ -1,7 +1,7 @@
 use Rattle.std.specs.Prelude.{◌≡◌, ◌≤◌, ◌<◌, ◌++◌, ℕ, ℤ, List, drop, length, MatchOption}
-use Rattle.cax64_plain.specs.Status.{fault_status}
-use Rattle.cax64_plain.specs.declared.status.TheConstants.{HQ_FULL, HQ_OK}
-use Rattle.cax64_plain.specs.declared.told.HqUse.{HqUse}
+use Rattle.x64_plain.specs.Status.{fault_status}
+use Rattle.x64_plain.specs.declared.status.TheConstants.{HQ_FULL, HQ_OK}
+use Rattle.x64_plain.specs.declared.told.HqUse.{HqUse}
 use Rattle.huqmeris_c.specs.Encodes.{Encodes, no_offsets}
 use Rattle.x64_core.specs.Core.{core_len, fault_of}
 use Rattle.x64_core.specs.View.{CoreView}

@@ -1,8 +1,8 @@
 use Rattle.std.specs.Prelude.{◌≡◌, ◌≤◌, ◌++◌, ℕ, [], List, drop, length, slice_get}
 use Rattle.cax64_encoder.specs.EncodesLine.{line_notices_of}
 use Rattle.cax64_encoder.specs.Place.{memory_in}
-use Rattle.cax64_plain.specs.Plain.{place_of, plain}
-use Rattle.cax64_plain.specs.Told.{told, told_at}
+use Rattle.x64_plain.specs.Plain.{place_of, plain}
+use Rattle.x64_plain.specs.Told.{told, told_at}
 use Rattle.huqmeris_c.specs.Encodes.{no_offsets, written}
 use Rattle.x64_core.specs.Adds.{AddsCore}
 use Rattle.x64_core.specs.Core.{core_len}

@@ -1,18 +1,18 @@
 -- Steps of items that are assembled.
 use Rattle.std.specs.Prelude.{◌≡◌, ◌<◌, ◌≤◌, ◌⊎◌, ◌++◌, ℕ, ℤ, Option, Some, None, List, [], ◌∷◌, drop, length, slice_get, take}
 use Rattle.cax64_encoder.specs.declared.fault.Fault.{Fault}
-use Rattle.cax64_plain.specs.Plain.{plain}
-use Rattle.cax64_plain.specs.Status.{fault_status}
-use Rattle.cax64_plain.specs.Told.{told}
-use Rattle.cax64_plain.specs.declared.status.TheConstants.{HQ_BAD_INST}
-use Rattle.cax64_plain.specs.declared.told.HqUse.{HqUse}
+use Rattle.x64_plain.specs.Plain.{plain}
+use Rattle.x64_plain.specs.Status.{fault_status}
+use Rattle.x64_plain.specs.Told.{told}
+use Rattle.x64_plain.specs.declared.status.TheConstants.{HQ_BAD_INST}
+use Rattle.x64_plain.specs.declared.told.HqUse.{HqUse}
 use Rattle.cax64_sink.specs.Sink.{State}
 use Rattle.cax64_sink.specs.declared.DeferredTarget.{DeferredTarget}
 use Rattle.cax64_sink.specs.declared.Notice.{Notice}
 use Rattle.cax64_sink.specs.declared.Notice.TheVariants.{Trap, Target}
 use Rattle.cax64_sink.specs.declared.DeferredTarget.TheVariants as target
 use Rattle.huqmeris_c.specs.Encodes.{no_offsets}
-use Rattle.huqmeris_c.specs.Data.{AreBound, code_of, data_from, data_in, data_of}
+use Rattle.huqmeris_c.specs.Data.{AreBound, items_of_code, data_from, data_in, data_of}
 use Rattle.huqmeris_c.specs.Each.{none_done}
 use Rattle.huqmeris_c.specs.Items.{Binds, CantBePut, NoneUnbound, RefersTo, RefusedAt, UnboundAt, at_item, jump_named}
 use Rattle.huqmeris_c.specs.declared.data_items.TheConstants.{MOST_BYTES, MOST_POWER}
@@ -87,7 +87,7 @@ NoCode item status =
 abbrev pub Holds : HqItem → Type 0
 Holds item = ((item.kind ≡ HQ_ITEM_BYTES) × (item.number ≤ MOST_BYTES)) ⊎ ((item.kind ≡ HQ_ITEM_ALIGN) × (item.number ≤ MOST_POWER))
 
--- an item can stand where data does: the place of a label or of a constant, or one that holds something
+-- an item can stand where data does: the position of a label or of a constant, or one that holds something
 abbrev pub IsDatum : HqItem → Type 0
 IsDatum item = (item.kind ≡ HQ_ITEM_LABEL) ⊎ ((item.kind ≡ HQ_ITEM_CONSTANT) ⊎ Holds item)
 
@@ -104,9 +104,9 @@ pub record BadDatum (rest : List HqItem) (number : ℕ) : Type 0 where
 -- Items were listed: those of code, of which there are so many, and behind them stand data.
 pub record ListedTo (items : List HqItem) (count : ℕ) (list : List (Item Core)) : Type 0 where
   pub within : count ≤ length items
-  pub code : take count items ≡ code_of items
+  pub code : take count items ≡ items_of_code items
   pub rest : drop count items ≡ data_of items
-  pub makes : MakesEach (code_of items) list
+  pub makes : MakesEach (items_of_code items) list
   pub are_data : AreData (data_of items)
 
 -- what an item of data binds, where so many labels were given and so many bytes stand before it
@@ -123,7 +123,7 @@ pub record PutsDatum {A : Type 0} (item : HqItem) (old new : CodeBuffer A) : Typ
   pub binds : BindsAt (label_count old) (length (buffer_state old).bytes) item (places_of old) (places_of new)
   pub filled : StaysFilled old new
 
--- why it hasn't: there was no memory; or the label's number is too large; or the label or the constant has a place
+-- why it hasn't: there was no memory; or the label's number is too large; or the label or the constant has a position
 abbrev pub DatumRefused : ℕ → (DeferredTarget → Option ℕ) → HqItem → ℤ → Type 0
 DatumRefused given places item status =
     (status ≡ HQ_NO_MEMORY)
@@ -131,7 +131,7 @@ DatumRefused given places item status =
     ⊎ (((status ≡ HQ_BOUND_TWICE) × (item.kind ≡ HQ_ITEM_LABEL) × ((place : ℕ) × (places (target.Label (record { 0 = item.number })) ≡ Some place)))
     ⊎ ((status ≡ HQ_BOUND_TWICE) × (item.kind ≡ HQ_ITEM_CONSTANT) × ((place : ℕ) × (places (target.Constant (record { 0 = item.number })) ≡ Some place)))))
 
--- what has a place is what some items are the place of
+-- what has a position is what some items are the position of
 pub record HasPlaces (places : DeferredTarget → Option ℕ) (items : List HqItem) : Type 0 where
   pub labels : (n : ℕ) → Binds HQ_ITEM_LABEL n items → places (target.Label (record { 0 = n })) ≡ None → ⊥
   pub only_labels : (n place : ℕ) → places (target.Label (record { 0 = n })) ≡ Some place → Binds HQ_ITEM_LABEL n items
@@ -204,7 +204,7 @@ pub record OpenAt (places : DeferredTarget → Option ℕ) (items : List HqItem)
   pub opens : Opens places item
   pub first : (k : ℕ) (earlier : HqItem) → k < number → slice_get items k ≡ Some earlier → Opens places earlier → ⊥
 
--- the first item that refers to what has no place is told; or there is none, and this is answered
+-- the first item that refers to what has no position is told; or there is none, and this is answered
 abbrev pub Unfinished : List HqItem → ℤ → HqDone → ℤ → Type 0
 Unfinished items why done status =
     ((status ≡ HQ_UNBOUND) × UnboundAt items done.items × (done ≡ at_item done.items))

@@ -1,10 +1,10 @@
 use Rattle.std.specs.Prelude.{◌≡◌, ◌≤◌, ◌<◌, ◌++◌, ◌⊎◌, ℕ, ℤ, true, false, Option, Some, None, List, [], codes, drop, length}
-use Rattle.cax64_plain.specs.declared.status.TheConstants.{HQ_FULL, HQ_OK}
+use Rattle.x64_plain.specs.declared.status.TheConstants.{HQ_FULL, HQ_OK}
 use Rattle.huqmeris_c.specs.declared.status.TheConstants.{HQ_NO_MEMORY, HQ_NO_NAME}
 use Rattle.x64_core.specs.View.{CoreView}
-use Rattle.x64_core.specs.declared.extension.Extension.{Extension}
-use Rattle.x64_core.specs.declared.extension.Extension.TheVariants as extension
-use Rattle.x64_core_text.specs.Text.{nameable, text}
+use Rattle.x64_lines.specs.declared.extension.Extension.{Extension}
+use Rattle.x64_lines.specs.declared.extension.Extension.TheVariants as extension
+use Rattle.x64_text.specs.Text.{nameable, text}
 
 -- Texts that are handed out.
 

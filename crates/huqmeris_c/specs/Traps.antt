@@ -5,7 +5,7 @@ use Rattle.cax64_address.specs.declared.amode.Amode.TheVariants.{ImmReg, ImmRegR
 use Rattle.cax64_encoder.specs.Notices.{trap_notice}
 use Rattle.cax64_encoder.specs.Place.{memory_in}
 use Rattle.cax64_machine_code.specs.ReadLine.{LineReading}
-use Rattle.cax64_plain.specs.declared.told.HqUse.{HqUse}
+use Rattle.x64_plain.specs.declared.told.HqUse.{HqUse}
 use Rattle.huqmeris_c.specs.Each.{uses_told}
 use Rattle.x64_assemble.specs.declared.item.Item.{Item}
 use Rattle.x64_assemble.specs.declared.item.Item.TheVariants as item

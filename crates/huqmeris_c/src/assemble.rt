@@ -1,7 +1,7 @@
 //! Items that are assembled.
 
 ghost use Rattle.std.specs.Prelude.{◌≡◌, ◌+◌, ◌≤◌, ◌⊎◌, [], IfErr, List, OnOk, length};
-ghost use Rattle.huqmeris_c.specs.Data.{code_of, data_of};
+ghost use Rattle.huqmeris_c.specs.Data.{items_of_code, data_of};
 ghost use Rattle.huqmeris_c.specs.Items.{AssembledAs, CantBePut, FirstRefused, NoneRefused, Unlisted};
 ghost use Rattle.huqmeris_c.specs.Each.{none_done};
 ghost use Rattle.huqmeris_c.specs.Putting.{Begun, Behind, Denied, HasPlaces, MakesEach, TellsOf, Unfinished};
@@ -17,13 +17,13 @@ use crate::progress::HqDone;
 use crate::status::{HQ_BAD_LABEL, HQ_BOUND_TWICE, HQ_NO_MEMORY, HQ_TOO_MANY, HQ_UNBOUND};
 use crate::traps::list_traps;
 use crate::unbound::first_open;
-use cax64_plain::HqUse;
-use cax64_plain::status::{HQ_FULL, HQ_OK, HQ_OUT_OF_RANGE, fault_status};
 use std::alloc::Global;
 use x64_assemble::{Item, Layout, LayoutError};
 use x64_code_buffer::{BindError, CodeBuffer};
 use x64_core::Core;
 use x64_layout::MOST_SPANS;
+use x64_plain::HqUse;
+use x64_plain::status::{HQ_FULL, HQ_OK, HQ_OUT_OF_RANGE, fault_status};
 
 /// What is told of a list that can't be put.
 fn told_of(error: &LayoutError) -> Refused
@@ -94,7 +94,7 @@ fn put_items(
     buffer: &mut CodeBuffer<Global>,
 ) -> Result<(), Refused>
     requires { Begun 0 buffer.old }
-    ensures put { OnOk result (Behind (length items.now) (code_of items.now) (data_of items.now) (buffer_state buffer.new) (places_of buffer.new)) }
+    ensures put { OnOk result (Behind (length items.now) (items_of_code items.now) (data_of items.now) (buffer_state buffer.new) (places_of buffer.new)) }
     ensures tested { OnOk result (NoneRefused items.now) }
     ensures refused { IfErr result (λ refused. Denied items.now refused.number refused.status) }
 {
@@ -124,7 +124,7 @@ fn put_items(
     }
 }
 
-/// Tells the first item that refers to what has no place, or else that the list can't be finished for this reason.
+/// Tells the first item that refers to what has no position, or else that the list can't be finished for this reason.
 fn unfinished(items: &[HqItem], buffer: &CodeBuffer<Global>, why: i32, done: &mut HqDone) -> i32
     requires places { HasPlaces (places_of buffer.now) items.now }
     requires nothing { done.old ≡ none_done }
@@ -139,18 +139,18 @@ fn unfinished(items: &[HqItem], buffer: &CodeBuffer<Global>, why: i32, done: &mu
     }
 }
 
-/// Assembles items into the front of some bytes, all of them or nothing: instructions, places of labels, and jumps to them;
+/// Assembles items into the front of some bytes, all of them or nothing: instructions, positions of labels, and jumps to them;
 /// behind them data, which instructions refer to as constants or labels. The first item that is data begins it: behind that no
 /// instruction and no jump may stand.
 ///
 /// A label's number is below that of all items. Each jump has the shortest form in which all of them reach: no choice of forms
 /// has fewer bytes. A jump to a label behind data has its long form. An instruction may refer to a label too. `uses` gets the
-/// traps of the instructions, in their order, each at the place of its instruction. No late offset is known.
+/// traps of the instructions, in their order, each at the position of its instruction. No late offset is known.
 ///
 /// At `HQ_OK` `done` has how many items, bytes and traps there are, at `HQ_FULL` how many there would be. At another status
 /// `bytes` and `uses` are 0, and `items` is the number of the item that is refused, from 0: the first that is none, or else the
 /// first that has a fault or whose label or constant can't be bound, or else, at `HQ_UNBOUND`, the first that refers to what has no
-/// place. At `HQ_TOO_MANY`, `HQ_OUT_OF_RANGE` and `HQ_NO_MEMORY` none is named, and `items` is 0.
+/// position. At `HQ_TOO_MANY`, `HQ_OUT_OF_RANGE` and `HQ_NO_MEMORY` none is named, and `items` is 0.
 ///
 /// It asks for memory, and has given all of it back when it answers.
 #[unsafe(no_mangle)]

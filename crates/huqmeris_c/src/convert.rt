@@ -1,15 +1,17 @@
 //! Instructions of what was read.
 
 ghost use Rattle.std.specs.Prelude.{◌≡◌, ◌≢◌, ◌&&◌, false, true};
-ghost use Rattle.cax64_plain.specs.Reading.{plain_reading};
+ghost use Rattle.x64_plain.specs.Reading.{plain_reading};
 ghost use Rattle.huqmeris_c.specs.OfReading.{IsInstOf};
-ghost use Rattle.x64_core_reader.specs.OfReading.{is_taken, operands_given};
-ghost use Rattle.x64_core_reader.specs.Reading.{line_reading};
-ghost use Rattle.x64_core_reader.specs.declared.reading.CoreReading.{CoreReading};
-ghost use Rattle.cax64_plain.specs.declared.status.TheConstants.{HQ_BAD_READING, HQ_NO_INST, HQ_OK};
+ghost use Rattle.x64_reader.specs.Taken.{is_taken};
+ghost use Rattle.x64_core.specs.OfReading.{operands_given};
+ghost use Rattle.x64_reader.specs.Reading.{line_reading};
+ghost use Rattle.x64_reader.specs.declared.reading.CoreReading.{CoreReading};
+ghost use Rattle.x64_plain.specs.declared.status.TheConstants.{HQ_BAD_READING, HQ_NO_INST, HQ_OK};
 
-use cax64_plain::status::{HQ_BAD_READING, HQ_NO_INST, HQ_OK};
-use cax64_plain::{HqInst, HqReading};
+use x64_core::Core;
+use x64_plain::status::{HQ_BAD_READING, HQ_NO_INST, HQ_OK};
+use x64_plain::{HqInst, HqReading};
 
 /// The instruction that is read as this, where the reading has an operand for each that its line takes and no other, and an
 /// immediate in its range. It has no trap code and no late offset, and can be encoded.
@@ -25,7 +27,7 @@ pub extern "C" fn hq_inst_of_reading(reading: &HqReading, out: &mut HqInst) -> i
     let Some(reading) = reading.reading() else {
         return HQ_BAD_READING;
     };
-    match reading.core() {
+    match Core::of_reading(&reading) {
         None => HQ_NO_INST,
         Some(core) => {
             *out = HqInst::of(&core);

@@ -1,7 +1,7 @@
 //! Data behind the code.
 
 ghost use Rattle.std.specs.Prelude.{◌≡◌, ◌+◌, ◌++◌, ◌<◌, ◌≤◌, ◌^◌, ◌↔◌, ◌⊎◌, ℕ, [], IfErr, IfNone, IfSome, IsTrue, List, OnOk, Some, drop, length, take};
-ghost use Rattle.huqmeris_c.specs.Data.{code_of, data_in, data_of, is_data, struct_bytes};
+ghost use Rattle.huqmeris_c.specs.Data.{items_of_code, data_in, data_of, is_data, struct_bytes};
 ghost use Rattle.huqmeris_c.specs.Putting.{AreData, BadDatum, Behind, DatumRefused, FirstBehind, Holds, IsDatum, NoneBehind, PutsDatum};
 ghost use Rattle.huqmeris_c.specs.declared.item.HqItem.{HqItem};
 ghost use Rattle.cax64_sink.specs.declared.DeferredTarget.{DeferredTarget};
@@ -13,10 +13,10 @@ ghost use Rattle.huqmeris_c.specs.declared.status.TheConstants.{HQ_BAD_LABEL, HQ
 use crate::item::{HQ_ITEM_ALIGN, HQ_ITEM_BYTES, HQ_ITEM_CONSTANT, HQ_ITEM_LABEL, HqItem};
 use crate::list::Refused;
 use crate::status::{HQ_BAD_LABEL, HQ_BOUND_TWICE, HQ_NO_MEMORY};
-use cax64_plain::HqInst;
 use cax64_sink::{Constant, Label};
 use std::alloc::Global;
 use x64_code_buffer::{BindError, CodeBuffer};
+use x64_plain::HqInst;
 
 /// How many bytes an item holds at most.
 const MOST_BYTES: u32 = 24;
@@ -37,7 +37,7 @@ fn is_data(kind: u32) -> bool
 /// How many items stand before the first that is data.
 pub(crate) fn code_len(items: &[HqItem]) -> usize
     ensures within { result ≤ length items.now }
-    ensures code { take result items.now ≡ code_of items.now }
+    ensures code { take result items.now ≡ items_of_code items.now }
     ensures rest { drop result items.now ≡ data_of items.now }
 {
     for i in 0..items.len() {

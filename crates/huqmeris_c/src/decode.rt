@@ -2,13 +2,13 @@
 
 ghost use Rattle.std.specs.Prelude.{◌≡◌, MatchOption, false, true};
 ghost use Rattle.cax64_machine_code.specs.ReadLine.{read_of};
-ghost use Rattle.cax64_plain.specs.Reading.{IsReading};
-ghost use Rattle.x64_core.specs.Lines.{core_lines};
-ghost use Rattle.cax64_plain.specs.declared.status.TheConstants.{HQ_NONE, HQ_OK};
+ghost use Rattle.x64_plain.specs.Reading.{IsReading};
+ghost use Rattle.x64_lines.specs.Lines.{core_lines};
+ghost use Rattle.x64_plain.specs.declared.status.TheConstants.{HQ_NONE, HQ_OK};
 
-use cax64_plain::HqReading;
-use cax64_plain::status::{HQ_NONE, HQ_OK};
-use x64_core_reader::read_core;
+use x64_plain::HqReading;
+use x64_plain::status::{HQ_NONE, HQ_OK};
+use x64_reader::read_core;
 
 /// Reads the instruction at the front of some bytes, and says whether there is one. No other function of this library calls the
 /// reader, so that the compiler inlines it here, and what was read doesn't go through memory before it's put into integers.

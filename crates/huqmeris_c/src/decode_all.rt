@@ -3,14 +3,14 @@
 ghost use Rattle.std.specs.Prelude.{◌≡◌, ◌≤◌, ◌<◌, None, drop, length, take};
 ghost use Rattle.cax64_machine_code.specs.ReadLine.{read_of};
 ghost use Rattle.huqmeris_c.specs.InTurn.{InTurn};
-ghost use Rattle.x64_core.specs.Lines.{core_lines};
-ghost use Rattle.cax64_plain.specs.declared.status.TheConstants.{HQ_OK};
+ghost use Rattle.x64_lines.specs.Lines.{core_lines};
+ghost use Rattle.x64_plain.specs.declared.status.TheConstants.{HQ_OK};
 
 use crate::decode::read;
-use cax64_plain::HqReading;
-use cax64_plain::status::HQ_OK;
+use x64_plain::HqReading;
+use x64_plain::status::HQ_OK;
 
-/// Reads instructions into the places, and answers how many, and how many bytes they have.
+/// Reads instructions into the slots, and answers how many, and how many bytes they have.
 fn read_each(bytes: &[u8], out: &mut [HqReading]) -> (usize, usize)
     ensures reads { InTurn bytes.now (take result.0 out.new) (drop result.1 bytes.now) }
     ensures others { drop result.0 out.new ≡ drop result.0 out.old }
@@ -29,8 +29,8 @@ fn read_each(bytes: &[u8], out: &mut [HqReading]) -> (usize, usize)
     (places, at)
 }
 
-/// Reads instructions one behind the other from the front of some bytes, into as many places as there are or until no line of the
-/// core reads what stands there, and says how many were read and how many bytes they have. The other places are as before.
+/// Reads instructions one behind the other from the front of some bytes, into as many slots as there are or until no line of the
+/// core reads what stands there, and says how many were read and how many bytes they have. The other slots are as before.
 #[unsafe(no_mangle)]
 pub extern "C" fn hq_decode_all(
     bytes: &[u8],

@@ -1,33 +1,22 @@
 //! Encoding.
 
-ghost use Rattle.std.specs.Prelude.{◌≡◌, ◌≢◌, ◌≤◌, [], IfSome, IsTrue, MatchOption, Some, length, slice_get};
-ghost use Rattle.cax64_encoder.specs.EncodesLine.{line_notices_of};
-ghost use Rattle.cax64_encoder.specs.Place.{memory_in};
-ghost use Rattle.cax64_machine_code.specs.Line.{imm_bytes};
-ghost use Rattle.cax64_machine_code.specs.ReadLine.{LineReading, read_of};
-ghost use Rattle.cax64_plain.specs.Plain.{plain};
-ghost use Rattle.cax64_plain.specs.Status.{check_status, fault_status};
+ghost use Rattle.std.specs.Prelude.{◌≡◌, ◌≢◌, ◌≤◌, [], IsTrue, MatchOption, length};
+ghost use Rattle.x64_plain.specs.Plain.{plain};
+ghost use Rattle.x64_plain.specs.Status.{check_status, fault_status};
 ghost use Rattle.cax64_sink.specs.FixedSink.{fixed_sink_state};
-ghost use Rattle.cax64_plain.specs.Told.{place_told};
-ghost use Rattle.huqmeris_c.specs.Encodes.{Encodes, no_offsets};
+ghost use Rattle.huqmeris_c.specs.Encodes.{no_offsets};
 ghost use Rattle.huqmeris_c.specs.Outcome.{PutAs, Unchanged};
 ghost use Rattle.huqmeris_c.specs.PutCode.{PutCode};
 ghost use Rattle.x64_core.specs.Core.{core_len, fault_of, is_encodable};
-ghost use Rattle.x64_core.specs.Line.{core_line};
-ghost use Rattle.x64_core.specs.Lines.{core_lines};
-ghost use Rattle.x64_core.specs.Shape.{imm_field};
 ghost use Rattle.x64_core.specs.View.{core_view};
 ghost use Rattle.x64_core.specs.declared.instruction.Core.{Core};
-ghost use Rattle.cax64_plain.specs.declared.status.TheConstants.{HQ_BAD_INST, HQ_OK};
+ghost use Rattle.x64_plain.specs.declared.status.TheConstants.{HQ_BAD_INST, HQ_OK};
 
-use crate::decode::read;
 use crate::words::put_words;
-use cax64_encoder::EncodeError;
-use cax64_plain::status::{HQ_BAD_INST, HQ_FULL, HQ_OK, fault_status};
-use cax64_plain::{HqInst, HqReading, HqUse};
-use cax64_sink::{FixedSink, Notice};
-use x64_core::shapes::OpImm;
-use x64_core::{Core, CorePlace};
+use cax64_sink::FixedSink;
+use x64_core::Core;
+use x64_plain::status::{HQ_BAD_INST, HQ_FULL, HQ_OK, fault_status};
+use x64_plain::{HqInst, HqUse};
 
 /// What this library encodes into: at any place of an instruction, which has 13 bytes at most, there is room for a word of
 /// eight, so that no byte is put alone.
@@ -82,67 +71,6 @@ pub extern "C" fn hq_length(inst: &HqInst, len: &mut u32) -> i32
     }
 }
 
-/// The number of bytes of an immediate.
-fn imm_len(kind: OpImm) -> u8
-    ensures { result ≡ imm_bytes (imm_field kind) }
-{
-    match kind {
-        OpImm::None => 0,
-        OpImm::U8 | OpImm::I8 => 1,
-        OpImm::U16 => 2,
-        OpImm::U32 | OpImm::I32 => 4,
-    }
-}
-
-/// What an instruction tells beside its bytes.
-pub(crate) fn notice_of(core: &Core, bytes: &[u8]) -> Option<Notice>
-    ensures is { (reading : LineReading) → read_of core_lines bytes.now ≡ Some reading → reading.line ≡ core_line (core_view core.now).op → result ≡ slice_get (line_notices_of (memory_in (core_view core.now).place) 0 reading) 0 }
-    ensures near { IfSome result (λ notice. place_told notice ≤ 256) }
-{
-    if core.notice_count() == 0 {
-        return None;
-    }
-    match core.place() {
-        CorePlace::Absent | CorePlace::Register(_) => None,
-        CorePlace::Base { trap, .. } | CorePlace::BaseAndIndex { trap, .. } => match trap {
-            Some(code) => Some(Notice::Trap(0, code)),
-            None => None,
-        },
-        CorePlace::Relative(target) => {
-            let mut reading = HqReading::NOTHING;
-            if !read(bytes, &mut reading) {
-                return None;
-            }
-            let behind = reading
-                .length
-                .saturating_sub(reading.tail)
-                .saturating_sub(imm_len(core.op().shape().imm));
-            Some(Notice::Target(usize::from(behind) + 1, target))
-        }
-    }
-}
-
-/// Encodes an instruction into some bytes.
-fn put(core: &Core, code: &mut [u8], len: &mut u32, told: &mut HqUse) -> i32
-    ensures { PutAs (core_view core.now) code.old code.new len.old len.new told.old told.new result }
-{
-    let mut sink = sink();
-    if let Err(error) = core.encode_checked(&mut sink) {
-        return match error {
-            EncodeError::Fault(fault) => fault_status(fault),
-            EncodeError::Sink(_) => HQ_FULL,
-        };
-    }
-    let bytes = sink.bytes();
-    if code.len() < bytes.len() {
-        return HQ_FULL;
-    }
-    code[..bytes.len()].copy_from_slice(bytes);
-    *len = bytes.len() as u32;
-    *told = HqUse::of(notice_of(core, bytes));
-    HQ_OK
-}
-
 /// Puts an instruction that can be encoded at the front of some bytes, and says how many stand before its displacement of four
 /// bytes, if it has one, and how many it has.
 #[inline(always)]
@@ -165,6 +93,26 @@ pub(crate) fn put_encodable(core: &Core, code: &mut [u8]) -> (u8, u8)
     (behind, behind + more)
 }
 
+/// Encodes an instruction of these integers into some bytes.
+fn put(inst: &HqInst, core: &Core, code: &mut [u8], len: &mut u32, told: &mut HqUse) -> i32
+    requires { plain (core_view core.now) ≡ inst.now }
+    ensures { PutAs (core_view core.now) code.old code.new len.old len.new told.old told.new result }
+{
+    if let Some(fault) = core.first_fault(&sink()) {
+        return fault_status(fault);
+    }
+    let mut whole = [0u8; 16];
+    let (behind, count) = put_encodable(core, &mut whole);
+    let size = usize::from(count);
+    if code.len() < size {
+        return HQ_FULL;
+    }
+    code[..size].copy_from_slice(&whole[..size]);
+    *len = u32::from(count);
+    *told = HqUse::of_inst(inst, behind);
+    HQ_OK
+}
+
 /// Encodes what may be an instruction, whatever else it is.
 #[cold]
 #[inline(never)]
@@ -175,7 +123,7 @@ fn encode_any(inst: &HqInst, code: &mut [u8], len: &mut u32, told: &mut HqUse) -
     let Some(core) = inst.core() else {
         return HQ_BAD_INST;
     };
-    put(&core, code, len, told)
+    put(inst, &core, code, len, told)
 }
 
 /// Encodes an instruction into the front of some bytes, and says how many it has, 1 to 13, and what it tells beside them.

@@ -1,32 +1,25 @@
 //! Encoding of many instructions.
 
-ghost use Rattle.std.specs.Prelude.{◌≡◌, ◌≤◌, ◌<◌, ◌+◌, ◌*◌, ◌++◌, ◌∷◌, ◌^◌, ℕ, [], IfErr, IfOk, None, Some, drop, length, take, true};
-ghost use Rattle.cax64_encoder.specs.EncodesLine.{line_notices_of};
-ghost use Rattle.cax64_encoder.specs.Place.{memory_in};
-ghost use Rattle.cax64_machine_code.specs.ReadLine.{LineReading, read_of};
-ghost use Rattle.cax64_plain.specs.Encodable.{IsReady};
-ghost use Rattle.cax64_plain.specs.Plain.{place_of};
-ghost use Rattle.cax64_plain.specs.Told.{told_at};
-ghost use Rattle.cax64_sink.specs.FixedSink.{fixed_sink_state};
-ghost use Rattle.huqmeris_c.specs.Each.{AreSound, EachPutAs, IsRefused, PutEach, StoppedAt, uses_told};
-ghost use Rattle.huqmeris_c.specs.Encodes.{no_offsets, written};
+ghost use Rattle.std.specs.Prelude.{◌≡◌, ◌≢◌, ◌≤◌, ◌<◌, ◌+◌, ◌*◌, ◌++◌, ◌∷◌, ◌^◌, ℕ, [], IfErr, IfOk, None, Some, drop, length, take, true};
+ghost use Rattle.x64_plain.specs.Encodable.{IsReady};
+ghost use Rattle.x64_plain.specs.Plain.{place_of, plain};
+ghost use Rattle.x64_plain.specs.Told.{told_at};
+ghost use Rattle.huqmeris_c.specs.Each.{AreSound, EachPutAs, IsRefused, PutEach, StoppedAt};
+ghost use Rattle.huqmeris_c.specs.Encodes.{no_offsets};
 ghost use Rattle.huqmeris_c.specs.Listed.{AreReady, CanPut, HasRoomFor, HasSize, IsSized, PutBehind, PutNext, moved, use_list};
-ghost use Rattle.x64_core.specs.Adds.{AddsCore};
-ghost use Rattle.x64_core.specs.Core.{core_len, fault_of};
-ghost use Rattle.x64_core.specs.Line.{core_line};
-ghost use Rattle.x64_core.specs.Lines.{core_lines};
+ghost use Rattle.x64_core.specs.Core.{core_len, core_notices, fault_of};
 ghost use Rattle.x64_core.specs.View.{core_view};
 ghost use Rattle.x64_layout.specs.declared.span.TheConstants.{MOST_SPANS};
 
-use crate::encode::{notice_of, put_encodable, sink};
+use crate::encode::{put_encodable, sink};
 use crate::progress::HqDone;
 use crate::status::HQ_TOO_MANY;
 use cax64_encoder::RoomNeeded;
-use cax64_plain::status::{HQ_BAD_INST, HQ_FULL, HQ_OK, fault_status};
-use cax64_plain::{HqInst, HqUse};
-use cax64_sink::FixedSink;
 use x64_core::Core;
+use x64_core::laws::len_is_at_most_13;
 use x64_layout::MOST_SPANS;
+use x64_plain::status::{HQ_BAD_INST, HQ_FULL, HQ_OK, fault_status};
+use x64_plain::{HqInst, HqUse};
 
 /// Where a list is stopped at, and why.
 #[derive(Clone, Copy)]
@@ -59,8 +52,9 @@ fn is_ready(inst: &HqInst) -> bool
     if !inst.is_encodable() {
         return false;
     }
-    // That it has 13 bytes at most is asked for the proof's sake alone, and the compiler leaves it out.
-    let _ = inst.encodable_core().room_needed(&FixedSink::<0>::new());
+    len_is_at_most_13();
+    // It's made for the proof's sake alone, and the compiler leaves it out.
+    let _ = inst.encodable_core();
     true
 }
 
@@ -110,18 +104,6 @@ fn measure(insts: &[HqInst]) -> Result<HqDone, Stop>
     })
 }
 
-/// An instruction that can be encoded, alone.
-fn encoded(core: &Core) -> FixedSink<24>
-    requires { fault_of no_offsets (core_view core.now) ≡ None }
-    ensures adds { AddsCore (core_view core.now) (written []) (written (fixed_sink_state result).bytes) }
-    ensures length { length (fixed_sink_state result).bytes ≡ core_len no_offsets (core_view core.now) }
-    ensures most { core_len no_offsets (core_view core.now) ≤ 13 }
-{
-    let mut sink = sink();
-    core.encode(&mut sink).unwrap();
-    sink
-}
-
 /// What is told of an instruction that stands behind so many bytes.
 fn moved(told: HqUse, at: usize) -> HqUse
     requires { at + told.at < 2 ^ 32 }
@@ -133,29 +115,31 @@ fn moved(told: HqUse, at: usize) -> HqUse
     }
 }
 
-/// What an instruction of these bytes tells, behind so many others.
-fn use_of(core: &Core, bytes: &[u8], at: usize) -> Option<HqUse>
+/// What an instruction of these integers tells that has so many bytes before its displacement, behind so many others.
+fn use_of(inst: &HqInst, core: &Core, behind: u8, at: usize) -> Option<HqUse>
     requires { at < 2 ^ 31 }
-    ensures { (reading : LineReading) → read_of core_lines bytes.now ≡ Some reading → reading.line ≡ core_line (core_view core.now).op → use_list result ≡ uses_told (line_notices_of (memory_in (core_view core.now).place) at reading) }
+    ensures none { core_notices (core_view core.now) ≡ 0 → result ≡ None }
+    ensures some { core_notices (core_view core.now) ≢ 0 → result ≡ Some (moved at (told_at (place_of inst.now) behind)) }
 {
-    match notice_of(core, bytes) {
-        None => None,
-        Some(notice) => Some(moved(HqUse::of(Some(notice)), at)),
+    if core.notice_count() == 0 {
+        return None;
     }
+    Some(moved(HqUse::of_inst(inst, behind), at))
 }
 
-/// Puts an instruction that can be encoded behind so many bytes, and says how many it has, and what it tells.
-fn put_behind(core: &Core, code: &mut [u8], at: usize) -> (usize, Option<HqUse>)
+/// Puts an instruction of these integers that can be encoded behind so many bytes, and says how many it has, and what it tells.
+fn put_behind(inst: &HqInst, core: &Core, code: &mut [u8], at: usize) -> (usize, Option<HqUse>)
+    requires same { plain (core_view core.now) ≡ inst.now }
     requires sound { fault_of no_offsets (core_view core.now) ≡ None }
     requires room { at + core_len no_offsets (core_view core.now) ≤ length code.old }
     requires near { at < 2 ^ 31 }
     ensures { PutBehind (core_view core.now) at code.old code.new result.0 (use_list result.1) }
 {
-    let sink = encoded(core);
-    let bytes = sink.bytes();
-    let end = at + bytes.len();
-    code[at..end].copy_from_slice(bytes);
-    (bytes.len(), use_of(core, bytes, at))
+    let mut whole = [0u8; 16];
+    let (behind, count) = put_encodable(core, &mut whole);
+    let size = usize::from(count);
+    code[at..at + size].copy_from_slice(&whole[..size]);
+    (size, use_of(inst, core, behind, at))
 }
 
 /// Notes what may be told behind so many others, and says how many these are then.
@@ -191,7 +175,7 @@ fn put_any(
     match inst.core() {
         None => (at, count),
         Some(core) => {
-            let put = put_behind(&core, code, at);
+            let put = put_behind(inst, &core, code, at);
             let noted = note(uses, count, put.1);
             (at + put.0, noted)
         }

@@ -1,11 +1,11 @@
 //! What is assembled, in integers.
 
-use cax64_plain::HqInst;
+use x64_plain::HqInst;
 
 /// An item: an instruction.
 pub const HQ_ITEM_INST: u32 = 0;
 
-/// An item: the place of a label, which is that of what comes next.
+/// An item: the position of a label, which is that of what comes next.
 pub const HQ_ITEM_LABEL: u32 = 1;
 
 /// An item: a jump to a label, which is always taken.
@@ -62,7 +62,7 @@ pub const HQ_ITEM_JLE: u32 = 18;
 /// An item: a jump to a label at greater, of signed numbers.
 pub const HQ_ITEM_JG: u32 = 19;
 
-/// An item: the place of a constant, which is that of what comes next. It is data: behind it only data and places of labels
+/// An item: the position of a constant, which is that of what comes next. It is data: behind it only data and positions of labels
 /// stand.
 pub const HQ_ITEM_CONSTANT: u32 = 20;
 
@@ -72,7 +72,7 @@ pub const HQ_ITEM_BYTES: u32 = 21;
 /// An item: padding, which is data too: zeros, up to a multiple of 2 to the number, at most 6, from the first byte on.
 pub const HQ_ITEM_ALIGN: u32 = 22;
 
-/// What is assembled: an instruction, the place of a label, a jump to one, or data behind the code.
+/// What is assembled: an instruction, the position of a label, a jump to one, or data behind the code.
 #[repr(C)]
 #[derive(Clone, Copy, Debug, PartialEq)]
 pub struct HqItem {

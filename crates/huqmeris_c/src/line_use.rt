@@ -1,16 +1,16 @@
 //! What lines read and write: their operands, what they use beside them, and flags.
 
 ghost use Rattle.std.specs.Prelude.{◌≡◌, ◌≤◌, ◌<◌, length};
-ghost use Rattle.cax64_plain.specs.declared.status.TheConstants.{HQ_BAD_LINE, HQ_NONE, HQ_OK};
+ghost use Rattle.x64_plain.specs.declared.status.TheConstants.{HQ_BAD_LINE, HQ_NONE, HQ_OK};
 ghost use Rattle.huqmeris_c.specs.LineUse.{access_number, class_number, fixed_number, home_number, operand_at, plain_flags, plain_operand};
-ghost use Rattle.x64_core.specs.Flags.{flags_of};
-ghost use Rattle.x64_core.specs.Kinds.{kinds_of};
-ghost use Rattle.x64_core.specs.declared.lines.TheConstants.{COUNT};
+ghost use Rattle.x64_lines.specs.Flags.{flags_of};
+ghost use Rattle.x64_lines.specs.LineOperands.{line_operands};
+ghost use Rattle.x64_lines.specs.declared.lines.TheConstants.{COUNT};
 
-use cax64_plain::status::{HQ_BAD_LINE, HQ_NONE, HQ_OK};
-use x64_core::Op;
-use x64_core::flags::Flags;
-use x64_core::kinds::{Access, Class, Home, Kind};
+use x64_lines::Op;
+use x64_lines::flags::Flags;
+use x64_lines::operands::{Access, Class, Home, LineOperand};
+use x64_plain::status::{HQ_BAD_LINE, HQ_NONE, HQ_OK};
 
 /// Where an operand is: a register in the reg field.
 pub const HQ_HOME_REG: u8 = 0;
@@ -142,7 +142,7 @@ fn access_number(access: Access) -> u8
 
 impl HqOperand {
     /// An operand in integers.
-    fn of(kind: Kind) -> HqOperand
+    fn of(kind: LineOperand) -> HqOperand
         ensures { result ≡ plain_operand kind }
     {
         HqOperand {
@@ -178,13 +178,13 @@ impl HqFlags {
 #[unsafe(no_mangle)]
 pub extern "C" fn hq_line_operand(line: u16, index: usize, operand: &mut HqOperand) -> i32
     ensures line { COUNT ≤ line → (result ≡ HQ_BAD_LINE) × (operand.new ≡ operand.old) }
-    ensures none { line < COUNT → length (kinds_of line) ≤ index → (result ≡ HQ_NONE) × (operand.new ≡ operand.old) }
-    ensures is { line < COUNT → index < length (kinds_of line) → (result ≡ HQ_OK) × (operand.new ≡ plain_operand (operand_at line index)) }
+    ensures none { line < COUNT → length (line_operands line) ≤ index → (result ≡ HQ_NONE) × (operand.new ≡ operand.old) }
+    ensures is { line < COUNT → index < length (line_operands line) → (result ≡ HQ_OK) × (operand.new ≡ plain_operand (operand_at line index)) }
 {
     let Some(op) = Op::from_number(line) else {
         return HQ_BAD_LINE;
     };
-    let kinds = op.kinds();
+    let kinds = op.operands();
     if index >= kinds.len() {
         return HQ_NONE;
     }

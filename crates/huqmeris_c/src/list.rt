@@ -10,11 +10,11 @@ use crate::data_items::{code_len, first_bad};
 use crate::item::{HQ_ITEM_INST, HQ_ITEM_LABEL, HqItem};
 use crate::jump::jump_of;
 use crate::status::{HQ_BAD_ITEM, HQ_NO_MEMORY};
-use cax64_plain::status::HQ_BAD_INST;
 use cax64_sink::Label;
 use std::alloc::Global;
 use x64_assemble::Item;
 use x64_core::{Core, CorePlace};
+use x64_plain::status::HQ_BAD_INST;
 
 /// An item that is refused.
 #[derive(Clone, Copy)]

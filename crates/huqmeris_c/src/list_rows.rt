@@ -11,15 +11,15 @@ use crate::status::{HQ_BAD_ITEM, HQ_BAD_LABEL, HQ_BOUND_TWICE, HQ_NO_NAME, HQ_UN
 use crate::text::{hq_extension, hq_format, hq_mnemonic};
 use cax64_address::amode::Amode;
 use cax64_address::offset::AmodeOffsetPlusKnownOffset;
-use cax64_plain::status::{HQ_BAD_INST, HQ_BAD_LINE, HQ_FULL, HQ_OK};
-use cax64_plain::told::{HQ_TOLD_LABEL, HQ_TOLD_NOTHING, HQ_TOLD_TRAP};
-use cax64_plain::{HqInst, HqUse};
 use cax64_sink::{Constant, DeferredTarget, Label, TrapCode};
 use std::num::NonZeroU8;
 use x64_core::ops::arithmetic::{ADDQ_RM, SUBQ_MI_SXB};
 use x64_core::ops::bits::POPCNTQ_RM;
 use x64_core::ops::control::RETQ_ZO;
 use x64_core::ops::moves::{LEAQ_RM, MOVQ_RM};
+use x64_plain::status::{HQ_BAD_INST, HQ_BAD_LINE, HQ_FULL, HQ_OK};
+use x64_plain::told::{HQ_TOLD_LABEL, HQ_TOLD_NOTHING, HQ_TOLD_TRAP};
+use x64_plain::{HqInst, HqUse};
 
 /// `leaq 0(%rip), %rax` of a label.
 fn address_of(number: u32) -> HqInst {
@@ -209,7 +209,7 @@ fn data_stands_behind_code(rt: HostRuntime) {
 }
 
 /// A load, a jump over a second one, `retq`, zeros up to a multiple of 4 and two bytes: the traps of both loads are told, and the
-/// place behind them stays; where there is too little room for them, or the list is refused, all places stay.
+/// slot behind them stays; where there is too little room for them, or the list is refused, all slots stay.
 #[test]
 fn traps_are_told(rt: HostRuntime) {
     let ret = HqInst::of(&RETQ_ZO.bare());

@@ -1,19 +1,20 @@
 //! Instructions of operands.
 
 ghost use Rattle.std.specs.Prelude.{◌≡◌, ◌≢◌, ◌≤◌, ◌<◌, MatchOption};
-ghost use Rattle.cax64_plain.specs.Plain.{plain, plain_place};
-ghost use Rattle.cax64_plain.specs.Status.{shape_status};
+ghost use Rattle.x64_plain.specs.Plain.{plain, plain_place};
+ghost use Rattle.x64_plain.specs.Status.{operand_status};
 ghost use Rattle.huqmeris_c.specs.Given.{imm_given, register_given};
 ghost use Rattle.x64_core.specs.Refusal.{refusal};
-ghost use Rattle.x64_core.specs.Shape.{shape_of};
+ghost use Rattle.x64_lines.specs.Shape.{shape_of};
 ghost use Rattle.x64_core.specs.View.{place_operand};
-ghost use Rattle.x64_core.specs.declared.lines.TheConstants.{COUNT};
+ghost use Rattle.x64_lines.specs.declared.lines.TheConstants.{COUNT};
 ghost use Rattle.x64_core.specs.declared.place.CorePlace.{CorePlace};
-ghost use Rattle.cax64_plain.specs.declared.status.TheConstants.{HQ_BAD_LINE, HQ_BAD_PLACE, HQ_OK};
+ghost use Rattle.x64_plain.specs.declared.status.TheConstants.{HQ_BAD_LINE, HQ_BAD_PLACE, HQ_OK};
 
-use cax64_plain::status::{HQ_BAD_LINE, HQ_BAD_PLACE, HQ_OK, shape_status};
-use cax64_plain::{HqInst, HqPlace};
-use x64_core::{Core, Op};
+use x64_core::Core;
+use x64_lines::Op;
+use x64_plain::status::{HQ_BAD_LINE, HQ_BAD_PLACE, HQ_OK, operand_status};
+use x64_plain::{HqInst, HqPlace};
 
 /// No register is given.
 pub const HQ_NO_REG: u16 = 256;
@@ -64,7 +65,7 @@ pub extern "C" fn hq_make(
     ensures makes { line < COUNT → (p : CorePlace) → plain_place (place_operand p) ≡ place.now
         → MatchOption (refusal (shape_of line) (register_given reg) (register_given vvvv) p (imm_given imm))
         ((result ≡ HQ_OK) × (out.new ≡ plain (record { op = line; reg = register_given reg; vvvv = register_given vvvv; place = place_operand p; imm = imm_given imm })))
-        (λ why. (result ≡ shape_status why) × (out.new ≡ out.old)) }
+        (λ why. (result ≡ operand_status why) × (out.new ≡ out.old)) }
 {
     let Some(op) = Op::from_number(line) else {
         return HQ_BAD_LINE;
@@ -77,6 +78,6 @@ pub extern "C" fn hq_make(
             *out = HqInst::of(&core);
             HQ_OK
         }
-        Err(shape) => shape_status(shape),
+        Err(shape) => operand_status(shape),
     }
 }

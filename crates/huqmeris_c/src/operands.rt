@@ -1,16 +1,16 @@
 //! Operands of instructions.
 
 ghost use Rattle.std.specs.Prelude.{◌≡◌, ◌≢◌, IfSome, true};
-ghost use Rattle.cax64_plain.specs.Plain.{plain, plain_place};
+ghost use Rattle.x64_plain.specs.Plain.{plain, plain_place};
 ghost use Rattle.huqmeris_c.specs.Given.{imm_given, register_given};
 ghost use Rattle.x64_core.specs.Value.{is_imm_value};
 ghost use Rattle.x64_core.specs.View.{core_view};
 ghost use Rattle.x64_core.specs.declared.instruction.Core.{Core};
-ghost use Rattle.cax64_plain.specs.declared.status.TheConstants.{HQ_BAD_INST, HQ_OK};
+ghost use Rattle.x64_plain.specs.declared.status.TheConstants.{HQ_BAD_INST, HQ_OK};
 
 use crate::make::{HQ_NO_IMM, HQ_NO_REG};
-use cax64_plain::status::{HQ_BAD_INST, HQ_OK};
-use cax64_plain::{HqInst, HqPlace};
+use x64_plain::status::{HQ_BAD_INST, HQ_OK};
+use x64_plain::{HqInst, HqPlace};
 
 /// A register as it's given.
 fn register_number(register: Option<u8>) -> u16

@@ -1,14 +1,14 @@
 //! Other registers.
 
 ghost use Rattle.std.specs.Prelude.{◌≡◌, ◌≢◌, slice_index};
-ghost use Rattle.cax64_plain.specs.Plain.{plain};
+ghost use Rattle.x64_plain.specs.Plain.{plain};
 ghost use Rattle.x64_core.specs.Rename.{renamed};
 ghost use Rattle.x64_core.specs.View.{core_view};
 ghost use Rattle.x64_core.specs.declared.instruction.Core.{Core};
-ghost use Rattle.cax64_plain.specs.declared.status.TheConstants.{HQ_BAD_INST, HQ_OK};
+ghost use Rattle.x64_plain.specs.declared.status.TheConstants.{HQ_BAD_INST, HQ_OK};
 
-use cax64_plain::HqInst;
-use cax64_plain::status::{HQ_BAD_INST, HQ_OK};
+use x64_plain::HqInst;
+use x64_plain::status::{HQ_BAD_INST, HQ_OK};
 
 /// Puts others in the place of all registers of an instruction, each by its number in this table. All else stays.
 #[unsafe(no_mangle)]

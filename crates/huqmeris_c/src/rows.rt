@@ -6,13 +6,13 @@ use crate::encode::{hq_check, hq_encode, hq_length};
 use crate::make::{HQ_NO_IMM, HQ_NO_REG, hq_make};
 use crate::operands::hq_operands;
 use crate::rename::hq_rename;
-use cax64_plain::laws::integers_tell_instructions;
-use cax64_plain::place::{HQ_PLACE_INDEX, HQ_PLACE_LABEL, HQ_PLACE_REGISTER};
-use cax64_plain::status::{HQ_BAD_INST, HQ_BAD_LINE, HQ_FULL, HQ_NONE, HQ_OK};
-use cax64_plain::told::{HQ_TOLD_LABEL, HQ_TOLD_TRAP};
-use cax64_plain::{HqInst, HqPlace, HqReading, HqUse};
 use x64_core::ops::arithmetic::ADDQ_MI_SXB;
 use x64_core::ops::moves::MOVQ_RM;
+use x64_plain::laws::integers_tell_instructions;
+use x64_plain::place::{HQ_PLACE_INDEX, HQ_PLACE_LABEL, HQ_PLACE_REGISTER};
+use x64_plain::status::{HQ_BAD_INST, HQ_BAD_LINE, HQ_FULL, HQ_NONE, HQ_OK};
+use x64_plain::told::{HQ_TOLD_LABEL, HQ_TOLD_TRAP};
+use x64_plain::{HqInst, HqPlace, HqReading, HqUse};
 
 const NO_PLACE: HqPlace = HqPlace {
     place: 0,

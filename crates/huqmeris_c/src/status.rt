@@ -1,4 +1,4 @@
-//! What a call answers of lists, items and texts, beside the statuses of `cax64_plain`.
+//! What a call answers of lists, items and texts, beside the statuses of `x64_plain`.
 
 /// There are more than 165,191,049 instructions or items.
 pub const HQ_TOO_MANY: i32 = 10;
@@ -12,10 +12,10 @@ pub const HQ_BAD_ITEM: i32 = 12;
 /// The label's number isn't below that of all items.
 pub const HQ_BAD_LABEL: i32 = 13;
 
-/// The label or the constant has a place already.
+/// The label or the constant has a position already.
 pub const HQ_BOUND_TWICE: i32 = 14;
 
-/// A label or a constant that is referred to has no place.
+/// A label or a constant that is referred to has no position.
 pub const HQ_UNBOUND: i32 = 15;
 
 /// A register has no name: it isn't below 16.

@@ -1,22 +1,23 @@
 //! Texts.
 
 ghost use Rattle.std.specs.Prelude.{◌≡◌, ◌≢◌, ◌≤◌, ◌<◌};
-ghost use Rattle.cax64_plain.specs.Plain.{plain};
+ghost use Rattle.x64_plain.specs.Plain.{plain};
 ghost use Rattle.huqmeris_c.specs.Text.{FormattedAs, HandedOut, extension_name};
-ghost use Rattle.x64_core.specs.Extension.{extension_of};
+ghost use Rattle.x64_lines.specs.Extension.{extension_of};
 ghost use Rattle.x64_core.specs.View.{core_view};
 ghost use Rattle.x64_core.specs.declared.instruction.Core.{Core};
-ghost use Rattle.x64_core.specs.declared.lines.TheConstants.{COUNT};
-ghost use Rattle.x64_core_text.specs.Text.{mnemonic_of};
-ghost use Rattle.cax64_plain.specs.declared.status.TheConstants.{HQ_BAD_INST, HQ_BAD_LINE};
+ghost use Rattle.x64_lines.specs.declared.lines.TheConstants.{COUNT};
+ghost use Rattle.x64_text.specs.Text.{mnemonic_of};
+ghost use Rattle.x64_plain.specs.declared.status.TheConstants.{HQ_BAD_INST, HQ_BAD_LINE};
 
 use crate::status::{HQ_NO_MEMORY, HQ_NO_NAME};
-use cax64_plain::HqInst;
-use cax64_plain::status::{HQ_BAD_INST, HQ_BAD_LINE, HQ_FULL, HQ_OK};
 use std::alloc::Global;
-use x64_core::extension::Extension;
-use x64_core::{Core, Op};
-use x64_core_text::CoreText;
+use x64_core::Core;
+use x64_lines::Op;
+use x64_lines::extension::Extension;
+use x64_plain::HqInst;
+use x64_plain::status::{HQ_BAD_INST, HQ_BAD_LINE, HQ_FULL, HQ_OK};
+use x64_text::CoreText;
 
 /// Puts bytes at the front of others, if there is room for them, and tells how many they are.
 fn hand_out(bytes: &[u8], text: &mut [u8], len: &mut usize) -> i32

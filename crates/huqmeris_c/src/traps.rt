@@ -2,14 +2,14 @@
 
 ghost use Rattle.std.specs.Prelude.{◌≡◌, ◌++◌, ◌∷◌, ◌⊎◌, [], IfErr, OnOk};
 ghost use Rattle.huqmeris_c.specs.Putting.{traps_in};
-ghost use Rattle.cax64_plain.specs.declared.status.TheConstants.{HQ_OUT_OF_RANGE};
+ghost use Rattle.x64_plain.specs.declared.status.TheConstants.{HQ_OUT_OF_RANGE};
 ghost use Rattle.huqmeris_c.specs.declared.status.TheConstants.{HQ_NO_MEMORY};
 
 use crate::status::HQ_NO_MEMORY;
-use cax64_plain::HqUse;
-use cax64_plain::status::HQ_OUT_OF_RANGE;
 use cax64_sink::Notice;
 use std::alloc::Global;
+use x64_plain::HqUse;
+use x64_plain::status::HQ_OUT_OF_RANGE;
 
 /// Lists a notice behind others where it tells a trap.
 fn list_trap(notice: &Notice, list: &mut Vec<HqUse, Global>) -> Result<(), i32>

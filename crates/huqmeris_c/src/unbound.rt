@@ -1,4 +1,4 @@
-//! Items that refer to what has no place.
+//! Items that refer to what has no position.
 
 ghost use Rattle.std.specs.Prelude.{◌≡◌, ◌↔◌, IfNone, IfSome, IsTrue};
 ghost use Rattle.cax64_sink.specs.declared.DeferredTarget.{DeferredTarget};

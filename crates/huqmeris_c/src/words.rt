@@ -16,7 +16,7 @@ static ABOVE: [u64; 9] = [
     0,
 ];
 
-/// The eight bytes at a place.
+/// The eight bytes at a position.
 #[inline(always)]
 fn word_at(code: &[u8], at: usize) -> u64
     requires { at + 8 ≤ length code.now }
@@ -26,7 +26,7 @@ fn word_at(code: &[u8], at: usize) -> u64
     u64::from_le_bytes([b[0], b[1], b[2], b[3], b[4], b[5], b[6], b[7]])
 }
 
-/// Puts eight bytes at a place.
+/// Puts eight bytes at a position.
 #[inline(always)]
 fn put_word(code: &mut [u8], at: usize, word: u64)
     requires { at + 8 ≤ length code.old }

@@ -8,7 +8,7 @@
 mod list;
 mod step;
 
-use crate::list::bytes_of;
+use crate::list::hexadecimal_of;
 use std::alloc::{AllocError, Global};
 use std::process::ExitCode;
 use std::{fs, io};
@@ -37,7 +37,7 @@ fn counts_of(alloc: Global, text: &str) -> Result<Counts, AllocError> {
             counts.first = counts.first.or(Some(number));
             continue;
         };
-        if bytes_of(alloc, list)?.as_str() == wanted {
+        if hexadecimal_of(alloc, list)?.as_str() == wanted {
             counts.equal = counts.equal.saturating_add(1);
         } else {
             counts.first = counts.first.or(Some(number));

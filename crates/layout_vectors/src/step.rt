@@ -1,14 +1,14 @@
 //! A step of a list.
 
-use cax64_inst_data::InstData;
 use cax64_operand::Nop;
 use cax64_sink::Label;
+use cax64_test_support::Filler;
 use x64_assemble::Item;
 use x64_code_buffer::{Condition, Jump};
 
 /// The no-operation of so many bytes.
-fn nop_of(size: &str) -> Option<InstData> {
-    Some(InstData::nop(match size {
+fn nop_of(size: &str) -> Option<Filler> {
+    Some(Filler(match size {
         "1" => Nop::One,
         "2" => Nop::Two,
         "3" => Nop::Three,
@@ -52,7 +52,7 @@ fn label_of(text: &str) -> Option<Label> {
 }
 
 /// The item of a step.
-pub(crate) fn item_of(step: &str) -> Option<Item<InstData>> {
+pub(crate) fn item_of(step: &str) -> Option<Item<Filler>> {
     let (call, argument) = step.split_once(' ')?;
     match call {
         "nop" => Some(Item::Inst(nop_of(argument)?)),

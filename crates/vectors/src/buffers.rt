@@ -2,12 +2,13 @@
 
 use crate::columns::{write_bytes, write_notices, write_target};
 use crate::lists::has_changed;
-use crate::representation::{Representation, TakesEither};
+use crate::of_core::{core_if_any, note_core};
 use cranelift_assembler_x64::{
-    CodeSink, Constant, DeferredTarget, Instruction, InstructionText, Label, Numbers, SinkError,
+    CodeSink, Constant, DeferredTarget, Instruction, Label, Numbers, RowAndOperands, SinkError,
 };
 use named_instructions::address::target_of;
 use named_instructions::fields::{Fault, Fields, parsed};
+use named_instructions::{TakesInstruction, take_instruction};
 use std::alloc::Global;
 use x64_code_buffer::{BindError, CodeBuffer, Condition, FinishError, Jump, patched_field};
 
@@ -23,21 +24,41 @@ pub(crate) fn answer_patched(fields: &mut Fields<'_>, came: &mut String) -> Resu
     Ok(())
 }
 
-/// The buffer that an instruction is pushed to.
+/// A buffer that instructions are pushed to.
 #[derive(Drop)]
-struct Pushed<'a>(&'a mut CodeBuffer<Global>);
+struct Pushed {
+    buffer: CodeBuffer<Global>,
+    /// Whether an instruction of the core is pushed in the place of one that it is.
+    of_core: bool,
+    /// How many of them are.
+    cores: usize,
+}
 
-impl TakesEither for Pushed<'_> {
+impl Pushed {
+    fn new(alloc: Global, of_core: bool) -> Pushed {
+        Pushed {
+            buffer: CodeBuffer::new(alloc),
+            of_core,
+            cores: 0,
+        }
+    }
+}
+
+impl TakesInstruction for Pushed {
     type Answer = Result<(), Fault>;
 
-    fn take_either<I: Instruction<Family = Numbers> + InstructionText + Drop>(
-        &mut self,
-        inst: I,
-    ) -> Result<(), Fault> {
-        if !inst.is_encodable(&*self.0) {
+    fn take<I: RowAndOperands<Family = Numbers> + Drop>(&mut self, inst: I) -> Result<(), Fault> {
+        if !inst.is_encodable(&self.buffer) {
             return Err(Fault::Malformed);
         }
-        self.0.push(&inst).map_err(|_| Fault::NoMemory)
+        if !self.of_core {
+            return self.buffer.push(&inst).map_err(|_| Fault::NoMemory);
+        }
+        let Some(core) = core_if_any(&inst, &self.buffer)? else {
+            return self.buffer.push(&inst).map_err(|_| Fault::NoMemory);
+        };
+        self.cores = self.cores.saturating_add(1);
+        self.buffer.push_checked(&core).map_err(|_| Fault::NoMemory)
     }
 }
 
@@ -118,46 +139,38 @@ fn put(buffer: &mut CodeBuffer<Global>, call: &str, value: &str) -> Result<(), F
 
 /// Makes a call that has an argument, and writes its answer.
 fn make_call(
-    alloc: Global,
-    representation: Representation,
-    buffer: &mut CodeBuffer<Global>,
+    pushed: &mut Pushed,
     call: &str,
     argument: &str,
     came: &mut String,
 ) -> Result<(), Fault> {
     match call {
         "bind" => {
-            let bound = buffer.bind(label_of(argument)?);
+            let bound = pushed.buffer.bind(label_of(argument)?);
             write_bound(came, bound)
         }
         "bind_constant" => {
-            let bound = buffer.bind_constant(constant_of(argument)?);
+            let bound = pushed.buffer.bind_constant(constant_of(argument)?);
             write_bound(came, bound)
         }
         "push" => {
             let (name, values) = argument.split_once(' ').ok_or(Fault::Malformed)?;
-            representation.take(alloc, name, values, &mut Pushed(buffer))??;
+            take_instruction(name, values, pushed)??;
             write_bound(came, Ok(()))
         }
         "jump" => {
-            push_jump(buffer, argument)?;
+            push_jump(&mut pushed.buffer, argument)?;
             write_bound(came, Ok(()))
         }
         _ => {
-            put(buffer, call, argument)?;
+            put(&mut pushed.buffer, call, argument)?;
             write_bound(came, Ok(()))
         }
     }
 }
 
 /// Makes the calls of a script, and writes the answer of each: `-` where there is none.
-fn run_script(
-    alloc: Global,
-    representation: Representation,
-    buffer: &mut CodeBuffer<Global>,
-    script: &str,
-    came: &mut String,
-) -> Result<(), Fault> {
+fn run_script(pushed: &mut Pushed, script: &str, came: &mut String) -> Result<(), Fault> {
     if script == "-" {
         came.push('-')?;
         return Ok(());
@@ -170,9 +183,9 @@ fn run_script(
         is_first = false;
         match step.split_once(' ') {
             Some((call, argument)) => {
-                make_call(alloc, representation, buffer, call, argument, came)?;
+                make_call(pushed, call, argument, came)?;
             }
-            None if step == "new_label" => new_label(buffer, came)?,
+            None if step == "new_label" => new_label(&mut pushed.buffer, came)?,
             None => return Err(Fault::Malformed),
         }
     }
@@ -196,37 +209,58 @@ fn write_finished(came: &mut String, buffer: CodeBuffer<Global>) -> Result<(), F
     }
 }
 
-/// A buffer from its making to its end. The first of two stages, in which an 8-bit form with a digit of 4 to 7 had a REX
-/// byte for the digit, is passed over where such a form is pushed.
+/// The answers of a buffer from its making to its end, its notices and its code. Answers how many instructions of the core it has.
+fn write_buffer(mut pushed: Pushed, script: &str, came: &mut String) -> Result<usize, Fault> {
+    run_script(&mut pushed, script, came)?;
+    came.push('\t')?;
+    write_notices(came, pushed.buffer.notices())?;
+    came.push('\t')?;
+    write_finished(came, pushed.buffer)?;
+    Ok(pushed.cores)
+}
+
+/// What comes of a buffer, and whether instructions of the core are pushed to it too. The first of two stages, in which an 8-bit
+/// form with a digit of 4 to 7 had a REX byte for the digit, is passed over where such a form is pushed.
 pub(crate) fn answer_buffer(
     alloc: Global,
-    representation: Representation,
     fields: &mut Fields<'_>,
     came: &mut String,
-) -> Result<(), Fault> {
+) -> Result<bool, Fault> {
     let stage = fields.text()?;
     let script = fields.text()?;
     if stage == "1" && has_changed(script) {
         return Err(Fault::PassedOver);
     }
-    let mut buffer = CodeBuffer::new(alloc);
-    run_script(alloc, representation, &mut buffer, script, came)?;
-    came.push('\t')?;
-    write_notices(came, buffer.notices())?;
-    came.push('\t')?;
-    write_finished(came, buffer)
+    let mut of_core = String::new(alloc);
+    write_buffer(Pushed::new(alloc, false), script, came)?;
+    let cores = write_buffer(Pushed::new(alloc, true), script, &mut of_core)?;
+    note_core(came, of_core.as_str())?;
+    Ok(cores > 0)
 }
 
-/// The bytes of a buffer with jumps.
+/// The code of a buffer with jumps. Answers how many instructions of the core it has.
+fn write_jumps(
+    alloc: Global,
+    mut pushed: Pushed,
+    script: &str,
+    came: &mut String,
+) -> Result<usize, Fault> {
+    let mut answers = String::new(alloc);
+    run_script(&mut pushed, script, &mut answers)?;
+    write_finished(came, pushed.buffer)?;
+    Ok(pushed.cores)
+}
+
+/// The bytes of a buffer with jumps, and whether instructions of the core are pushed to it too.
 pub(crate) fn answer_jumps(
     alloc: Global,
-    representation: Representation,
     fields: &mut Fields<'_>,
     came: &mut String,
-) -> Result<(), Fault> {
+) -> Result<bool, Fault> {
     let script = fields.text()?;
-    let mut buffer = CodeBuffer::new(alloc);
-    let mut answers = String::new(alloc);
-    run_script(alloc, representation, &mut buffer, script, &mut answers)?;
-    write_finished(came, buffer)
+    let mut of_core = String::new(alloc);
+    write_jumps(alloc, Pushed::new(alloc, false), script, came)?;
+    let cores = write_jumps(alloc, Pushed::new(alloc, true), script, &mut of_core)?;
+    note_core(came, of_core.as_str())?;
+    Ok(cores > 0)
 }

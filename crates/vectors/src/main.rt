@@ -14,11 +14,12 @@ mod encoding;
 mod immediates;
 mod lists;
 mod names;
+mod of_core;
 mod prefixes;
 mod program;
+mod puts;
 mod reading;
 mod report;
-mod representation;
 mod rows;
 mod sinks;
 mod tails;
@@ -26,7 +27,6 @@ mod texts;
 mod visits;
 
 use crate::report::{Difference, Report, report_of};
-use crate::representation::Representation;
 use named_instructions::fields::{Fault, Fields};
 use std::alloc::Global;
 use std::io::ErrorKind;
@@ -153,25 +153,32 @@ impl Kind {
         }
     }
 
-    /// Whether a line has instructions, which are given as data too.
-    pub(crate) fn has_instructions(self) -> bool {
-        matches!(
-            self,
-            Kind::Rows
-                | Kind::Instructions
-                | Kind::Worked
-                | Kind::Faults
-                | Kind::Refusals
-                | Kind::Buffers
-                | Kind::Jumps
-        )
-    }
-
-    /// Reads what goes in, and writes what comes out as the columns that are left.
+    /// Reads what goes in, and writes what comes out as the columns that are left. Answers whether instructions of the core were
+    /// put in the place of those of the port too, to compare what comes of them.
     fn answer(
         self,
         alloc: Global,
-        representation: Representation,
+        fields: &mut Fields<'_>,
+        came: &mut String,
+    ) -> Result<bool, Fault> {
+        match self {
+            Kind::Instructions => encoding::answer_instruction(alloc, fields, came),
+            Kind::Worked => encoding::answer_worked(alloc, fields, came),
+            Kind::Faults => encoding::answer_fault(alloc, fields, came),
+            Kind::Refusals => lists::answer_refusal(alloc, fields, came),
+            Kind::Buffers => buffers::answer_buffer(alloc, fields, came),
+            Kind::Jumps => buffers::answer_jumps(alloc, fields, came),
+            _ => {
+                self.answer_of_port(alloc, fields, came)?;
+                Ok(false)
+            }
+        }
+    }
+
+    /// The same of a line from which no instruction is put.
+    fn answer_of_port(
+        self,
+        alloc: Global,
         fields: &mut Fields<'_>,
         came: &mut String,
     ) -> Result<(), Fault> {
@@ -187,17 +194,12 @@ impl Kind {
             Kind::Immediates => immediates::answer_immediate(alloc, fields, came),
             Kind::Ranges => immediates::answer_range(fields, came),
             Kind::Names => names::answer_name(fields, came),
-            Kind::Rows => rows::answer_row(alloc, representation, fields, came),
-            Kind::Instructions => encoding::answer_instruction(alloc, representation, fields, came),
-            Kind::Worked => encoding::answer_worked(alloc, representation, fields, came),
-            Kind::Faults => encoding::answer_fault(alloc, representation, fields, came),
-            Kind::Refusals => lists::answer_refusal(alloc, representation, fields, came),
+            Kind::Rows => rows::answer_row(fields, came),
             Kind::Reader => reading::answer_reading(alloc, fields, came),
             Kind::Program => program::answer_program(alloc, fields, came),
             Kind::Addresses => texts::answer_address(alloc, fields, came),
             Kind::Patched => buffers::answer_patched(fields, came),
-            Kind::Buffers => buffers::answer_buffer(alloc, representation, fields, came),
-            Kind::Jumps => buffers::answer_jumps(alloc, representation, fields, came),
+            _ => Err(Fault::Malformed),
         }
     }
 }
@@ -246,8 +248,14 @@ fn print_report(rt: &impl Print, name: &str, kind: Kind, report: &Report) -> io:
     }
 }
 
-/// Compares a file and prints what it came to. Answers whether all lines are equal, or the file is absent.
-fn run_file(rt: &HostRuntime, front: &str, kind: Kind) -> io::Result<bool> {
+/// Compares a file and prints what it came to, and counts its cases of the core. Answers whether all lines are equal, or the file
+/// is absent.
+fn run_file(
+    rt: &HostRuntime,
+    front: &str,
+    kind: Kind,
+    cases_of_core: &mut usize,
+) -> io::Result<bool> {
     let end = kind.name();
     let name = format!(in rt.alloc(); "{front}{end}")?;
     let path = format!(in rt.alloc(); "{front}{end}.tsv")?;
@@ -261,17 +269,20 @@ fn run_file(rt: &HostRuntime, front: &str, kind: Kind) -> io::Result<bool> {
     };
     let report = report_of(rt.alloc(), kind, text.as_str())?;
     print_report(rt, name.as_str(), kind, &report)?;
+    *cases_of_core = cases_of_core.saturating_add(report.of_core);
     Ok(report.is_clean())
 }
 
 fn main(rt: HostRuntime) -> io::Result<ExitCode> {
     let mut clean = true;
+    let mut cases_of_core = 0usize;
     for kind in KINDS {
-        clean = run_file(&rt, "", kind)? && clean;
+        clean = run_file(&rt, "", kind, &mut cases_of_core)? && clean;
         if kind.has_worked_rows() {
-            clean = run_file(&rt, "worked_", kind)? && clean;
+            clean = run_file(&rt, "worked_", kind, &mut cases_of_core)? && clean;
         }
     }
+    println!(rt; "cases_of_core: {cases_of_core} equal")?;
     Ok(if clean {
         ExitCode::SUCCESS
     } else {

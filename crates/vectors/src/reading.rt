@@ -3,9 +3,11 @@
 ghost use Rattle.std.specs.Prelude.{◌<◌, IfOk};
 
 use cranelift_assembler_x64::reader::{Place, Reading, RegView, read_inst};
-use cranelift_assembler_x64::{InstData, Instruction, Row};
 use named_instructions::fields::{Fault, Fields};
 use std::alloc::Global;
+use x64_core::Core;
+use x64_lines::Op;
+use x64_reader::{CoreReading, read_core};
 
 fn digit_of(byte: u8) -> Result<u8, Fault>
     ensures { IfOk result (λ digit. digit < 16) }
@@ -116,35 +118,64 @@ pub(crate) fn note_front(came: &mut String, bytes: &[u8]) -> Result<(), Fault> {
     Ok(())
 }
 
-/// Whether no data is made of a reading: it names a high byte, memory without a base or relative to the end, or it is a
-/// no-operation, of which there are nine alone.
-fn has_no_data(reading: &Reading) -> bool {
+/// Whether a reading is that of the row's line.
+fn is_of_its_line(reading: &Reading, line: &CoreReading) -> bool {
+    line.op == Op::of_row(reading.row)
+        && line.length == reading.length
+        && line.tail == reading.tail
+        && line.reg == reading.reg
+        && line.vvvv == reading.vvvv
+        && line.place == reading.place
+        && line.imm == reading.imm
+}
+
+/// Whether no instruction of the core is made of a reading: it names a high byte, or memory without a base or relative to the
+/// end.
+fn has_no_core(reading: &CoreReading) -> bool {
     let is_high = matches!(reading.reg, Some(RegView::High(_)));
     let has_no_place = matches!(
         reading.place,
         Some(Place::Reg(RegView::High(_)) | Place::Rip(_) | Place::Mem { base: None, .. })
     );
-    is_high || has_no_place || matches!(reading.row, Row::nopl_rm | Row::nopw_rm)
+    is_high || has_no_place
 }
 
 /// Whether what is made of a reading is read as the same operands, and isn't longer.
-fn is_made_again(alloc: Global, reading: &Reading) -> bool {
-    let Some(data) = InstData::of_reading(reading) else {
-        return has_no_data(reading);
+fn is_made_again(alloc: Global, reading: &CoreReading) -> bool {
+    let Some(core) = Core::of_reading(reading) else {
+        return has_no_core(reading);
     };
     let mut code: Vec<u8> = Vec::new(alloc);
-    if !data.is_encodable(&code) || data.encode(&mut code).is_err() {
+    if core.encode_checked(&mut code).is_err() {
         return false;
     }
-    let Some(again) = read_inst(code.as_slice()) else {
+    let Some(again) = read_core(code.as_slice()) else {
         return false;
     };
     again.length <= reading.length
-        && Reading {
+        && CoreReading {
             length: again.length,
             tail: again.tail,
             ..*reading
         } == again
+}
+
+/// Notes where the core's reader reads something else, or nothing is made again of what it reads.
+fn note_core(
+    alloc: Global,
+    came: &mut String,
+    reading: &Reading,
+    bytes: &[u8],
+) -> Result<(), Fault> {
+    match read_core(bytes) {
+        Some(line) if is_of_its_line(reading, &line) => {
+            if !is_made_again(alloc, &line) {
+                came.push_str(" but the core of it is read as another")?;
+            }
+        }
+        _ => came.push_str(" but the core's reader reads another")?,
+    }
+    Ok(())
 }
 
 pub(crate) fn answer_reading(
@@ -158,14 +189,15 @@ pub(crate) fn answer_reading(
     match read_inst(&bytes) {
         Some(reading) => {
             write_reading(came, &reading)?;
-            if !is_made_again(alloc, &reading) {
-                came.push_str(" but data of it is read as another")?;
-            }
+            note_core(alloc, came, &reading, &bytes)?;
             let own = bytes.get(..usize::from(reading.length));
             note_front(came, own.ok_or(Fault::Malformed)?)
         }
         None => {
             came.push_str("none\t-\t-\t-\t-\t-\t-")?;
+            if read_core(&bytes).is_some_and(|line| line.op.row().is_some()) {
+                came.push_str(" but the core's reader reads a row")?;
+            }
             Ok(())
         }
     }

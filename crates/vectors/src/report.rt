@@ -1,7 +1,6 @@
 //! The comparison of a file.
 
 use crate::Kind;
-use crate::representation::Representation;
 use named_instructions::fields::{Fault, Fields};
 use std::alloc::{AllocError, Global};
 
@@ -21,6 +20,8 @@ pub struct Report {
     pub equal: usize,
     /// Fronts of instructions that are read as none, in the lines that are equal.
     pub fronts: usize,
+    /// The lines that are equal, and came out the same of instructions of the core.
+    pub of_core: usize,
     pub passed_over: usize,
     pub malformed: usize,
     /// Whether it has columns that are left out.
@@ -35,6 +36,7 @@ impl Report {
             lines: 0,
             equal: 0,
             fronts: 0,
+            of_core: 0,
             passed_over: 0,
             malformed: 0,
             leaves_out: false,
@@ -49,9 +51,14 @@ impl Report {
     }
 
     fn compare(&mut self, kind: Kind, line: usize, answer: Answer) {
-        let Answer { wanted, came } = answer;
+        let Answer {
+            wanted,
+            came,
+            of_core,
+        } = answer;
         if came == wanted {
             self.equal = self.equal.saturating_add(1);
+            self.of_core = self.of_core.saturating_add(usize::from(of_core));
             self.fronts = self.fronts.saturating_add(kind.fronts(came.as_str()));
         } else if self.first_difference.is_none() {
             self.first_difference = Some(Difference { line, wanted, came });
@@ -71,6 +78,8 @@ impl Report {
 struct Answer {
     wanted: String,
     came: String,
+    /// Whether it's the answer of instructions of the core too.
+    of_core: bool,
 }
 
 /// The columns of a line but those of the names that are left out, with the tabs between them.
@@ -91,31 +100,18 @@ fn columns_but(alloc: Global, left_out: &[&str], names: &str, line: &str) -> Res
     Ok(columns)
 }
 
-fn answer_as(
-    alloc: Global,
-    kind: Kind,
-    representation: Representation,
-    columns: &str,
-) -> Result<Answer, Fault> {
-    let mut fields = Fields::new(columns);
-    let mut came = String::new(alloc);
-    kind.answer(alloc, representation, &mut fields, &mut came)?;
-    let wanted = String::from_str(alloc, fields.rest()?)?;
-    Ok(Answer { wanted, came })
-}
-
-/// The answer of a line: of the first type whose answer isn't the wanted one, or of the last.
+/// The answer of a line.
 fn answer_of(alloc: Global, kind: Kind, names: &str, line: &str) -> Result<Answer, Fault> {
     let columns = columns_but(alloc, kind.unanswered(), names, line)?;
-    let columns = columns.as_str();
-    let mut answer = answer_as(alloc, kind, Representation::Enumeration, columns)?;
-    if kind.has_instructions() && answer.came == answer.wanted {
-        answer = answer_as(alloc, kind, Representation::Data, columns)?;
-        if answer.came != answer.wanted {
-            answer.came.push_str(" (as data)")?;
-        }
-    }
-    Ok(answer)
+    let mut fields = Fields::new(columns.as_str());
+    let mut came = String::new(alloc);
+    let of_core = kind.answer(alloc, &mut fields, &mut came)?;
+    let wanted = String::from_str(alloc, fields.rest()?)?;
+    Ok(Answer {
+        wanted,
+        came,
+        of_core,
+    })
 }
 
 /// Compares each line of a file but the first, which names the columns behind a `#`.

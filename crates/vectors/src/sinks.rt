@@ -1,13 +1,13 @@
 //! The sinks that users have, beside the one that keeps the calls.
 
 use crate::encoding::recorder_of;
-use cax64_test_support::CallRecorder;
-use cranelift_assembler_x64::{CodeSink, EncodeError, FixedSink, Instruction};
+use cranelift_assembler_x64::{CodeSink, EncodeError, FixedSink, Notice};
 use named_instructions::fields::Fault;
 use std::alloc::Global;
+use x64_encode::Encode;
 
 /// Whether a sink takes an instruction, where that can be encoded.
-fn takes<I: Instruction, S: CodeSink>(inst: &I, sink: &mut S) -> Option<bool> {
+fn takes<I: Encode, S: CodeSink>(inst: &I, sink: &mut S) -> Option<bool> {
     if !inst.is_encodable(sink) {
         return None;
     }
@@ -15,7 +15,7 @@ fn takes<I: Instruction, S: CodeSink>(inst: &I, sink: &mut S) -> Option<bool> {
 }
 
 /// The same by the one call that tests and puts. At a fault nothing is put.
-fn takes_checked<I: Instruction, S: CodeSink>(inst: &I, sink: &mut S) -> Option<bool> {
+fn takes_checked<I: Encode, S: CodeSink>(inst: &I, sink: &mut S) -> Option<bool> {
     match inst.encode_checked(sink) {
         Ok(()) => Some(true),
         Err(EncodeError::Fault(_)) => None,
@@ -23,21 +23,21 @@ fn takes_checked<I: Instruction, S: CodeSink>(inst: &I, sink: &mut S) -> Option<
     }
 }
 
-/// Whether a recorder that knows these offsets, a vector and a sink of fixed size keep the same of an instruction as the
-/// one that it was put into.
-pub(crate) fn keep_the_same<I: Instruction>(
+/// Whether a recorder that knows these offsets, a vector and a sink of fixed size keep these bytes of an instruction, and the
+/// recorder these notices.
+pub(crate) fn keep_the_same<I: Encode>(
     alloc: Global,
     inst: &I,
     offsets: &str,
-    kept: &CallRecorder<Global>,
+    bytes: &[u8],
+    notices: &[Notice],
 ) -> Result<bool, Fault> {
-    let bytes = kept.bytes();
     let mut recorder = recorder_of(alloc, offsets)?;
     let mut vector: Vec<u8> = Vec::new(alloc);
     let mut fixed = FixedSink::<13>::new();
     let recorded = takes_checked(inst, &mut recorder) == Some(true)
         && recorder.bytes() == bytes
-        && recorder.notices() == kept.notices();
+        && recorder.notices() == notices;
     let as_bytes = match (takes(inst, &mut vector), takes_checked(inst, &mut fixed)) {
         (Some(true), Some(true)) => vector.as_slice() == bytes && fixed.bytes() == bytes,
         // They know no offset.

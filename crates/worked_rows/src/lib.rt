@@ -7,16 +7,6 @@ mod addresses;
 #[cfg(test)]
 mod checked;
 #[cfg(test)]
-mod data;
-#[cfg(test)]
-mod data_makers;
-#[cfg(test)]
-mod data_short;
-#[cfg(test)]
-mod data_texts;
-#[cfg(test)]
-mod data_values;
-#[cfg(test)]
 mod families;
 #[cfg(test)]
 mod fixed_sinks;

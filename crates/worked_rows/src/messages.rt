@@ -1,8 +1,6 @@
 //! Texts of errors.
 
-use cranelift_assembler_x64::{
-    DataError, EncodeError, Fault, OutOfRange, Refused, SinkError, Stopped,
-};
+use cranelift_assembler_x64::{EncodeError, Fault, OutOfRange, Refused, SinkError, Stopped};
 use std::alloc::AllocError;
 
 #[test]
@@ -71,20 +69,5 @@ fn faults_of_a_late_offset_print(rt: HostRuntime) -> Result<(), AllocError> {
     assert!(rt; unknown.as_str() == "the late offset 7 isn't known");
     let range = Fault::Range.to_string(rt.alloc())?;
     assert!(rt; range.as_str() == "the late offset plus the displacement doesn't fit in 32 bits");
-    Ok(())
-}
-
-#[test]
-fn refusals_of_operands_print(rt: HostRuntime) -> Result<(), AllocError> {
-    let alloc = rt.alloc();
-    let nop = DataError::Nop.to_string(alloc)?;
-    assert!(rt; nop.as_str() == "a no-operation is made by its length");
-    assert!(rt; DataError::Count(0).to_string(alloc)?.as_str() == "the row takes 0 operands");
-    assert!(rt; DataError::Count(1).to_string(alloc)?.as_str() == "the row takes 1 operand");
-    assert!(rt; DataError::Count(2).to_string(alloc)?.as_str() == "the row takes 2 operands");
-    let kind = DataError::Kind(1).to_string(alloc)?;
-    assert!(rt; kind.as_str() == "operand 1 is of another kind than the row takes there");
-    let range = DataError::Range(0).to_string(alloc)?;
-    assert!(rt; range.as_str() == "operand 0 is an immediate out of its range");
     Ok(())
 }

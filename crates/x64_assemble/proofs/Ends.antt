@@ -23,7 +23,7 @@ pub ok_given : {E P : Type 0} (r : Result (Unit {0}) E) → is_ok r ≡ true →
 ok_given (Ok tt) is h = h
 ok_given (Err e) is h = cc
 
--- the place of the end
+-- the position of the end
 pub all_bytes : (lens : List ℕ) (n : ℕ) → length lens ≡ n → place_in lens n ≡ sum lens
 all_bytes lens n e = ap sum (take_all n lens (omega arith))
 
@@ -46,7 +46,7 @@ bound_behind items lens from_at end old new size bound others goes_to place e = 
     by_target (target.Constant constant) e = inl (sym (others (target.Constant constant) tt) ∙ e)
     by_target target.None e = inl (sym (others target.None tt) ∙ e)
 
--- a place that a reading or a piece begins at, or that lies behind all of them
+-- a position that a reading or a piece begins at, or that lies behind all of them
 stands : (B : ℕ → Type 0) (n end place from_at : ℕ) (was : Type 0) → n ≤ from_at → from_at ≤ end → (was → (B place ⊎ (n ≤ place)) × (place ≤ from_at)) → was ⊎ ((from_at ≤ place) × (place ≤ end)) → (B place ⊎ (n ≤ place)) × (place ≤ end)
 stands B n end place from_at was within longer h (inl w) = ((h w).0, omega (arith, (h w).1))
 stands B n end place from_at was within longer h (inr k) = (inr (omega (arith, k.0)), k.1)

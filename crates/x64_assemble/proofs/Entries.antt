@@ -178,7 +178,7 @@ far_stands Always lens n spot (inr h) two = h
 far_stands (If condition) lens n spot (inl h) two = absurd (two h.0)
 far_stands (If condition) lens n spot (inr h) two = h
 
--- the next entry of a list that is an instruction, or a jump
+-- the next span of a list that is an instruction, or a jump
 
 pub inst_at : {I : Type 0} (len : I → ℕ) (items : List (Item I)) (k : ℕ) (inst : I) (lens : List ℕ) → slice_get items k ≡ Some (item.Inst inst) → IsLayout (spans_of len items items) lens → (entries (take k items) < length lens) × (slice_index lens (entries (take k items)) ≡ len inst)
 inst_at len items k inst lens is layout =

@@ -11,7 +11,7 @@ use Rattle.cax64_sink.specs.declared.Label.{Label}
 
 -- Lists with an item more.
 
--- an item is an entry
+-- an item is a span
 abbrev pub counted : {I : Type 0} → Item I → ℕ
 counted (item.Inst inst) = 1
 counted (item.Jump jump to) = 1
@@ -31,7 +31,7 @@ entries_most (item.Inst inst ∷ xs) = omega (arith, entries_most xs)
 entries_most (item.Jump jump to ∷ xs) = omega (arith, entries_most xs)
 entries_most (item.Bind bound ∷ xs) = omega (arith, entries_most xs)
 
--- the spot of a label that the item behind so many entries has, if it is its place
+-- the spot of a label that the item behind so many spans has, if it is its position
 abbrev pub spot_here : {I : Type 0} → ℕ → ℕ → Item I → Option ℕ
 spot_here label n (item.Inst inst) = None
 spot_here label n (item.Jump jump to) = None
@@ -130,7 +130,7 @@ noted_inst binders xs (item.Bind bound) one h = absurd (omega arith)
 abbrev pub note : ℕ → ℕ → Binder
 note n spot = record { item = n; spot = spot }
 
--- what is noted of a label's place behind some items
+-- what is noted of a label's position behind some items
 abbrev pub noted_at : {I : Type 0} → List (Item I) → Binder
 noted_at xs = record { item = length xs; spot = entries xs }
 
@@ -147,7 +147,7 @@ bind_by {I = I} binders xs bound label within free h (inr ne) =
     let none : option_or (spot_of label xs) (spot_here {I = I} label (entries xs) (item.Bind bound)) ≡ spot_of label xs = ap (λ (b : Bool). option_or (spot_of label xs) (if b then Some (entries xs) else None)) not_it ∙ or_none (spot_of label xs) in
     here ∙ noted_other binders label xs (item.Bind bound) not_it ∙ h label ∙ sym none ∙ sym (spot_push label xs (item.Bind bound))
 
--- a label's place is noted
+-- a label's position is noted
 pub noted_bind : {I : Type 0} (binders : List Binder) (xs : List (Item I)) (bound : Label) → bound.0 < length binders → spot_of bound.0 xs ≡ None → AreBinders xs binders → AreBinders (xs ++ item.Bind bound ∷ []) (set binders bound.0 (noted_at xs))
 noted_bind binders xs bound within free h = λ label. bind_by binders xs bound label within free h (cases_eq label bound.0)
 

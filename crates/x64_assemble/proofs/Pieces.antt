@@ -26,7 +26,7 @@ use Rattle.x64_assemble.proofs.Told.{item_told, pieces_length, pieces_total, tol
 
 -- A list on its way into a buffer, one item longer.
 
--- what an item is read as, if it is an entry
+-- what an item is read as, if it is a span
 abbrev pub ItemReads : {I : Type 0} → (I → Listed) → List ℕ → List (Item I) → ℕ → Item I → Piece → Type 0
 ItemReads meant lens all n (item.Inst inst) p = WholeReads (meant inst).parts p
 ItemReads meant lens all n (item.Jump jump to) p = JumpReads lens n jump (spot_of to.0 all) p
@@ -95,7 +95,7 @@ put_none meant lens all s places bytes notices = record {
   notice_room = fewer s.notice_room _ (1 + length all) (omega arith) notices;
 }
 
--- An entry more.
+-- A span more.
 pub put_entry : {I : Type 0} (meant : I → Listed) (lens : List ℕ) (all xs : List (Item I)) (x : Item I) (s u t : State) (old mid new : DeferredTarget → Option ℕ) → counted x ≡ 1 → entries xs < length lens → length xs < length all → Put meant lens all xs s u old mid → GotEntry (ItemReads meant lens all (entries xs) x) (item_told meant all x) (slice_index lens (entries xs)) u t mid new → Put meant lens all (xs ++ x ∷ []) s t old new
 put_entry {I = I} meant lens all xs x s u t old mid new one within few held got =
     let e : entries (xs ++ x ∷ []) ≡ entries xs + 1 = omega (arith, entries_push xs x, one) in
@@ -128,7 +128,7 @@ put_entry {I = I} meant lens all xs x s u t old mid new one within few held got 
       notice_room = got.notice_room (1 + (length all - length (xs ++ x ∷ []))) (subst (HasRoom u.notice_room) notices held.notice_room);
     }
 
--- A label's place.
+-- A label's position.
 
 abbrev number_of : DeferredTarget → ℕ
 number_of (target.Label label) = label.0

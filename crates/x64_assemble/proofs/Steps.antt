@@ -74,7 +74,7 @@ is_piece p meant added read e = record {
   least = rw e read.least;
 }
 
--- One entry that is put.
+-- One span that is put.
 
 pub given_ok : {E P : Type 0} (r : Result (Unit {0}) E) (v : Unit {0}) → r ≡ Ok v → OnOk r P → P
 given_ok (Ok tt) v is h = h
@@ -169,7 +169,7 @@ got_near jump label lens n spot z s t old new there size same near places keeps 
     got_from whole (jump_parts (line_of row) z) (JumpReads lens n jump (Some spot)) (jump_told (Some spot) label) (slice_index lens n) 0 s t old new adds.added adds.reads (λ r. refl) (λ r e. e ∙ meant) adds.bytes all places keeps (subst (FallsBy s.byte_room t.byte_room) (sym size) room) notices (omega arith)
     (λ pieces h. of_some (λ (w : Row). LaidOn whole (jump_parts (line_of w) z) pieces t new) (short_row jump) row is (laid pieces h)) (tells_nothing s t adds.notices)
 
--- What is computed of two places is their distance.
+-- What is computed of two positions is their distance.
 
 cast_is : (p q : ℕ) (a b : ℤ) → a ≡ pos p → b ≡ pos q → p < 2 ^ 31 → q < 2 ^ 31 → to_z w64 (of_z w64 (to_z w64 (of_z w64 a) -ℤ to_z w64 (of_z w64 b))) ≡ pos p -ℤ pos q
 cast_is p q a b ea eb p_small q_small =

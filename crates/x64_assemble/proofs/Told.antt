@@ -40,7 +40,7 @@ laid_total ps s places h =
     let reads : LinesRead (readings_in ps) s.bytes = rw (take-length s.bytes) at h.reads in
     pieces_total ps s.bytes reads
 
--- One entry.
+-- One span.
 
 -- a place that counts from its instruction's end has a field
 field_there : (at x : ℕ) (r : LineReading) (o : Option Place) (z : ℤ) → relative_in o ≡ Some z → x ≡ at + line_field_place r → x ∷ [] ≡ line_field_at at r o
@@ -76,7 +76,7 @@ tells_inst {M = M} m s t records relative adds =
 
 -- A list that is one item longer.
 
--- what an item tells, if it is an entry
+-- what an item tells, if it is a span
 abbrev pub item_told : {I : Type 0} → (I → Listed) → List (Item I) → Item I → ℕ → Piece → List Notice
 item_told meant all (item.Inst inst) at p = (meant inst).tells at p
 item_told meant all (item.Jump jump to) at p = jump_told (spot_of to.0 all) to at p

@@ -1,4 +1,4 @@
--- What a list of instructions, jumps to labels and places of labels becomes in a buffer.
+-- What a list of instructions, jumps to labels and positions of labels becomes in a buffer.
 use Rattle.std.specs.Prelude.{◌≡◌, ℕ, suc, ◌+◌, ℤ, pos, ◌-ℤ◌, ◌==◌, if◌then◌else◌, Option, Some, None, option_map, unwrap_or, List, [], ◌∷◌, ◌++◌, length, sum, slice_index}
 use Rattle.cax64_machine_code.specs.Reading.{PartsOf}
 use Rattle.cax64_machine_code.specs.Rows.{line_of}
@@ -22,14 +22,14 @@ use Rattle.x64_assemble.specs.Listed.{Listed, use_told}
 use Rattle.x64_assemble.specs.declared.item.Item.{Item}
 use Rattle.x64_assemble.specs.declared.item.Item.TheVariants as item
 
--- how many entries a list has: instructions and jumps
+-- how many spans a list has: instructions and jumps
 abbrev pub entries : {I : Type 0} → List (Item I) → ℕ
 entries [] = 0
 entries (item.Inst inst ∷ later) = suc (entries later)
 entries (item.Jump jump to ∷ later) = suc (entries later)
 entries (item.Bind bound ∷ later) = entries later
 
--- how many entries stand in front of a label's place, if the list has it
+-- how many spans stand in front of a label's position, if the list has it
 abbrev pub spot_of : {I : Type 0} → ℕ → List (Item I) → Option ℕ
 spot_of label [] = None
 spot_of label (item.Inst inst ∷ later) = option_map suc (spot_of label later)
@@ -50,14 +50,14 @@ span_of Call (Some spot) = record { least = 5; more = 0; spot = None }
 span_of Always (Some spot) = record { least = 2; more = 3; spot = Some spot }
 span_of (If condition) (Some spot) = record { least = 2; more = 4; spot = Some spot }
 
--- the entries of a list, of which `all` has the labels, by what may be their lengths
+-- the spans of a list, of which `all` has the labels, by what may be their lengths
 abbrev pub spans_of : {I : Type 0} → (I → ℕ) → List (Item I) → List (Item I) → List Span
 spans_of len all [] = []
 spans_of len all (item.Inst inst ∷ later) = record { least = len inst; more = 0; spot = None } ∷ spans_of len all later
 spans_of len all (item.Jump jump to ∷ later) = span_of jump (spot_of to.0 all) ∷ spans_of len all later
 spans_of len all (item.Bind bound ∷ later) = spans_of len all later
 
--- the distance from the end of the n-th entry to the place of another
+-- the distance from the end of the n-th span to the position of another
 abbrev pub distance_in : List ℕ → ℕ → ℕ → ℤ
 distance_in lens n spot = pos (place_in lens spot) -ℤ pos (place_in lens (n + 1))
 
@@ -75,12 +75,12 @@ abbrev pub OpenReads : PartsOf Line → Piece → Type 0
 OpenReads meant (whole r) = ⊥
 OpenReads meant (open_jump r) = ◌≡◌ {A = PartsOf Line} (parts_in r) meant
 
--- what a jump that is the n-th entry is read as: by its distance to its spot; or open, if the list doesn't bind its label
+-- what a jump that is the n-th span is read as: by its distance to its spot; or open, if the list doesn't bind its label
 abbrev pub JumpReads : List ℕ → ℕ → Jump → Option ℕ → Piece → Type 0
 JumpReads lens n jump None p = OpenReads (jump_parts (line_of (long_row jump)) (pos 0)) p
 JumpReads lens n jump (Some spot) p = WholeReads (jump_parts (line_of (row_of_len jump (slice_index lens n))) (distance_in lens n spot)) p
 
--- each instruction and jump, in order, with what it is read as, where the first is the n-th entry; each has the length that
+-- each instruction and jump, in order, with what it is read as, where the first is the n-th span; each has the length that
 -- the layout gives it
 abbrev pub EachReads : {I : Type 0} → (I → Listed) → List ℕ → List (Item I) → ℕ → List (Item I) → List Piece → Type 0
 EachReads meant lens all n [] pieces = pieces ≡ []
@@ -111,7 +111,7 @@ IsNoLabelOf items (target.Constant constant) = Unit {0}
 IsNoLabelOf items target.None = Unit {0}
 
 -- A buffer has got a list: behind the pieces that were there one for each instruction and jump; behind what was told of them
--- what each of these tells, in order; each label of the list is bound to the place of its spot, and no other binding
+-- what each of these tells, in order; each label of the list is bound to the position of its spot, and no other binding
 -- changes; the lengths are the least.
 pub record Assembled {I : Type 0} (meant : I → Listed) (items : List (Item I)) (pieces : List Piece) (before after : State) (old new : DeferredTarget → Option ℕ) : Type 0 where
   pub lens : List ℕ
@@ -125,8 +125,8 @@ pub record Assembled {I : Type 0} (meant : I → Listed) (items : List (Item I))
   pub length : length after.bytes ≡ length before.bytes + sum lens
 
 -- A buffer has got a list, whatever stood in it: behind its bytes those of one piece for each instruction and jump, which read
--- so; behind what was told what each of these tells, in order; each label of the list is bound to the place of its spot, and no
--- other binding changes; the lengths are the least. Whatever it was filled with or laid out in up to some place, it is still, but
+-- so; behind what was told what each of these tells, in order; each label of the list is bound to the position of its spot, and no
+-- other binding changes; the lengths are the least. Whatever it was filled with or laid out in up to some position, it is still, but
 -- that the uses of the list are told besides.
 pub record PutsList {I : Type 0} (meant : I → Listed) (items : List (Item I)) (before after : State) (old new : DeferredTarget → Option ℕ) : Type 0 where
   pub lens : List ℕ

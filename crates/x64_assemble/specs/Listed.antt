@@ -54,7 +54,7 @@ pub record IsPiece (p : Piece) (bytes : List ℕ) : Type 0 where
   pub length : (reading_in p).length ≡ length bytes
   pub least : 1 ≤ (reading_in p).length
 
--- A buffer has got an entry: a piece that reads so, of so many bytes, that tells this where it begins; and if it was laid out
+-- A buffer has got a span: a piece that reads so, of so many bytes, that tells this where it begins; and if it was laid out
 -- up to its end, it is with that piece.
 pub record GotEntry (reads : Piece → Type 0) (tells : ℕ → Piece → List Notice) (size : ℕ) (s t : State) (old new : DeferredTarget → Option ℕ) : Type 0 where
   pub piece : Piece

@@ -14,7 +14,7 @@ use Rattle.x64_assemble.specs.declared.binders.Binder.{Binder}
 use Rattle.x64_assemble.specs.declared.item.Item.{Item}
 use Rattle.x64_assemble.specs.declared.item.Item.TheVariants as item
 
--- an item is the place of this label
+-- an item is the position of this label
 abbrev pub binds_it : {I : Type 0} → ℕ → Item I → Bool
 binds_it label (item.Inst inst) = false
 binds_it label (item.Jump jump to) = false

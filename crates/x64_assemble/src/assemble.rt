@@ -48,7 +48,7 @@ fn grow<T: Clone + Drop, A: Allocator>(
     Ok(())
 }
 
-/// Lays out the entries of a list that was tested, makes room for all of it, and puts it.
+/// Lays out the spans of a list that was tested, makes room for all of it, and puts it.
 fn put_least<I: Encode, B: Allocator>(
     items: &[Item<I>],
     binders: &[Binder],
@@ -100,7 +100,7 @@ impl<A: Allocator + Copy> Layout<A> {
 }
 
 impl<A: Allocator> Layout<A> {
-    /// Makes room for so many entries, and for notes of so many labels.
+    /// Makes room for so many spans, and for notes of so many labels.
     fn make_room(&mut self, count: usize, labels: usize) -> Result<(), AllocError>
         requires { count ≤ MOST_SPANS }
         ensures spans { OnOk result (count ≤ vec_len self.new.spans) }

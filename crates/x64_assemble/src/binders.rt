@@ -16,7 +16,7 @@ pub struct Binder {
     pub spot: u32,
 }
 
-/// How many instructions and jumps stand in front of the place of a label, by the notes of all labels, if one counts.
+/// How many instructions and jumps stand in front of the position of a label, by the notes of all labels, if one counts.
 pub(crate) fn spot_in<I>(items: &[Item<I>], binders: &[Binder], label: Label) -> Option<u32>
     ensures { result ≡ spot_noted items.now binders.now label.0 }
 {

@@ -1,4 +1,4 @@
-//! Lists of instructions, jumps to labels and places of labels, which are put into a code buffer in their least layout.
+//! Lists of instructions, jumps to labels and positions of labels, which are put into a code buffer in their least layout.
 #![tactic(auto)]
 
 mod assemble;

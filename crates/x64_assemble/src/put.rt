@@ -16,7 +16,7 @@ use std::alloc::Allocator;
 use x64_code_buffer::{CodeBuffer, Jump};
 use x64_encode::Encode;
 
-/// Puts a jump that is the n-th entry: by its distance to its spot, or open where the list doesn't bind its label.
+/// Puts a jump that is the n-th span: by its distance to its spot, or open where the list doesn't bind its label.
 fn put_jump<B: Allocator>(
     jump: Jump,
     label: Label,

@@ -1,4 +1,4 @@
-//! The entries of a list: instructions and jumps, by what may be their lengths.
+//! The spans of a list: instructions and jumps, by what may be their lengths.
 
 ghost use Rattle.std.specs.Prelude.{◌≡◌, ◌≤◌, ℕ, None, All, length, take};
 ghost use Rattle.x64_code_buffer.specs.Buffer.{buffer_state, label_count, places_of};
@@ -39,7 +39,7 @@ pub(crate) fn span_of(jump: Jump, spot: Option<u32>) -> Span
     }
 }
 
-/// Notes the entries of a list, and says how many there are.
+/// Notes the spans of a list, and says how many there are.
 pub(crate) fn note_spans<I: Encode, B: Allocator>(
     items: &[Item<I>],
     buffer: &CodeBuffer<B>,

@@ -21,7 +21,7 @@ number_of_less (a ∷ b ∷ []) h = refl
 number_of_less (a ∷ b ∷ c ∷ []) h = refl
 number_of_less (a ∷ b ∷ c ∷ d ∷ rest) h = absurd (omega arith)
 
--- the four bytes at a place, and what follows them
+-- the four bytes at a position, and what follows them
 pub four_at : (bytes : List ℕ) (at : ℕ) → at + 4 ≤ length bytes → drop at bytes ≡ get_or bytes at 0 ∷ get_or bytes (at + 1) 0 ∷ get_or bytes (at + 2) 0 ∷ get_or bytes (at + 3) 0 ∷ drop (at + 4) bytes
 four_at bytes at h =
     let one : at + 1 + 1 ≡ at + 2 = omega arith in

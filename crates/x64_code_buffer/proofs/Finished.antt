@@ -160,7 +160,7 @@ jumped places t n at p r old new here slot e ep h =
 
 -- One piece and then the later ones.
 
--- what the bytes from a place on are read as, and that these pieces have become so
+-- what the bytes from a position on are read as, and that these pieces have become so
 pub record Outcome (places : DeferredTarget → Option ℕ) (n at : ℕ) (ps : List Piece) (us : List Use) (new : List ℕ) : Type 0 where
   pub now : List LineReading
   pub reads : LinesRead now (drop at (take n new))
@@ -186,7 +186,7 @@ own_outside : (at f i p : ℕ) → p ≡ at + f → (i < f) ⊎ (f + 4 ≤ i) �
 own_outside at f i p e (inl h) = inl (omega arith)
 own_outside at f i p e (inr h) = inr (omega arith)
 
--- from a place on, bytes outside of the fields of some uses are as before
+-- from a position on, bytes outside of the fields of some uses are as before
 abbrev Behind : List ℕ → List ℕ → ℕ → List Use → Type 0
 Behind old new at us = (i : ℕ) → at ≤ i → All (IsOutside i) (links us) → get_or new i 0 ≡ get_or old i 0
 
@@ -195,7 +195,7 @@ record Later (places : DeferredTarget → Option ℕ) (n : ℕ) (old new : List 
   above : Above at (piece_fields at ps)
   settled : (us : List Use) → places_told us ≡ piece_fields at ps → Behind old new at us → All (IsPatched places old new) (links us) → Outcome places n at ps us new
 
--- a place before the later pieces is outside of their fields
+-- a position before the later pieces is outside of their fields
 before : (places : DeferredTarget → Option ℕ) (n : ℕ) (old new : List ℕ) (end : ℕ) (ps : List Piece) (us : List Use) (i : ℕ) → Later places n old new end ps → places_told us ≡ piece_fields end ps → i < end → All (IsOutside i) (links us)
 before places n old new end ps us i later told low = outside_below end i us low (subst (Above end) (sym told) later.above)
 

@@ -50,7 +50,7 @@ same_piece n at len x y hx hy within same =
 pub one_piece : (a : List ℕ) (r : LineReading) → ((rest : List ℕ) → read_line r.line (take r.length a ++ rest) ≡ Some r) → r.length ≤ length a → (read_line r.line (take r.length a) ≡ Some r) × (r.length ≡ length (take r.length a))
 one_piece a r h within = (ap (read_line r.line) (sym (append-nil (take r.length a))) ∙ h [], sym (length-take-le r.length a within))
 
--- there is none, or one between a place and another
+-- there is none, or one between a position and another
 abbrev pub FieldWithin : ℕ → ℕ → List ℕ → Type 0
 FieldWithin at end [] = Unit {0}
 FieldWithin at end (x ∷ xs) = (at ≤ x) × (x + 4 ≤ end) × (xs ≡ [])
@@ -74,7 +74,7 @@ field_within (open_jump r) at a reads least within opened =
 
 -- Fields of later pieces stand behind.
 
--- none stands before a place
+-- none stands before a position
 abbrev pub Above : ℕ → List ℕ → Type 0
 Above at [] = Unit {0}
 Above at (x ∷ xs) = (at ≤ x) × Above at xs

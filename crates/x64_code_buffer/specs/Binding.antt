@@ -9,7 +9,7 @@ use Rattle.x64_code_buffer.specs.declared.errors.BindError.TheVariants.{Unknown,
 use Rattle.x64_code_buffer.specs.declared.bindings.Bindings.{Bindings}
 use Rattle.x64_code_buffer.specs.Label.{slot_place, no_slot, label_place}
 
--- the place that a target is bound to
+-- the position that a target is bound to
 abbrev pub place_bound : {A : Type 0} → Bindings A → DeferredTarget → Option ℕ
 place_bound b (target.Label label) = label_place b.labels label.0
 place_bound b (target.Constant constant) = option_or (slot_place (slice_index_or b.listed.items constant.0 no_slot)) (option_and_then (λ others. get nat_eq others constant.0) b.others)
@@ -25,7 +25,7 @@ pub record AddsBinding (target : DeferredTarget) (place : ℕ) (old new : Deferr
   pub bound : new target ≡ Some place
   pub others : (other : DeferredTarget) → other ≢ target → new other ≡ old other
 
--- what `bind` answers for a label that is bound to this place, if to any
+-- what `bind` answers for a label that is bound to this position, if to any
 abbrev pub unless_bound : Option ℕ → Result (Unit {0}) BindError
 unless_bound None = Ok tt
 unless_bound (Some place) = Err Twice

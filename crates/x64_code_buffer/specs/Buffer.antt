@@ -24,7 +24,7 @@ label_count b = b.bindings.labels.given
 abbrev pub label_room : {A : Type 0} → CodeBuffer A → ℕ
 label_room b = spare_labels b.bindings.labels
 
--- the place that a target is bound to
+-- the position that a target is bound to
 abbrev pub places_of : {A : Type 0} → CodeBuffer A → DeferredTarget → Option ℕ
 places_of b target = place_bound b.bindings target
 
@@ -47,7 +47,7 @@ pub record StaysFilled {A : Type 0} (old new : CodeBuffer A) : Type 0 where
   pub filled : (readings : List Reading) (n : ℕ) → Filled readings n (buffer_state old) (places_of old) → Filled readings n (buffer_state new) (places_of new)
   pub laid : (pieces : List Piece) (n : ℕ) → Laid pieces n (buffer_state old) (places_of old) → Laid pieces n (buffer_state new) (places_of new)
 
--- With whatever the old one was filled, the new one is but that uses at these places are told besides; and so of the pieces
+-- With whatever the old one was filled, the new one is but that uses at these positions are told besides; and so of the pieces
 -- that it was laid out in.
 pub record StaysBefore {A : Type 0} (more : List ℕ) (old new : CodeBuffer A) : Type 0 where
   pub filled : (readings : List Reading) (n : ℕ) → Filled readings n (buffer_state old) (places_of old) → FilledBefore more readings n (buffer_state new) (places_of new)

@@ -49,7 +49,7 @@ abbrev pub fields_from : ℕ → List Reading → List ℕ
 fields_from at [] = []
 fields_from at (r ∷ later) = field_at at r r.place ++ fields_from (at + r.length) later
 
--- a place is where a reading begins
+-- a position is where a reading begins
 abbrev pub Begins : ℕ → List Reading → ℕ → Type 0
 Begins at [] place = ⊥
 Begins at (r ∷ later) place = (place ≡ at) ⊎ Begins (at + r.length) later place
@@ -59,7 +59,7 @@ places_told [] = []
 places_told (used ∷ later) = used.0 ∷ places_told later
 
 -- A buffer is filled up to n with readings: its first n bytes read as these; each relative place is unpatched; the targets
--- told are, in order, one at the field of each; and each bound place is where a reading begins, or behind them.
+-- told are, in order, one at the field of each; and each bound position is where a reading begins, or behind them.
 pub record Filled (readings : List Reading) (n : ℕ) (s : State) (places : DeferredTarget → Option ℕ) : Type 0 where
   pub within : n ≤ length s.bytes
   pub reads : ReadsEach readings (take n s.bytes)
@@ -67,7 +67,7 @@ pub record Filled (readings : List Reading) (n : ℕ) (s : State) (places : Defe
   pub told : places_told (uses_of s.notices) ≡ fields_from 0 readings
   pub bound : (target : DeferredTarget) (place : ℕ) → places target ≡ Some place → (Begins 0 readings place ⊎ (n ≤ place)) × (place ≤ length s.bytes)
 
--- It is so but that uses at these places are told besides, behind the others.
+-- It is so but that uses at these positions are told besides, behind the others.
 pub record FilledBefore (more : List ℕ) (readings : List Reading) (n : ℕ) (s : State) (places : DeferredTarget → Option ℕ) : Type 0 where
   pub within : n ≤ length s.bytes
   pub reads : ReadsEach readings (take n s.bytes)
@@ -86,7 +86,7 @@ abbrev pub HasAddress : Option Place → ℕ → ℕ → Type 0
 HasAddress None end place = ⊥
 HasAddress (Some found) end place = (regs : List ℕ) → address_of found regs end ≡ Some (modulo_64_bits (pos place))
 
--- a reading that differs in its place alone, whose address is the place that the target is bound to
+-- a reading that differs in its place alone, whose address is the position that the target is bound to
 pub record Leads (places : DeferredTarget → Option ℕ) (target : DeferredTarget) (end : ℕ) (old new : Reading) : Type 0 where
   pub bound_to : ℕ
   pub is_bound : places target ≡ Some bound_to
@@ -120,7 +120,7 @@ Settled places at (r ∷ later) uses [] = ⊥
 Settled places at (r ∷ later) uses (q ∷ new) = SettledAs places (at + r.length) r r.place uses q × Settled places (at + r.length) later (uses_behind r.place uses) new
 
 -- The first n bytes read as before, with the same lengths and parts, save that each field of a label or a constant has the
--- bound place as its address.
+-- bound position as its address.
 pub record Finished (readings : List Reading) (n : ℕ) (s : State) (places : DeferredTarget → Option ℕ) (code : List ℕ) : Type 0 where
   pub now : List Reading
   pub reads : ReadsEach now (take n code)

@@ -97,7 +97,7 @@ fits_i8 (negsuc n) = nat_lt n 128
 abbrev pub if_i8 : ℤ → Option ℤ
 if_i8 z = if fits_i8 z then Some z else None
 
--- The distance of the form with one byte, put behind so many bytes, to a place, if there is that form and it reaches: it
+-- The distance of the form with one byte, put behind so many bytes, to a position, if there is that form and it reaches: it
 -- counts from the end of the jump's two bytes.
 abbrev pub near_distance : Jump → Option ℕ → ℕ → Option ℤ
 near_distance jump place here = if is_some (short_row jump) then option_and_then (λ p. if_i8 (pos p -ℤ pos (here + 2))) place else None

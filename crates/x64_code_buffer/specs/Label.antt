@@ -4,7 +4,7 @@ use Rattle.x64_code_buffer.specs.declared.labels.Labels.{Labels}
 use Rattle.x64_code_buffer.specs.declared.labels.TheConstants.{FIRST}
 use Rattle.x64_code_buffer.specs.declared.slot.Slot.{Slot}
 
--- the place that a slot holds: none where it holds 0, and else the number before
+-- the position that a slot holds: none where it holds 0, and else the number before
 abbrev pub slot_place : Slot → Option ℕ
 slot_place s = if s.after == 0 then None else Some (s.after - 1)
 
@@ -15,7 +15,7 @@ no_slot = record { after = 0 }
 abbrev pub label_slot : {A : Type 0} → Labels A → ℕ → Slot
 label_slot l number = if nat_lt number FIRST then slice_index_or l.first number no_slot else slice_index_or l.others.items (number - FIRST) no_slot
 
--- the place that the label of a number is bound to, where that one was given
+-- the position that the label of a number is bound to, where that one was given
 unfoldable pub label_place : {A : Type 0} → Labels A → ℕ → Option ℕ
 label_place l number = if nat_lt number l.given then slot_place (label_slot l number) else None
 

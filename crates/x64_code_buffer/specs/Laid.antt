@@ -80,13 +80,13 @@ abbrev pub piece_fields : ℕ → List Piece → List ℕ
 piece_fields at [] = []
 piece_fields at (p ∷ later) = piece_field at p ++ piece_fields (at + (reading_in p).length) later
 
--- a place is where a piece begins
+-- a position is where a piece begins
 abbrev pub PieceBegins : ℕ → List Piece → ℕ → Type 0
 PieceBegins at [] place = ⊥
 PieceBegins at (p ∷ later) place = (place ≡ at) ⊎ PieceBegins (at + (reading_in p).length) later place
 
 -- A buffer is laid out up to n in pieces: its first n bytes read as these; each relative place is unpatched, and the
--- distance of each open jump is 0; the targets told are, in order, one at the field of each; and each bound place is where a
+-- distance of each open jump is 0; the targets told are, in order, one at the field of each; and each bound position is where a
 -- piece begins, or behind them.
 pub record Laid (pieces : List Piece) (n : ℕ) (s : State) (places : DeferredTarget → Option ℕ) : Type 0 where
   pub within : n ≤ length s.bytes
@@ -95,7 +95,7 @@ pub record Laid (pieces : List Piece) (n : ℕ) (s : State) (places : DeferredTa
   pub told : places_told (uses_of s.notices) ≡ piece_fields 0 pieces
   pub bound : (target : DeferredTarget) (place : ℕ) → places target ≡ Some place → (PieceBegins 0 pieces place ⊎ (n ≤ place)) × (place ≤ length s.bytes)
 
--- It is so but that uses at these places are told besides, behind the others.
+-- It is so but that uses at these positions are told besides, behind the others.
 pub record LaidBefore (more : List ℕ) (pieces : List Piece) (n : ℕ) (s : State) (places : DeferredTarget → Option ℕ) : Type 0 where
   pub within : n ≤ length s.bytes
   pub reads : LinesRead (readings_in pieces) (take n s.bytes)
@@ -109,7 +109,7 @@ pub record LaidOn (kind : LineReading → Piece) (meant : PartsOf Line) (pieces 
   pub same : ◌≡◌ {A = PartsOf Line} (parts_in reading) meant
   pub laid : Laid (pieces ++ kind reading ∷ []) (length s.bytes) s places
 
--- a reading that differs in its place alone, whose address is the place that the target is bound to
+-- a reading that differs in its place alone, whose address is the position that the target is bound to
 pub record LineLeads (places : DeferredTarget → Option ℕ) (target : DeferredTarget) (end : ℕ) (old new : LineReading) : Type 0 where
   pub bound_to : ℕ
   pub is_bound : places target ≡ Some bound_to
@@ -130,12 +130,12 @@ LineSettledAs places end old (Some (Reg view)) uses new = new ≡ old
 LineSettledAs places end old (Some (Mem base index disp)) uses new = new ≡ old
 LineSettledAs places end old (Some (Rip disp)) uses new = LineSettledBy places end old uses new
 
--- the place that a distance leads to from the end of its instruction, modulo 2 to the 64 (Intel SDM, volume 2, JMP)
+-- the position that a distance leads to from the end of its instruction, modulo 2 to the 64 (Intel SDM, volume 2, JMP)
 abbrev pub led_to : Option ℤ → ℕ → Option ℕ
 led_to None end = None
 led_to (Some distance) end = Some (modulo_64_bits (pos end +ℤ distance))
 
--- a reading that differs in its distance alone, which leads from its end to the place that the target is bound to
+-- a reading that differs in its distance alone, which leads from its end to the position that the target is bound to
 pub record JumpsTo (places : DeferredTarget → Option ℕ) (target : DeferredTarget) (end : ℕ) (old new : LineReading) : Type 0 where
   pub bound_to : ℕ
   pub is_bound : places target ≡ Some bound_to
@@ -167,7 +167,7 @@ EachSettled places at (p ∷ later) uses [] = ⊥
 EachSettled places at (p ∷ later) uses (q ∷ new) = PieceSettled places (at + (reading_in p).length) p uses q × EachSettled places (at + (reading_in p).length) later (uses_after p uses) new
 
 -- The first n bytes read as before, with the same lengths and parts, save that each relative field of a label or a constant
--- has the bound place as its address, and the distance of each open jump to one leads there.
+-- has the bound position as its address, and the distance of each open jump to one leads there.
 pub record LaidOut (pieces : List Piece) (n : ℕ) (s : State) (places : DeferredTarget → Option ℕ) (code : List ℕ) : Type 0 where
   pub now : List LineReading
   pub reads : LinesRead now (take n code)

@@ -8,7 +8,7 @@ use Rattle.x64_code_buffer.specs.Field.{patched, stored_at}
 use Rattle.x64_code_buffer.specs.declared.errors.FinishError.{FinishError}
 use Rattle.x64_code_buffer.specs.declared.errors.FinishError.TheVariants.{Unbound, TooFar}
 
--- the place of a field, and what it refers to
+-- the position of a field, and what it refers to
 abbrev pub Use : Type 0
 Use = ℕ × DeferredTarget
 
@@ -18,7 +18,7 @@ uses_of [] = []
 uses_of (Trap at code ∷ later) = uses_of later
 uses_of (Target at target ∷ later) = (at, target) ∷ uses_of later
 
--- what the field at a place is to hold where it refers to another place, if its bytes are there and an i32 can say it
+-- what the field at a position is to hold where it refers to another position, if its bytes are there and an i32 can say it
 abbrev pub patched_at : List ℕ → ℕ → ℕ → Option ℤ
 patched_at bytes at place = option_and_then (patched at place) (stored_at bytes at)
 
@@ -52,7 +52,7 @@ links ((at, target.Label label) ∷ later) = (at, target.Label label) ∷ links 
 links ((at, target.Constant constant) ∷ later) = (at, target.Constant constant) ∷ links later
 links ((at, target.None) ∷ later) = links later
 
--- a place is outside of a field, before or behind its four bytes
+-- a position is outside of a field, before or behind its four bytes
 abbrev pub IsOutside : ℕ → Use → Type 0
 IsOutside i used = (i < used.0) ⊎ (used.0 + 4 ≤ i)
 
@@ -65,7 +65,7 @@ abbrev pub EachApart : List Use → Type 0
 EachApart [] = Unit {0}
 EachApart (used ∷ later) = All (AreApart used) later × EachApart later
 
--- a field holds what it is to hold: its target is bound to a place, to which the field leads
+-- a field holds what it is to hold: its target is bound to a position, to which the field leads
 pub record IsPatched (places : DeferredTarget → Option ℕ) (old new : List ℕ) (used : Use) : Type 0 where
   pub place : ℕ
   pub bound : places used.1 ≡ Some place

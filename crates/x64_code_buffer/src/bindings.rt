@@ -15,13 +15,13 @@ use std::alloc::{AllocError, Allocator};
 use std::collections::HashMap;
 use std::hash::{BuildHasherDefault, FoldHasher};
 
-/// How near behind the end of the list a key has to be to be listed. A constant adds no more places to it than these.
+/// How near behind the end of the list a key has to be to be listed. A constant adds no more slots to it than these.
 const NEAR: usize = 16;
 
 /// Places by the keys of constants.
 type Places<A> = HashMap<u32, usize, BuildHasherDefault<FoldHasher>, A>;
 
-/// The places of the labels that were given, by number, and of the constants that are bound.
+/// The positions of the labels that were given, by number, and of the constants that are bound.
 ///
 /// Constants are mostly numbered from 0 on, and bound in about this order. One with a key of the list, or near behind it, is
 /// listed by key, where there is memory for the list: it takes one block, and finds a constant without hashing. A map has
@@ -56,7 +56,7 @@ impl<A: Allocator> Bindings<A> {
     ghost use Rattle.x64_code_buffer.specs.Binding.{place_bound, SamePlaces, AddsBinding, bind_answer};
     ghost use Rattle.cax64_sink.specs.declared.DeferredTarget.{DeferredTarget};
 
-    /// The place that a target is bound to.
+    /// The position that a target is bound to.
     #[inline(always)]
     pub fn place_of(&self, target: DeferredTarget) -> Option<usize>
         ensures { result ≡ place_bound self.now target }
@@ -68,7 +68,7 @@ impl<A: Allocator> Bindings<A> {
         }
     }
 
-    /// The place that a constant is bound to.
+    /// The position that a constant is bound to.
     #[inline(always)]
     fn constant_place(&self, constant: Constant) -> Option<usize>
         ensures { result ≡ place_bound self.now (DeferredTarget.Constant constant) }
@@ -81,7 +81,7 @@ impl<A: Allocator> Bindings<A> {
         self.other_place(constant)
     }
 
-    /// The place that the map has for a constant. It stays out of the code for labels and for constants in the list.
+    /// The position that the map has for a constant. It stays out of the code for labels and for constants in the list.
     #[inline(never)]
     fn other_place(&self, constant: Constant) -> Option<usize>
         ensures { result ≡ option_and_then (λ others. get nat_eq others constant.0) self.now.others }
@@ -97,7 +97,7 @@ impl<A: Allocator> Bindings<A> {
         self.labels.given()
     }
 
-    /// Makes room for the places of so many more labels.
+    /// Makes room for the positions of so many more labels.
     pub fn reserve_labels(&mut self, count: usize) -> Result<(), SinkError>
         ensures spare { OnOk result (count ≤ spare_labels self.new.labels) }
         ensures stays { spare_labels self.old.labels ≤ spare_labels self.new.labels }
@@ -109,7 +109,7 @@ impl<A: Allocator> Bindings<A> {
         self.labels.reserve(count)
     }
 
-    /// The next label, with a place for its binding.
+    /// The next label, with a slot for its binding.
     #[inline(always)]
     pub fn new_label(&mut self) -> Result<Label, SinkError>
         ensures number { IfOk result (λ label. label.0 ≡ self.old.labels.given) }
@@ -125,7 +125,7 @@ impl<A: Allocator> Bindings<A> {
         self.labels.give().map(Label)
     }
 
-    /// Binds a label that was given to a place.
+    /// Binds a label that was given to a position.
     pub fn bind(&mut self, label: Label, place: usize) -> Result<(), BindError>
         requires { place < 2 ^ 63 }
         ensures answer { result ≡ bind_answer self.old.labels.given label.0 (place_bound self.old (DeferredTarget.Label label)) }
@@ -162,7 +162,7 @@ impl<A: Allocator + Clone> Bindings<A> {
     ghost use Rattle.x64_code_buffer.specs.Binding.{place_bound, SamePlaces, AddsBinding};
     ghost use Rattle.cax64_sink.specs.declared.DeferredTarget.{DeferredTarget};
 
-    /// Binds a constant to a place. Where the list can't grow, the map has it.
+    /// Binds a constant to a position. Where the list can't grow, the map has it.
     pub fn bind_constant(&mut self, constant: Constant, place: usize) -> Result<(), BindError>
         requires { place < 2 ^ 63 }
         ensures answer { MatchOption (place_bound self.old (DeferredTarget.Constant constant)) ((result ≡ Ok tt) ⊎ (result ≡ Err BindError.NoMemory)) (λ _. result ≡ Err BindError.Twice) }

@@ -44,7 +44,7 @@ impl<A: Allocator + Copy> CodeBuffer<A> {
     ghost use Rattle.x64_code_buffer.specs.Filled.{Filled};
     ghost use Rattle.x64_code_buffer.specs.Laid.{Laid};
 
-    /// An empty buffer that knows no offset, gave no label and bound nothing. Takes no memory, and has places for sixteen
+    /// An empty buffer that knows no offset, gave no label and bound nothing. Takes no memory, and has slots for sixteen
     /// labels.
     #[inline(always)]
     pub fn new(alloc: A) -> Self
@@ -100,7 +100,7 @@ impl<A: Allocator> CodeBuffer<A> {
         self.recorder.notices()
     }
 
-    /// The place that a label or a constant is bound to. A label takes constant time, and a constant as long as a hash map
+    /// The position that a label or a constant is bound to. A label takes constant time, and a constant as long as a hash map
     /// takes to find a key.
     pub fn place_of(&self, target: DeferredTarget) -> Option<usize>
         ensures { result ≡ places_of self.now target }
@@ -147,7 +147,7 @@ impl<A: Allocator> CodeBuffer<A> {
         self.bindings.reserve_labels(count)
     }
 
-    /// The next label: `Label(0)`, `Label(1)` and so on. Makes room for its place, so that [`bind`](Self::bind) takes no
+    /// The next label: `Label(0)`, `Label(1)` and so on. Makes room for its position, so that [`bind`](Self::bind) takes no
     /// memory. Takes constant time, over many labels.
     pub fn new_label(&mut self) -> Result<Label, SinkError>
         ensures number { IfOk result (λ label. label.0 ≡ label_count self.old) }

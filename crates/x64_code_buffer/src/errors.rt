@@ -23,7 +23,7 @@ pub enum BindError {
 pub enum FinishError {
     /// What a use refers to isn't bound.
     Unbound(DeferredTarget),
-    /// The field at this place can't hold the distance, or its four bytes aren't all there.
+    /// The field at this position can't hold the distance, or its four bytes aren't all there.
     TooFar(usize),
 }
 

@@ -5,7 +5,7 @@ ghost use Rattle.x64_code_buffer.specs.Field.{patched, stored_at};
 
 /// What a relative field is to hold: what is stored in it, and the distance from the field's end to the target.
 ///
-/// `place` is the place of the field's first byte. `None` where that isn't an `i32`.
+/// `place` is the position of the field's first byte. `None` where that isn't an `i32`.
 pub fn patched_field(place: u64, target: u64, stored: i32) -> Option<i32>
     ensures { result ≡ patched place target stored }
 {
@@ -13,7 +13,7 @@ pub fn patched_field(place: u64, target: u64, stored: i32) -> Option<i32>
     i32::try_from(i128::from(stored) + i128::from(target) - end).ok()
 }
 
-/// What is stored in the field at a place, if its four bytes are all there.
+/// What is stored in the field at a position, if its four bytes are all there.
 pub(crate) fn stored_at(bytes: &[u8], at: usize) -> Option<i32>
     ensures { result ≡ stored_at bytes.now at }
 {

@@ -160,7 +160,7 @@ impl Jump {
         }
     }
 
-    /// The distance of the form with one byte, put behind so many bytes, to a place, if there is that form and it reaches.
+    /// The distance of the form with one byte, put behind so many bytes, to a position, if there is that form and it reaches.
     #[inline(always)]
     pub(crate) fn near_distance(self, place: Option<usize>, here: usize) -> Option<i8>
         ensures { result ≡ near_distance self place here }

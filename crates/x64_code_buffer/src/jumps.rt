@@ -1,4 +1,4 @@
-//! Jumps and calls that are put into a buffer: by a number, or to a label, a constant, or a place that isn't known yet.
+//! Jumps and calls that are put into a buffer: by a number, or to a label, a constant, or a position that isn't known yet.
 
 ghost use Rattle.std.specs.Prelude.{◌≡◌, pos, ℕ, List, None, OnOk, OnErr, IfErr, IfSome, IsOk, IsSome, length};
 ghost use Rattle.cax64_machine_code.specs.Len.{len_of};

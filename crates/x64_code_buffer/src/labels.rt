@@ -8,10 +8,10 @@ use crate::slot::Slot;
 use cax64_sink::SinkError;
 use std::alloc::Allocator;
 
-/// How many labels have their place in the buffer itself. Most functions have no more.
+/// How many labels have their position in the buffer itself. Most functions have no more.
 const FIRST: usize = 16;
 
-/// The places of the labels that were given, by number. The first ones take no memory of their own.
+/// The positions of the labels that were given, by number. The first ones take no memory of their own.
 #[derive(Drop)]
 pub struct Labels<A: Allocator> {
     given: u32,
@@ -51,7 +51,7 @@ impl<A: Allocator> Labels<A> {
         self.given
     }
 
-    /// The place that the label of a number is bound to.
+    /// The position that the label of a number is bound to.
     #[tactic(auto, unfolding(crate::specs::Label::label_place))]
     #[inline(always)]
     pub fn place(&self, number: u32) -> Option<usize>

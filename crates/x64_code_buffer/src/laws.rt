@@ -50,12 +50,12 @@ pub fn what_is_laid_out_reads()
         → (l : LaidOut pieces n s places code) → read_all_of lines (take n code) (length pieces) ≡ Some (l.now, []) }
 {}
 
-/// The distance from the end of a jump to a place leads there.
+/// The distance from the end of a jump to a position leads there.
 pub fn a_jump_leads()
     ensures { (place end : ℕ) → led_to (Some (pos place -ℤ pos end)) end ≡ Some (modulo_64_bits (pos place)) }
 {}
 
-/// The distance of a near jump, from its end, leads to the place that it was found for.
+/// The distance of a near jump, from its end, leads to the position that it was found for.
 pub fn a_near_jump_leads()
     ensures { (jump : Jump) (place here : ℕ) → IfSome (near_distance jump (Some place) here) (λ d. led_to (Some d) (here + 2) ≡ Some (modulo_64_bits (pos place))) }
 {}

@@ -1,18 +1,18 @@
-//! A place or none, in one word.
+//! A position or none, in one word.
 
 ghost use Rattle.std.specs.Prelude.{◌≡◌, ◌<◌, ◌^◌, Some, None};
 
-/// A place, or none. It takes one word, where an `Option<usize>` takes two, and a buffer has one for each label.
+/// A position, or none. It takes one word, where an `Option<usize>` takes two, and a buffer has one for each label.
 #[derive(Clone, Copy)]
 pub struct Slot {
-    /// The number after the place, or 0.
+    /// The number after the position, or 0.
     after: usize,
 }
 
 impl Slot {
     ghost use Rattle.x64_code_buffer.specs.Label.{slot_place};
 
-    /// No place.
+    /// No position.
     #[inline(always)]
     pub fn empty() -> Slot
         ensures { slot_place result ≡ None }
@@ -20,7 +20,7 @@ impl Slot {
         Slot { after: 0 }
     }
 
-    /// A place.
+    /// A position.
     #[inline(always)]
     pub fn of(place: usize) -> Slot
         requires { place < 2 ^ 63 }
@@ -29,7 +29,7 @@ impl Slot {
         Slot { after: place + 1 }
     }
 
-    /// The place, if there is one.
+    /// The position, if there is one.
     #[inline(always)]
     pub fn place(self) -> Option<usize>
         ensures { result ≡ slot_place self }

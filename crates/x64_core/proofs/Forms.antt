@@ -32,23 +32,23 @@ use Rattle.cax64_operand.specs.Immediate.{imm_size, signed_below}
 use Rattle.cax64_operand.specs.Shape.{imm_fits}
 use Rattle.cax64_sink.specs.Call.{Action}
 use Rattle.cax64_sink.specs.Run.{all_bytes}
-use Rattle.cax64_place.specs.Code.{placed_form}
+use Rattle.x64_place.specs.Code.{placed_form}
 use Rattle.cax64_table.specs.Numbers as line
 use Rattle.x64_core.specs.Core.{core_meant, core_len}
 use Rattle.x64_core.specs.Fits.{place_fits}
 use Rattle.x64_core.specs.Form.{core_form}
-use Rattle.x64_core.specs.Line.{core_line}
-use Rattle.x64_core.specs.Shape.{shape_of, has_reg, has_mem, has_rm, imm_field, tail_takes, field_takes}
+use Rattle.x64_lines.specs.Line.{core_line}
+use Rattle.x64_lines.specs.Shape.{shape_of, has_reg, has_mem, has_rm, imm_field, tail_takes, field_takes}
 use Rattle.x64_core.specs.View.{core_view, place_operand, when}
 use Rattle.x64_core.specs.Viewed.{viewed}
 use Rattle.x64_core.specs.declared.instruction.Core.{Core}
 use Rattle.x64_core.specs.declared.place.CorePlace.{CorePlace}
 use Rattle.x64_core.specs.declared.place.CorePlace.TheVariants.{Absent, Register, Base, BaseAndIndex, Relative}
-use Rattle.x64_core.specs.declared.shapes.OpFields.{OpFields}
-use Rattle.x64_core.specs.declared.shapes.OpFields.TheVariants.{Bare, Rm, Mem, RegRm, RegMem, RegVvvvRm}
-use Rattle.x64_core.specs.declared.shapes.OpImm.{OpImm}
-use Rattle.x64_core.specs.declared.shapes.OpImm.TheVariants as imm
-use Rattle.x64_core.proofs.MadeOf.{facts}
+use Rattle.x64_lines.specs.declared.shapes.OpFields.{OpFields}
+use Rattle.x64_lines.specs.declared.shapes.OpFields.TheVariants.{Bare, Rm, Mem, RegRm, RegMem, RegVvvvRm}
+use Rattle.x64_lines.specs.declared.shapes.OpImm.{OpImm}
+use Rattle.x64_lines.specs.declared.shapes.OpImm.TheVariants as imm
+use Rattle.x64_lines.proofs.Facts.{facts}
 use Rattle.x64_core.proofs.Viewed.{viewed_numbers}
 
 -- What the encoder is given has the line's shape.

@@ -1,8 +1,11 @@
-pub mod Table
+pub mod HeadTable
 pub mod MadeOf
 pub mod Viewed
 pub mod Forms
 pub mod Reals
 pub mod Runs
 pub mod Renames
-pub mod RowLines
+pub mod Equality
+pub mod Most
+pub mod Nops
+pub mod ReadAs

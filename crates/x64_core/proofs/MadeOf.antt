@@ -1,104 +1,28 @@
-use Rattle.std.proofs.Common.{◌≡◌, ℕ, refl, sym, ap, ◌∙◌, Bool, true, false}
-use Rattle.std.specs.Prelude.{option_map, not, ◌==◌}
-use Rattle.std.proofs.Common.{arith}
-use Rattle.std.proofs.lemmas.Bool.{and_parts}
-use Rattle.std.proofs.lemmas.Bool.Decides.{nat_tests}
+use Rattle.std.proofs.Common.{◌≡◌, ℕ, refl, ◌∙◌, true}
+use Rattle.std.specs.Prelude.{option_map}
 use Rattle.cax64_address.specs.declared.amode.Amode.{Amode}
 use Rattle.cax64_encoder.specs.ImmActions.{imm_named}
+use Rattle.cax64_encoder.specs.declared.number.Number.{Number}
+use Rattle.cax64_encoder.specs.declared.role.PlaceOperand.TheVariants as operand
 use Rattle.cax64_encoder.specs.declared.role.PlaceOperand.TheVariants.{Memory}
-use Rattle.cax64_machine_code.specs.declared.line.ImmField.{ImmField}
-use Rattle.cax64_machine_code.specs.declared.line.ImmField.TheVariants.{NoImm, Imm, Simm}
 use Rattle.cax64_machine_code.specs.declared.line.Line.{Line}
-use Rattle.cax64_machine_code.specs.declared.line.PrefixField.{PrefixField}
-use Rattle.cax64_machine_code.specs.declared.line.PrefixField.TheVariants.{LegacyField, VexField}
-use Rattle.cax64_machine_code.specs.declared.line.RegField.TheVariants as reg_field
-use Rattle.cax64_machine_code.specs.declared.line.TailField.{TailField}
-use Rattle.cax64_machine_code.specs.declared.line.TailField.TheVariants.{NoTail, Modrm}
-use Rattle.cax64_machine_code.specs.declared.line.VvvvField.TheVariants.{VvvvRegister, Stored1111}
 use Rattle.cax64_operand.specs.Immediate.{imm_value}
+use Rattle.x64_place.specs.Operand as flat
+use Rattle.x64_place.specs.declared.place.FlatPlace.{FlatPlace}
 use Rattle.cax64_table.specs.Numbers as line
 use Rattle.x64_core.specs.Fits.{core_fits, place_fits}
-use Rattle.x64_core.specs.Line.{core_line}
-use Rattle.x64_core.specs.Shape.{shape_of, has_shape, has_reg, has_vvvv, has_mem, imm_field, tail_takes, prefix_takes, field_takes, same_imm}
+use Rattle.x64_lines.specs.Line.{core_line}
+use Rattle.x64_lines.specs.Shape.{shape_of, has_reg, has_vvvv, has_mem, has_rm, imm_field}
 use Rattle.x64_core.specs.View.{CoreView, place_operand, when}
-use Rattle.x64_core.specs.declared.op.Op.{Op}
+use Rattle.x64_core.specs.Viewed.{viewed}
+use Rattle.x64_lines.specs.declared.op.Op.{Op}
 use Rattle.x64_core.specs.declared.place.CorePlace.{CorePlace}
 use Rattle.x64_core.specs.declared.place.CorePlace.TheVariants.{Absent, Register, Base, BaseAndIndex, Relative}
-use Rattle.x64_core.specs.declared.shapes.OpFields.{OpFields}
-use Rattle.x64_core.specs.declared.shapes.OpFields.TheVariants.{Bare, Rm, Mem, RegRm, RegMem, RegVvvvRm}
-use Rattle.x64_core.specs.declared.shapes.OpImm.{OpImm}
-use Rattle.x64_core.specs.declared.shapes.OpShape.{OpShape}
-use Rattle.x64_core.proofs.Table.{op_below, shape_is}
-
--- What a line's shape says of it.
-
-is_number : (a b : ℕ) → (a == b) ≡ true → a ≡ b
-is_number a b h = grind (arith, nat_tests)
-
-not_true : (b : Bool) → not b ≡ true → b ≡ false
-not_true true h = cc
-not_true false h = refl
-
-no_mem : (fields : OpFields) → not (has_mem fields) ≡ true → has_reg fields ≡ false
-no_mem Bare h = refl
-no_mem Rm h = cc
-no_mem Mem h = cc
-no_mem RegRm h = cc
-no_mem RegMem h = cc
-no_mem RegVvvvRm h = cc
-
-tail_reg : (tail : TailField) (fields : OpFields) → tail_takes tail fields ≡ true → line.has_register tail ≡ has_reg fields
-tail_reg NoTail fields h = sym (no_mem fields h)
-tail_reg (Modrm (reg_field.Digit d) field) fields h =
-    let a = and_parts (has_mem fields) _ h in
-    let b = and_parts (not (has_reg fields)) (field_takes field fields) a.1 in
-    sym (not_true (has_reg fields) b.0)
-tail_reg (Modrm reg_field.Register8 field) fields h =
-    let a = and_parts (has_mem fields) _ h in
-    let b = and_parts (has_reg fields) (field_takes field fields) a.1 in
-    sym b.0
-tail_reg (Modrm reg_field.Register field) fields h =
-    let a = and_parts (has_mem fields) _ h in
-    let b = and_parts (has_reg fields) (field_takes field fields) a.1 in
-    sym b.0
-
-prefix_vvvv : (prefix : PrefixField) (fields : OpFields) → prefix_takes prefix fields ≡ true → line.has_vvvv prefix ≡ has_vvvv fields
-prefix_vvvv (LegacyField set rex) fields h = sym (not_true (has_vvvv fields) h)
-prefix_vvvv (VexField pp map l VvvvRegister) fields h = sym h
-prefix_vvvv (VexField pp map l Stored1111) fields h = sym (not_true (has_vvvv fields) h)
-
-imm_is : (field other : ImmField) → same_imm field other ≡ true → field ≡ other
-imm_is NoImm NoImm h = refl
-imm_is NoImm (Imm size) h = cc
-imm_is NoImm (Simm size) h = cc
-imm_is (Imm size) NoImm h = cc
-imm_is (Imm size) (Imm other) h = ap (λ (n : ℕ). Imm n) (is_number size other h)
-imm_is (Imm size) (Simm other) h = cc
-imm_is (Simm size) NoImm h = cc
-imm_is (Simm size) (Imm other) h = cc
-imm_is (Simm size) (Simm other) h = ap (λ (n : ℕ). Simm n) (is_number size other h)
-
-pub record Facts (found : Line) (shape : OpShape) : Type 0 where
-  pub tail : tail_takes found.tail shape.fields ≡ true
-  pub prefix : prefix_takes found.prefix shape.fields ≡ true
-  pub reg : line.has_register found.tail ≡ has_reg shape.fields
-  pub vvvv : line.has_vvvv found.prefix ≡ has_vvvv shape.fields
-  pub imm : found.imm ≡ imm_field shape.imm
-
-pub facts_of : (found : Line) (shape : OpShape) → has_shape found shape ≡ true → Facts found shape
-facts_of found shape h =
-    let a = and_parts (tail_takes found.tail shape.fields) _ h in
-    let b = and_parts (prefix_takes found.prefix shape.fields) (same_imm found.imm (imm_field shape.imm)) a.1 in
-    record {
-      tail = a.0;
-      prefix = b.0;
-      reg = tail_reg found.tail shape.fields a.0;
-      vvvv = prefix_vvvv found.prefix shape.fields b.0;
-      imm = imm_is found.imm (imm_field shape.imm) b.1;
-    }
-
-pub facts : (op : Op) → Facts (core_line op.number) (shape_of op.number)
-facts op = facts_of (core_line op.number) (shape_of op.number) (shape_is op.number (op_below op))
+use Rattle.x64_lines.specs.declared.shapes.OpFields.{OpFields}
+use Rattle.x64_lines.specs.declared.shapes.OpImm.{OpImm}
+use Rattle.x64_lines.specs.declared.shapes.OpShape.{OpShape}
+use Rattle.x64_lines.proofs.Facts.{Facts, facts}
+use Rattle.x64_core.proofs.Viewed.{viewed_operand}
 
 -- What is made of numbers.
 
@@ -112,6 +36,21 @@ mem_fits fields (Register number) amode h e = cc
 mem_fits fields (Base base trap offset displacement) amode h e = h
 mem_fits fields (BaseAndIndex base index scale trap displacement) amode h e = h
 mem_fits fields (Relative target) amode h e = h
+
+-- and of a flat place
+pub address_fits : (fields : OpFields) (place : FlatPlace) (amode : Amode ℕ) → has_mem fields ≡ true → flat.place_operand place ≡ Memory amode → place_fits fields (viewed place) ≡ true
+address_fits fields place amode h e = mem_fits fields (viewed place) amode h (viewed_operand place ∙ e)
+
+rm_fits : (fields : OpFields) (place : CorePlace) (number : Number) → has_rm fields ≡ true → place_operand place ≡ operand.Register number → place_fits fields place ≡ true
+rm_fits fields Absent number h e = cc
+rm_fits fields (Register n) number h e = h
+rm_fits fields (Base base trap offset displacement) number h e = cc
+rm_fits fields (BaseAndIndex base index scale trap displacement) number h e = cc
+rm_fits fields (Relative target) number h e = cc
+
+-- a register fits where a register may stand
+pub register_fits : (fields : OpFields) (place : FlatPlace) (number : Number) → has_rm fields ≡ true → flat.place_operand place ≡ operand.Register number → place_fits fields (viewed place) ≡ true
+register_fits fields place number h e = rm_fits fields (viewed place) number h (viewed_operand place ∙ e)
 
 abbrev pub view_at : Line → ℕ → ℕ → ℕ → CorePlace → ℕ → CoreView
 view_at found op reg vvvv place word = record { op = op; reg = when (line.has_register found.tail) reg; vvvv = when (line.has_vvvv found.prefix) vvvv; place = place_operand place; imm = option_map imm_value (imm_named found.imm word) }

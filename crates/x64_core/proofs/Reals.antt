@@ -9,12 +9,12 @@ use Rattle.cax64_encoder.specs.Place.{memory_in}
 use Rattle.cax64_encoder.specs.Real.{place_is_real}
 use Rattle.cax64_encoder.specs.declared.role.PlaceOperand.{PlaceOperand}
 use Rattle.cax64_machine_code.specs.declared.line.Line.{Line}
-use Rattle.cax64_place.specs.Operand as flat
+use Rattle.x64_place.specs.Operand as flat
 use Rattle.x64_core.specs.Core.{is_encodable, register_before, place_visited, visited_of}
 use Rattle.x64_core.specs.Fits.{place_fits}
 use Rattle.x64_core.specs.Form.{core_form}
-use Rattle.x64_core.specs.Line.{core_line}
-use Rattle.x64_core.specs.Shape.{shape_of, has_reg, has_vvvv}
+use Rattle.x64_lines.specs.Line.{core_line}
+use Rattle.x64_lines.specs.Shape.{shape_of, has_reg, has_vvvv}
 use Rattle.x64_core.specs.View.{core_view, place_operand, when}
 use Rattle.x64_core.specs.Viewed.{viewed}
 use Rattle.x64_core.specs.declared.instruction.Core.{Core}
@@ -22,7 +22,7 @@ use Rattle.x64_core.specs.declared.place.CorePlace.{CorePlace}
 use Rattle.x64_core.specs.declared.place.CorePlace.TheVariants.{Absent, Register, Base, BaseAndIndex, Relative}
 use Rattle.cax64_table.specs.Numbers as line
 use Rattle.x64_core.proofs.Forms.{place_back}
-use Rattle.x64_core.proofs.MadeOf.{facts}
+use Rattle.x64_lines.proofs.Facts.{facts}
 use Rattle.x64_core.proofs.Viewed.{viewed_operand}
 
 -- The registers of an instruction are as they have to be where its numbers are below 16, and an index isn't number 4.

@@ -5,22 +5,23 @@ use Rattle.cax64_address.specs.declared.amode.Amode.TheVariants.{ImmReg, ImmRegR
 use Rattle.cax64_encoder.specs.declared.role.PlaceOperand.{PlaceOperand}
 use Rattle.cax64_encoder.specs.declared.role.PlaceOperand.TheVariants as operand
 use Rattle.cax64_machine_code.specs.Line.{same_bool}
-use Rattle.cax64_place.specs.Operand as numbers
-use Rattle.cax64_place.specs.Renamed as flat
-use Rattle.cax64_place.specs.declared.place.DataPlace.{DataPlace}
-use Rattle.cax64_place.specs.declared.place.PlaceKind.{PlaceKind}
-use Rattle.cax64_place.specs.declared.place.PlaceKind.TheVariants as kinds
+use Rattle.x64_place.specs.Operand as numbers
+use Rattle.x64_place.specs.Renamed as flat
+use Rattle.x64_place.specs.declared.place.FlatPlace.{FlatPlace}
+use Rattle.x64_place.specs.declared.place.PlaceKind.{PlaceKind}
+use Rattle.x64_place.specs.declared.place.PlaceKind.TheVariants as kinds
 use Rattle.x64_core.specs.Fits.{core_fits, place_fits}
-use Rattle.x64_core.specs.Line.{core_line}
+use Rattle.x64_lines.specs.Line.{core_line}
 use Rattle.x64_core.specs.Rename.{home_if, renamed, renamed_place}
-use Rattle.x64_core.specs.Shape.{has_reg, has_vvvv, shape_of}
+use Rattle.x64_lines.specs.Shape.{has_reg, has_vvvv, shape_of}
 use Rattle.x64_core.specs.View.{core_view, place_operand, when}
 use Rattle.x64_core.specs.Viewed.{viewed, viewed_by}
 use Rattle.x64_core.specs.declared.instruction.Core.{Core}
 use Rattle.x64_core.specs.declared.place.CorePlace.{CorePlace}
-use Rattle.x64_core.specs.declared.shapes.OpFields.{OpFields}
-use Rattle.x64_core.specs.declared.shapes.OpShape.{OpShape}
-use Rattle.x64_core.proofs.MadeOf.{facts, view_at}
+use Rattle.x64_lines.specs.declared.shapes.OpFields.{OpFields}
+use Rattle.x64_lines.specs.declared.shapes.OpShape.{OpShape}
+use Rattle.x64_lines.proofs.Facts.{facts}
+use Rattle.x64_core.proofs.MadeOf.{view_at}
 use Rattle.x64_core.proofs.Viewed.{viewed_operand}
 
 -- Other numbers in the place of those that an instruction holds.
@@ -39,7 +40,7 @@ renamed_fits s reg vvvv p q word homes h e =
     let d = and_parts (has_reg s.fields || (reg == 0)) _ b.1 in
     four _ _ _ _ (e s.fields ∙ a.0) b.0 (kept_if (has_reg s.fields) homes reg d.0) (kept_if (has_vvvv s.fields) homes vvvv d.1)
 
-pub fits_found : (c : Core) (homes : List ℕ) (q : DataPlace) (s : OpShape) (b d : Bool) (r v : ℕ) → s ≡ shape_of c.op.number → b ≡ has_reg s.fields → d ≡ has_vvvv s.fields → r ≡ home_if b homes c.reg → v ≡ home_if d homes c.vvvv → ((fields : OpFields) → place_fits fields (viewed q) ≡ place_fits fields (viewed c.place)) → core_fits (shape_of c.op.number) r v (viewed q) c.imm ≡ true
+pub fits_found : (c : Core) (homes : List ℕ) (q : FlatPlace) (s : OpShape) (b d : Bool) (r v : ℕ) → s ≡ shape_of c.op.number → b ≡ has_reg s.fields → d ≡ has_vvvv s.fields → r ≡ home_if b homes c.reg → v ≡ home_if d homes c.vvvv → ((fields : OpFields) → place_fits fields (viewed q) ≡ place_fits fields (viewed c.place)) → core_fits (shape_of c.op.number) r v (viewed q) c.imm ≡ true
 fits_found c homes q s b d r v es eb ed er ev e = rw (er, ev, eb, ed, es) (renamed_fits (shape_of c.op.number) c.reg c.vvvv (viewed c.place) (viewed q) c.imm homes c.shape e)
 
 when_home : (b : Bool) (homes : List ℕ) (n : ℕ) → when b (home_if b homes n) ≡ option_map (slice_index homes) (when b n)
@@ -62,10 +63,10 @@ place_renamed home (operand.Memory (ImmRegRegShift base index scale simm32 trap)
 place_renamed home (operand.Memory (RipRelative target)) = refl
 
 -- the place that renamed numbers are
-pub viewed_renamed : (home : ℕ → ℕ) (p q : DataPlace) → numbers.place_operand q ≡ flat.renamed_place home (numbers.place_operand p) → place_operand (viewed q) ≡ renamed_place home (place_operand (viewed p))
+pub viewed_renamed : (home : ℕ → ℕ) (p q : FlatPlace) → numbers.place_operand q ≡ flat.renamed_place home (numbers.place_operand p) → place_operand (viewed q) ≡ renamed_place home (place_operand (viewed p))
 viewed_renamed home p q h = viewed_operand q ∙ h ∙ place_renamed home (numbers.place_operand p) ∙ ap (renamed_place home) (sym (viewed_operand p))
 
-fits_when : (fields : OpFields) (kind : PlaceKind) (p q : DataPlace) → place_fits fields (viewed_by kind q) ≡ place_fits fields (viewed_by kind p)
+fits_when : (fields : OpFields) (kind : PlaceKind) (p q : FlatPlace) → place_fits fields (viewed_by kind q) ≡ place_fits fields (viewed_by kind p)
 fits_when fields kinds.Absent p q = refl
 fits_when fields kinds.Register p q = refl
 fits_when fields kinds.Base p q = refl
@@ -75,7 +76,7 @@ fits_when fields kinds.Constant p q = refl
 fits_when fields kinds.NoTarget p q = refl
 
 -- a place of the same kind fits the same fields
-pub fits_alike : (p q : DataPlace) → q.kind ≡ p.kind → (fields : OpFields) → place_fits fields (viewed q) ≡ place_fits fields (viewed p)
+pub fits_alike : (p q : FlatPlace) → q.kind ≡ p.kind → (fields : OpFields) → place_fits fields (viewed q) ≡ place_fits fields (viewed p)
 fits_alike p q e fields = ap (λ (kind : PlaceKind). place_fits fields (viewed_by kind q)) e ∙ fits_when fields p.kind p q
 
 same_is : (a b : Bool) → same_bool a b ≡ true → a ≡ b

@@ -9,7 +9,6 @@ use Rattle.cax64_encoder.specs.Notices.{memory_notices}
 use Rattle.cax64_encoder.proofs.LineRuns.{line_adds}
 use Rattle.cax64_machine_code.specs.Reading.{PartsOf}
 use Rattle.cax64_machine_code.specs.ReadLine.{LineReading}
-use Rattle.cax64_machine_code.specs.Rows.{all_rows}
 use Rattle.cax64_machine_code.specs.Sequence.{IsFront}
 use Rattle.cax64_machine_code.specs.declared.line.Line.{Line}
 use Rattle.cax64_machine_code.proofs.ReadLine.{contained, line_reads}
@@ -22,18 +21,13 @@ use Rattle.cax64_sink.specs.declared.SinkError.{SinkError}
 use Rattle.cax64_sink.proofs.Rooms.{ran_succeeds, ran_byte_room, ran_notice_room, size_is_length, notes_is_length}
 use Rattle.x64_core.specs.Adds.{AddsCore, LeavesCore}
 use Rattle.x64_core.specs.Core.{core_meant, core_len}
-use Rattle.x64_core.specs.Line.{core_line, no_line}
-use Rattle.x64_core.specs.Lines.{core_lines, arithmetic_lines, moves_lines, multiplication_lines, shifts_lines, conditions_lines, control_lines, bits_lines, scalar_lines}
+use Rattle.x64_lines.specs.Line.{core_line, no_line}
+use Rattle.x64_lines.specs.Lines.{core_lines}
 use Rattle.x64_core.specs.View.{CoreView, core_view}
 use Rattle.x64_core.specs.declared.instruction.Core.{Core}
-use Rattle.x64_core.specs.declared.lines.TheConstants.{COUNT}
-use Rattle.x64_core.proofs.Table.{lines_apart, op_below}
+use Rattle.x64_lines.proofs.Table.{lines_apart, op_below, so_many}
 
 -- A run of the actions that write an instruction of the core.
-
-so_many : length core_lines ≡ COUNT
-unfolding core_lines arithmetic_lines moves_lines multiplication_lines shifts_lines conditions_lines control_lines bits_lines scalar_lines all_rows
-so_many = refl
 
 pub is_there : (c : Core) → Contains core_lines (core_line c.op.number)
 is_there c = Contains-get_or core_lines c.op.number no_line (omega (arith, so_many, op_below c.op))

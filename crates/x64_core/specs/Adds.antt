@@ -5,7 +5,7 @@ use Rattle.cax64_machine_code.specs.ReadLine.{LineReading, read_line, read_of}
 use Rattle.cax64_shortest.specs.LineParts.{line_parts}
 use Rattle.cax64_sink.specs.Sink.{State}
 use Rattle.x64_core.specs.Core.{core_meant}
-use Rattle.x64_core.specs.Lines.{core_lines}
+use Rattle.x64_lines.specs.Lines.{core_lines}
 use Rattle.x64_core.specs.View.{CoreView}
 
 -- A sink has got an instruction of the core: bytes that, whatever follows, its line reads as these numbers, and of all

@@ -18,7 +18,7 @@ use Rattle.cax64_sink.specs.Sink.{State}
 use Rattle.cax64_sink.specs.declared.Notice.{Notice}
 use Rattle.x64_core.specs.Adds.{AddsCore, LeavesCore}
 use Rattle.x64_core.specs.Core.{core_meant}
-use Rattle.x64_core.specs.Lines.{core_lines}
+use Rattle.x64_lines.specs.Lines.{core_lines}
 use Rattle.x64_core.specs.View.{CoreView}
 use Rattle.x64_encode.specs.Encode.{AddsMeant, LeavesMeant, LineMeant, SamePut}
 

@@ -15,7 +15,7 @@ use Rattle.cax64_machine_code.specs.Line.{imm_bytes}
 use Rattle.cax64_machine_code.specs.Reading.{PartsOf}
 use Rattle.cax64_machine_code.specs.declared.line.Line.{Line}
 use Rattle.cax64_machine_code.specs.declared.reading.RegView.TheVariants.{Low}
-use Rattle.x64_core.specs.Line.{core_line}
+use Rattle.x64_lines.specs.Line.{core_line}
 use Rattle.x64_core.specs.View.{CoreView}
 use Rattle.x64_encode.specs.Encode.{LineMeant}
 

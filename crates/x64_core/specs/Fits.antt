@@ -1,10 +1,10 @@
 use Rattle.std.specs.Prelude.{ℕ, ◌^◌, ◌==◌, ◌&&◌, ◌||◌, not, nat_lt, Bool}
 use Rattle.cax64_machine_code.specs.Line.{imm_bytes}
-use Rattle.x64_core.specs.Shape.{has_reg, has_vvvv, has_mem, has_rm, imm_field}
+use Rattle.x64_lines.specs.Shape.{has_reg, has_vvvv, has_mem, has_rm, imm_field}
 use Rattle.x64_core.specs.declared.place.CorePlace.{CorePlace}
 use Rattle.x64_core.specs.declared.place.CorePlace.TheVariants.{Absent, Register, Base, BaseAndIndex, Relative}
-use Rattle.x64_core.specs.declared.shapes.OpFields.{OpFields}
-use Rattle.x64_core.specs.declared.shapes.OpShape.{OpShape}
+use Rattle.x64_lines.specs.declared.shapes.OpFields.{OpFields}
+use Rattle.x64_lines.specs.declared.shapes.OpShape.{OpShape}
 
 -- Numbers are operands that a line of this shape takes. What it lacks is 0 or absent.
 

@@ -1,7 +1,7 @@
 use Rattle.cax64_encoder.specs.Numbered.{plain, numbered_place}
 use Rattle.cax64_encoder.specs.declared.numbered.NumberedForm.{NumberedForm}
 use Rattle.cax64_table.specs.Numbers.{has_register, has_vvvv}
-use Rattle.x64_core.specs.Line.{core_line}
+use Rattle.x64_lines.specs.Line.{core_line}
 use Rattle.x64_core.specs.View.{place_operand, when}
 use Rattle.x64_core.specs.Viewed.{viewed}
 use Rattle.x64_core.specs.declared.instruction.Core.{Core}

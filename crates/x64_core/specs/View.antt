@@ -1,12 +1,13 @@
 use Rattle.std.specs.Prelude.{ℕ, Bool, if◌then◌else◌, Option, Some, None, ℤ, option_map}
 use Rattle.cax64_address.specs.declared.amode.Amode.TheVariants.{ImmReg, ImmRegRegShift, RipRelative}
 use Rattle.cax64_encoder.specs.ImmActions.{imm_named}
+use Rattle.cax64_encoder.specs.Number.{number_value}
 use Rattle.cax64_encoder.specs.declared.number.Number.TheVariants.{Settled}
 use Rattle.cax64_encoder.specs.declared.role.PlaceOperand as operand
 use Rattle.cax64_encoder.specs.declared.role.PlaceOperand.{PlaceOperand}
 use Rattle.cax64_operand.specs.Immediate.{imm_value}
 use Rattle.cax64_table.specs.Numbers.{has_register, has_vvvv}
-use Rattle.x64_core.specs.Line.{core_line}
+use Rattle.x64_lines.specs.Line.{core_line}
 use Rattle.x64_core.specs.Viewed.{viewed}
 use Rattle.x64_core.specs.declared.instruction.Core.{Core}
 use Rattle.x64_core.specs.declared.place.CorePlace.{CorePlace}
@@ -30,6 +31,12 @@ place_operand (Register number) = operand.TheVariants.Register (Settled number)
 place_operand (Base base trap offset displacement) = operand.TheVariants.Memory (ImmReg base (record { simm32 = displacement; offset = offset }) trap)
 place_operand (BaseAndIndex base index scale trap displacement) = operand.TheVariants.Memory (ImmRegRegShift base index scale displacement trap)
 place_operand (Relative target) = operand.TheVariants.Memory (RipRelative target)
+
+-- the register that a place is, where it is one
+abbrev pub register_in : PlaceOperand ℕ → Option ℕ
+register_in operand.TheVariants.NoPlace = None
+register_in (operand.TheVariants.Register number) = Some (number_value number)
+register_in (operand.TheVariants.Memory amode) = None
 
 abbrev pub when : Bool → ℕ → Option ℕ
 when present number = if present then Some number else None

@@ -14,11 +14,12 @@ ghost use Rattle.x64_core.specs.Core.{core_meant, core_len, core_notices, fault_
 ghost use Rattle.x64_core.specs.View.{core_view};
 
 use crate::faults::plain_fault;
+use crate::heads::heads;
 use crate::instruction::Core;
 use cax64_encoder::code::Code;
 use cax64_encoder::{EncodeError, Fault, RoomNeeded};
-use cax64_place::code_of;
 use cax64_sink::{CodeSink, SinkError};
+use x64_place::code_by_heads;
 
 impl Core {
     /// Whether each register is below 16, and an index isn't the stack pointer.
@@ -97,9 +98,9 @@ impl Core {
         ensures is { IsCode result }
     {
         let displacement = self.place.displacement(sink);
-        code_of(
+        code_by_heads(
             self.op.entry(),
-            self.op.heads(),
+            heads(self.op.number()),
             self.reg,
             self.vvvv,
             &self.place,

@@ -1,9 +1,9 @@
 //! What stands in front of the tail in the lines without VEX, ready to be looked up.
 
 ghost use Rattle.std.specs.Prelude.{◌≡◌, ◌<◌, true};
-ghost use Rattle.cax64_place.specs.Heads.{are_heads};
-ghost use Rattle.x64_core.specs.Line.{core_line};
-ghost use Rattle.x64_core.specs.declared.lines.TheConstants.{COUNT};
+ghost use Rattle.x64_place.specs.Heads.{are_heads};
+ghost use Rattle.x64_lines.specs.Line.{core_line};
+ghost use Rattle.x64_lines.specs.declared.lines.TheConstants.{COUNT};
 
 /// Four numbers for each line: where no register has a number of 4 to 7 that a field of 8 bits may hold and R, X and B are 0,
 /// where one of R, X and B is 1; and the same where a register has such a number. The lowest byte is the number of bytes,

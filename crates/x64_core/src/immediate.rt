@@ -4,9 +4,9 @@ ghost use Rattle.std.specs.Prelude.{◌≡◌, ◌^◌, ℤ, Some, option_map, p
 ghost use Rattle.cax64_encoder.specs.ImmActions.{imm_named};
 ghost use Rattle.cax64_machine_code.specs.Line.{imm_bytes};
 ghost use Rattle.cax64_operand.specs.Immediate.{imm_value};
-ghost use Rattle.x64_core.specs.Shape.{imm_field};
-ghost use Rattle.x64_core.specs.declared.shapes.OpImm.{OpImm};
-ghost use Rattle.x64_core.specs.declared.shapes.OpImm.TheVariants.{U8, U16, U32, I8, I32};
+ghost use Rattle.x64_lines.specs.Shape.{imm_field};
+ghost use Rattle.x64_lines.specs.declared.shapes.OpImm.{OpImm};
+ghost use Rattle.x64_lines.specs.declared.shapes.OpImm.TheVariants.{U8, U16, U32, I8, I32};
 
 /// The type of an immediate. It has its kind's range, so that an immediate of another can't be given.
 pub trait CoreImm: Copy {

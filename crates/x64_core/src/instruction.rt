@@ -1,20 +1,22 @@
 //! An instruction of the core as data.
 
 ghost use Rattle.std.specs.Prelude.{◌≡◌, true};
+ghost use Rattle.cax64_encoder.specs.Place.{memory_in};
 ghost use Rattle.x64_core.specs.Fits.{core_fits};
-ghost use Rattle.x64_core.specs.Shape.{shape_of};
+ghost use Rattle.x64_lines.specs.Shape.{shape_of};
 ghost use Rattle.x64_core.specs.Viewed.{viewed};
 
-use crate::op::Op;
 use crate::place::CorePlace;
-use cax64_place::DataPlace;
+use cax64_address::amode::Amode;
+use x64_lines::Op;
+use x64_place::{FlatPlace, PlaceKind};
 
 /// An instruction of the core: its line, and each number where it stands in the bytes. Registers are numbers, of which
 /// those from 16 up are virtual. A register that the line fixes isn't held: the line has it.
 #[derive(Clone, Copy, Debug, PartialEq)]
 pub struct Core {
     /// Flat, so that what is asked of it takes no branch on what it is.
-    pub(crate) place: DataPlace,
+    pub(crate) place: FlatPlace,
     /// The bytes of the immediate as one word, the first one the lowest; 0 where there is none.
     pub(crate) imm: u32,
     pub(crate) op: Op,
@@ -26,7 +28,7 @@ pub struct Core {
 }
 
 impl Core {
-    ghost use Rattle.x64_core.specs.View.{core_view, place_operand};
+    ghost use Rattle.x64_core.specs.View.{core_view, place_operand, register_in};
 
     /// Its line.
     pub fn op(&self) -> Op
@@ -64,5 +66,25 @@ impl Core {
         ensures { place_operand result ≡ (core_view self.now).place }
     {
         CorePlace::of_numbers(&self.place)
+    }
+
+    /// The register that the rest of the tail names, where it names one.
+    #[inline(always)]
+    pub fn place_register(&self) -> Option<u8>
+        ensures { result ≡ register_in (core_view self.now).place }
+    {
+        if matches!(self.place.kind, PlaceKind::Register) {
+            Some(self.place.base)
+        } else {
+            None
+        }
+    }
+
+    /// The address of its memory operand, where it has one.
+    #[inline(always)]
+    pub fn memory(&self) -> Option<Amode<u8>>
+        ensures { result ≡ memory_in (core_view self.now).place }
+    {
+        self.place.memory()
     }
 }

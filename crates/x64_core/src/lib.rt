@@ -2,37 +2,27 @@
 //! scalar arithmetic of SSE2, beside the rows of the assembler.
 //!
 //! [`Core`] is an instruction: a line of the table, and a number wherever its bytes hold a register. It's made by the
-//! constants of [`ops`], each of which takes what its line takes, or by [`Core::new`] of any [`Op`].
+//! constants of [`ops`], each of which takes what its line takes, by [`Core::new`] of any [`Op`](x64_lines::Op), or of what was
+//! read from bytes, by [`Core::of_reading`].
 #![tactic(auto)]
 
 mod by_line;
 pub mod encode;
-pub mod extension;
 mod faults;
-pub mod flags;
+mod fits;
 mod heads;
 pub mod immediate;
 pub mod instruction;
-mod kind_lists;
-mod kind_spans;
-pub mod kinds;
 pub mod laws;
-pub mod lines;
 pub mod make;
 pub mod makers;
-mod message;
+mod nop;
 pub mod numbers;
-pub mod op;
+mod of_reading;
 pub mod ops;
 pub mod place;
-pub mod refused;
 pub mod rename;
-mod rows;
-pub mod shapes;
 mod value;
 
-pub use extension::{Extension, Extensions};
 pub use instruction::Core;
-pub use op::Op;
 pub use place::CorePlace;
-pub use refused::Shape;

@@ -4,17 +4,17 @@ ghost use Rattle.std.specs.Prelude.{◌≡◌, ◌≤◌, ◌^◌, nat_lt, true,
 ghost use Rattle.cax64_encoder.specs.ImmActions.{imm_named};
 ghost use Rattle.cax64_machine_code.specs.Line.{imm_bytes, same_bool};
 ghost use Rattle.cax64_operand.specs.Immediate.{imm_value};
-ghost use Rattle.x64_core.specs.Fits.{place_fits};
-ghost use Rattle.x64_core.specs.Refusal.{imm_refusal, refusal, unsigned_below};
-ghost use Rattle.x64_core.specs.Shape.{imm_field, shape_of};
+ghost use Rattle.x64_lines.specs.Refusal.{imm_refusal, unsigned_below};
+ghost use Rattle.x64_core.specs.Refusal.{refusal};
+ghost use Rattle.x64_lines.specs.Shape.{imm_field, shape_of};
 ghost use Rattle.x64_core.specs.View.{core_view, place_operand};
 
+use crate::fits::takes;
 use crate::immediate::CoreImm;
 use crate::instruction::Core;
-use crate::op::Op;
 use crate::place::CorePlace;
-use crate::refused::Shape;
-use crate::shapes::{OpFields, OpImm};
+use x64_lines::shapes::OpImm;
+use x64_lines::{Op, OperandError};
 
 /// Whether something is given exactly where it stands.
 fn agree(stands: bool, given: bool) -> bool
@@ -23,22 +23,8 @@ fn agree(stands: bool, given: bool) -> bool
     stands == given
 }
 
-/// Whether the place is one that a line of these fields takes.
-fn takes_place(fields: OpFields, place: &CorePlace) -> bool
-    ensures { result ≡ place_fits fields place.now }
-{
-    match place {
-        CorePlace::Absent => matches!(fields, OpFields::Bare),
-        CorePlace::Register(_) => matches!(
-            fields,
-            OpFields::Rm | OpFields::RegRm | OpFields::RegVvvvRm
-        ),
-        _ => !matches!(fields, OpFields::Bare),
-    }
-}
-
 /// The word of an immediate, where it's one that a line of this kind takes.
-fn imm_word(kind: OpImm, imm: Option<i64>) -> Result<u32, Shape>
+fn imm_word(kind: OpImm, imm: Option<i64>) -> Result<u32, OperandError>
     ensures taken { OnOk result (imm_refusal kind imm ≡ None) }
     ensures refused { IfErr result (λ why. imm_refusal kind imm ≡ Some why) }
     ensures fits { IfOk result (λ word. nat_lt word (256 ^ imm_bytes (imm_field kind)) ≡ true) }
@@ -47,44 +33,42 @@ fn imm_word(kind: OpImm, imm: Option<i64>) -> Result<u32, Shape>
     match imm {
         Some(value) => value_word(kind, value),
         None if matches!(kind, OpImm::None) => Ok(0),
-        None => Err(Shape::Immediate),
+        None => Err(OperandError::Immediate),
     }
 }
 
 /// The word of a value, where it's one of this kind.
-fn value_word(kind: OpImm, value: i64) -> Result<u32, Shape>
+fn value_word(kind: OpImm, value: i64) -> Result<u32, OperandError>
     ensures taken { OnOk result (imm_refusal kind (Some value) ≡ None) }
     ensures refused { IfErr result (λ why. imm_refusal kind (Some value) ≡ Some why) }
     ensures fits { IfOk result (λ word. nat_lt word (256 ^ imm_bytes (imm_field kind)) ≡ true) }
     ensures value { IfOk result (λ word. option_map imm_value (imm_named (imm_field kind) word) ≡ Some value) }
 {
     match kind {
-        OpImm::None => Err(Shape::Immediate),
-        OpImm::U8 => unsigned_word(value, 1 << 8),
-        OpImm::U16 => unsigned_word(value, 1 << 16),
-        OpImm::U32 => unsigned_word(value, 1 << 32),
+        OpImm::None => Err(OperandError::Immediate),
+        OpImm::U8 | OpImm::U16 | OpImm::U32 => unsigned_word(value, kind.limit()),
         OpImm::I8 => match i8::try_from(value) {
             Ok(value) => Ok(value.word()),
-            Err(_) => Err(Shape::Range),
+            Err(_) => Err(OperandError::Range),
         },
         OpImm::I32 => match i32::try_from(value) {
             Ok(value) => Ok(value.word()),
-            Err(_) => Err(Shape::Range),
+            Err(_) => Err(OperandError::Range),
         },
     }
 }
 
 /// A value as it is, where it's below a limit.
-fn unsigned_word(value: i64, limit: u64) -> Result<u32, Shape>
+fn unsigned_word(value: i64, limit: u64) -> Result<u32, OperandError>
     requires { limit ≤ 2 ^ 32 }
     ensures taken { OnOk result (unsigned_below limit value ≡ true) }
-    ensures refused { IfErr result (λ why. (unsigned_below limit value ≡ false) × (why ≡ Shape.Range)) }
+    ensures refused { IfErr result (λ why. (unsigned_below limit value ≡ false) × (why ≡ OperandError.Range)) }
     ensures fits { IfOk result (λ word. nat_lt word limit ≡ true) }
     ensures value { IfOk result (λ word. pos word ≡ value) }
 {
     match u64::try_from(value) {
         Ok(value) if value < limit => Ok(value as u32),
-        _ => Err(Shape::Range),
+        _ => Err(OperandError::Range),
     }
 }
 
@@ -98,24 +82,25 @@ impl Core {
         vvvv: Option<u8>,
         place: CorePlace,
         imm: Option<i64>,
-    ) -> Result<Core, Shape>
+    ) -> Result<Core, OperandError>
         ensures taken { OnOk result (refusal (shape_of op.number) reg vvvv place imm ≡ None) }
         ensures refused { IfErr result (λ why. refusal (shape_of op.number) reg vvvv place imm ≡ Some why) }
         ensures view { IfOk result (λ c. core_view c ≡ record { op = op.number; reg = reg; vvvv = vvvv; place = place_operand place; imm = imm }) }
     {
         let shape = op.shape();
         if !agree(shape.fields.has_reg(), reg.is_some()) {
-            return Err(Shape::Register);
+            return Err(OperandError::Register);
         }
         if !agree(shape.fields.has_vvvv(), vvvv.is_some()) {
-            return Err(Shape::Vvvv);
+            return Err(OperandError::Vvvv);
         }
-        if !takes_place(shape.fields, &place) {
-            return Err(Shape::Place);
+        let place = place.numbers();
+        if !takes(shape.fields, &place) {
+            return Err(OperandError::Place);
         }
         let word = imm_word(shape.imm, imm)?;
         Ok(Core {
-            place: place.numbers(),
+            place,
             imm: word,
             op,
             reg: reg.unwrap_or(0),

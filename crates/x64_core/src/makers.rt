@@ -5,18 +5,18 @@
 ghost use Rattle.std.specs.Prelude.{◌≡◌, ⊤, None, Some};
 ghost use Rattle.cax64_encoder.specs.declared.number.Number.TheVariants.{Settled};
 ghost use Rattle.cax64_encoder.specs.declared.role.PlaceOperand.TheVariants as operand;
-ghost use Rattle.x64_core.specs.Shape.{shape_of};
+ghost use Rattle.x64_lines.specs.Shape.{shape_of};
 ghost use Rattle.x64_core.specs.View.{core_view};
-ghost use Rattle.x64_core.specs.declared.shapes.OpFields.TheVariants as fields;
-ghost use Rattle.x64_core.specs.declared.shapes.OpImm.TheVariants as imm;
+ghost use Rattle.x64_lines.specs.declared.shapes.OpFields.TheVariants as fields;
+ghost use Rattle.x64_lines.specs.declared.shapes.OpImm.TheVariants as imm;
 
 use crate::immediate::CoreImm;
 use crate::instruction::Core;
-use crate::op::Op;
-use crate::place::CorePlace;
 use cax64_address::amode::Amode;
 use std::alloc::AllocError;
 use std::marker::PhantomData;
+use x64_lines::Op;
+use x64_place::FlatPlace;
 
 /// Lines without operands in the bytes.
 #[derive(Clone, Copy, Debug, PartialEq)]
@@ -40,7 +40,7 @@ impl Bare {
         ensures { core_view result ≡ record { op = self.op.number; reg = None; vvvv = None; place = operand.NoPlace; imm = None } }
     {
         Core {
-            place: CorePlace::Absent.numbers(),
+            place: FlatPlace::ABSENT,
             imm: 0,
             op: self.op,
             reg: 0,
@@ -82,7 +82,7 @@ impl<I: CoreImm> Imm<I> {
         ensures { core_view result ≡ record { op = self.op.number; reg = None; vvvv = None; place = operand.NoPlace; imm = Some (I.value imm) } }
     {
         Core {
-            place: CorePlace::Absent.numbers(),
+            place: FlatPlace::ABSENT,
             imm: imm.word(),
             op: self.op,
             reg: 0,
@@ -113,7 +113,7 @@ impl Rm {
         ensures { core_view result ≡ record { op = self.op.number; reg = None; vvvv = None; place = operand.Register (Settled rm); imm = None } }
     {
         Core {
-            place: CorePlace::Register(rm).numbers(),
+            place: FlatPlace::register(rm),
             imm: 0,
             op: self.op,
             reg: 0,
@@ -127,7 +127,7 @@ impl Rm {
         ensures { core_view result ≡ record { op = self.op.number; reg = None; vvvv = None; place = operand.Memory address; imm = None } }
     {
         Core {
-            place: CorePlace::of_amode(&address).numbers(),
+            place: FlatPlace::of_amode(&address),
             imm: 0,
             op: self.op,
             reg: 0,
@@ -169,7 +169,7 @@ impl<I: CoreImm> RmImm<I> {
         ensures { core_view result ≡ record { op = self.op.number; reg = None; vvvv = None; place = operand.Register (Settled rm); imm = Some (I.value imm) } }
     {
         Core {
-            place: CorePlace::Register(rm).numbers(),
+            place: FlatPlace::register(rm),
             imm: imm.word(),
             op: self.op,
             reg: 0,
@@ -183,7 +183,7 @@ impl<I: CoreImm> RmImm<I> {
         ensures { core_view result ≡ record { op = self.op.number; reg = None; vvvv = None; place = operand.Memory address; imm = Some (I.value imm) } }
     {
         Core {
-            place: CorePlace::of_amode(&address).numbers(),
+            place: FlatPlace::of_amode(&address),
             imm: imm.word(),
             op: self.op,
             reg: 0,
@@ -214,7 +214,7 @@ impl Mem {
         ensures { core_view result ≡ record { op = self.op.number; reg = None; vvvv = None; place = operand.Memory address; imm = None } }
     {
         Core {
-            place: CorePlace::of_amode(&address).numbers(),
+            place: FlatPlace::of_amode(&address),
             imm: 0,
             op: self.op,
             reg: 0,
@@ -256,7 +256,7 @@ impl<I: CoreImm> MemImm<I> {
         ensures { core_view result ≡ record { op = self.op.number; reg = None; vvvv = None; place = operand.Memory address; imm = Some (I.value imm) } }
     {
         Core {
-            place: CorePlace::of_amode(&address).numbers(),
+            place: FlatPlace::of_amode(&address),
             imm: imm.word(),
             op: self.op,
             reg: 0,
@@ -287,7 +287,7 @@ impl RegRm {
         ensures { core_view result ≡ record { op = self.op.number; reg = Some reg; vvvv = None; place = operand.Register (Settled rm); imm = None } }
     {
         Core {
-            place: CorePlace::Register(rm).numbers(),
+            place: FlatPlace::register(rm),
             imm: 0,
             op: self.op,
             reg,
@@ -301,7 +301,7 @@ impl RegRm {
         ensures { core_view result ≡ record { op = self.op.number; reg = Some reg; vvvv = None; place = operand.Memory address; imm = None } }
     {
         Core {
-            place: CorePlace::of_amode(&address).numbers(),
+            place: FlatPlace::of_amode(&address),
             imm: 0,
             op: self.op,
             reg,
@@ -343,7 +343,7 @@ impl<I: CoreImm> RegRmImm<I> {
         ensures { core_view result ≡ record { op = self.op.number; reg = Some reg; vvvv = None; place = operand.Register (Settled rm); imm = Some (I.value imm) } }
     {
         Core {
-            place: CorePlace::Register(rm).numbers(),
+            place: FlatPlace::register(rm),
             imm: imm.word(),
             op: self.op,
             reg,
@@ -357,7 +357,7 @@ impl<I: CoreImm> RegRmImm<I> {
         ensures { core_view result ≡ record { op = self.op.number; reg = Some reg; vvvv = None; place = operand.Memory address; imm = Some (I.value imm) } }
     {
         Core {
-            place: CorePlace::of_amode(&address).numbers(),
+            place: FlatPlace::of_amode(&address),
             imm: imm.word(),
             op: self.op,
             reg,
@@ -388,7 +388,7 @@ impl RegMem {
         ensures { core_view result ≡ record { op = self.op.number; reg = Some reg; vvvv = None; place = operand.Memory address; imm = None } }
     {
         Core {
-            place: CorePlace::of_amode(&address).numbers(),
+            place: FlatPlace::of_amode(&address),
             imm: 0,
             op: self.op,
             reg,
@@ -419,7 +419,7 @@ impl RegVvvvRm {
         ensures { core_view result ≡ record { op = self.op.number; reg = Some reg; vvvv = Some vvvv; place = operand.Register (Settled rm); imm = None } }
     {
         Core {
-            place: CorePlace::Register(rm).numbers(),
+            place: FlatPlace::register(rm),
             imm: 0,
             op: self.op,
             reg,
@@ -433,7 +433,7 @@ impl RegVvvvRm {
         ensures { core_view result ≡ record { op = self.op.number; reg = Some reg; vvvv = Some vvvv; place = operand.Memory address; imm = None } }
     {
         Core {
-            place: CorePlace::of_amode(&address).numbers(),
+            place: FlatPlace::of_amode(&address),
             imm: 0,
             op: self.op,
             reg,
@@ -475,7 +475,7 @@ impl<I: CoreImm> RegVvvvRmImm<I> {
         ensures { core_view result ≡ record { op = self.op.number; reg = Some reg; vvvv = Some vvvv; place = operand.Register (Settled rm); imm = Some (I.value imm) } }
     {
         Core {
-            place: CorePlace::Register(rm).numbers(),
+            place: FlatPlace::register(rm),
             imm: imm.word(),
             op: self.op,
             reg,
@@ -489,7 +489,7 @@ impl<I: CoreImm> RegVvvvRmImm<I> {
         ensures { core_view result ≡ record { op = self.op.number; reg = Some reg; vvvv = Some vvvv; place = operand.Memory address; imm = Some (I.value imm) } }
     {
         Core {
-            place: CorePlace::of_amode(&address).numbers(),
+            place: FlatPlace::of_amode(&address),
             imm: imm.word(),
             op: self.op,
             reg,

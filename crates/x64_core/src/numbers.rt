@@ -1,39 +1,14 @@
 //! Instructions of any line, from numbers as they stand in the bytes.
 
-ghost use Rattle.std.specs.Prelude.{◌≡◌, ◌^◌, false, IfNone, IfSome, nat_lt, true};
-ghost use Rattle.cax64_machine_code.specs.Line.{imm_bytes};
-ghost use Rattle.x64_core.specs.Fits.{core_fits, place_fits};
-ghost use Rattle.x64_core.specs.Shape.{has_mem, has_rm, imm_field, shape_of};
+ghost use Rattle.std.specs.Prelude.{◌≡◌, false, IfNone, IfSome, true};
+ghost use Rattle.x64_core.specs.Fits.{core_fits};
+ghost use Rattle.x64_lines.specs.Shape.{shape_of};
 ghost use Rattle.x64_core.specs.Viewed.{viewed};
 
+use crate::fits::takes;
 use crate::instruction::Core;
-use crate::op::Op;
-use crate::shapes::{OpFields, OpImm};
-use cax64_place::{DataPlace, PlaceKind};
-
-/// Whether the place is one that a line of these fields takes. Nothing is tested one after the other, since a branch on what a
-/// place is is often guessed wrong.
-#[inline(always)]
-fn takes(fields: OpFields, place: &DataPlace) -> bool
-    ensures { result ≡ place_fits fields (viewed place.now) }
-{
-    let is_absent = matches!(place.kind, PlaceKind::Absent);
-    let is_register = matches!(place.kind, PlaceKind::Register);
-    (is_absent != fields.has_mem()) & (!is_register | fields.has_rm())
-}
-
-/// The first number that is too large for an immediate.
-#[inline(always)]
-fn limit(kind: OpImm) -> u64
-    ensures { result ≡ 256 ^ imm_bytes (imm_field kind) }
-{
-    match kind {
-        OpImm::None => 1,
-        OpImm::U8 | OpImm::I8 => 1 << 8,
-        OpImm::U16 => 1 << 16,
-        OpImm::U32 | OpImm::I32 => 1 << 32,
-    }
-}
+use x64_lines::Op;
+use x64_place::FlatPlace;
 
 impl Core {
     /// The instruction of a line with these numbers where they stand in the bytes, which have to be those that the line takes: 0
@@ -42,7 +17,7 @@ impl Core {
     /// Nothing is tested. Where the line doesn't take them, a build that wasn't proved may make an instruction that is encoded
     /// wrongly. [`of_numbers`](Self::of_numbers) tests them.
     #[inline(always)]
-    pub fn of_fitting(op: Op, reg: u8, vvvv: u8, place: DataPlace, word: u32) -> Core
+    pub fn of_fitting(op: Op, reg: u8, vvvv: u8, place: FlatPlace, word: u32) -> Core
         requires { core_fits (shape_of op.number) reg vvvv (viewed place) word ≡ true }
         ensures op { result.op ≡ op }
         ensures numbers { (result.reg ≡ reg) × (result.vvvv ≡ vvvv) × (result.imm ≡ word) }
@@ -60,7 +35,7 @@ impl Core {
     /// The instruction of a line with these numbers where they stand in the bytes, 0 where nothing stands; of an immediate its
     /// bytes as one word, the first one the lowest. `None` where they aren't those that the line takes. Registers aren't tested.
     #[inline(always)]
-    pub fn of_numbers(op: Op, reg: u8, vvvv: u8, place: DataPlace, word: u32) -> Option<Core>
+    pub fn of_numbers(op: Op, reg: u8, vvvv: u8, place: FlatPlace, word: u32) -> Option<Core>
         ensures none { IfNone result (core_fits (shape_of op.number) reg vvvv (viewed place) word ≡ false) }
         ensures some { IfSome result (λ c. core_fits (shape_of op.number) reg vvvv (viewed place) word ≡ true) }
         ensures op { IfSome result (λ c. c.op ≡ op) }
@@ -69,7 +44,7 @@ impl Core {
     {
         let shape = op.shape();
         let fits = takes(shape.fields, &place)
-            & (u64::from(word) < limit(shape.imm))
+            & (u64::from(word) < shape.imm.limit())
             & (shape.fields.has_reg() | (reg == 0))
             & (shape.fields.has_vvvv() | (vvvv == 0));
         if fits {

@@ -6,15 +6,14 @@ ghost use Rattle.cax64_encoder.specs.Fault.{first_unmet, late_fault};
 ghost use Rattle.cax64_encoder.specs.Place.{memory_in};
 ghost use Rattle.cax64_encoder.specs.declared.role.PlaceOperand.TheVariants.{Memory};
 ghost use Rattle.x64_core.specs.Viewed.{viewed};
-ghost use Rattle.x64_core.specs.declared.place.CorePlace.TheVariants.{Relative};
 
 use crate::faults::{index_fault, offset_fault, plain_fault};
 use cax64_address::amode::{Amode, Scale};
-use cax64_address::offset::AmodeOffset;
+use cax64_address::offset::{AmodeOffset, AmodeOffsetPlusKnownOffset};
 use cax64_encoder::Fault;
-use cax64_place::{DataPlace, PlaceKind};
-use cax64_register::gpr;
+use cax64_register::NonRspGpr;
 use cax64_sink::{CodeSink, Constant, DeferredTarget, KnownOffset, Label, TrapCode};
+use x64_place::{FlatPlace, PlaceKind};
 
 /// What stands in the rest of the tail, by numbers. (Intel SDM, volume 1, 3.7.5.)
 #[derive(Clone, Copy, Debug, PartialEq)]
@@ -40,45 +39,6 @@ pub enum CorePlace {
     },
     /// Memory that is settled later, relative to the end of the instruction.
     Relative(DeferredTarget),
-}
-
-/// The numbers of a place relative to the end.
-#[inline(always)]
-fn relative(target: DeferredTarget) -> DataPlace
-    ensures { viewed result ≡ Relative target }
-{
-    match target {
-        DeferredTarget::Label(Label(number)) => DataPlace {
-            kind: PlaceKind::Label,
-            base: 0,
-            index: 0,
-            scale: Scale::One,
-            trap: None,
-            offset: None,
-            displacement: AmodeOffset::ZERO,
-            target: number,
-        },
-        DeferredTarget::Constant(Constant(number)) => DataPlace {
-            kind: PlaceKind::Constant,
-            base: 0,
-            index: 0,
-            scale: Scale::One,
-            trap: None,
-            offset: None,
-            displacement: AmodeOffset::ZERO,
-            target: number,
-        },
-        DeferredTarget::None => DataPlace {
-            kind: PlaceKind::NoTarget,
-            base: 0,
-            index: 0,
-            scale: Scale::One,
-            trap: None,
-            offset: None,
-            displacement: AmodeOffset::ZERO,
-            target: 0,
-        },
-    }
 }
 
 impl CorePlace {
@@ -116,7 +76,7 @@ impl CorePlace {
 
     /// The place that these numbers are.
     #[inline(always)]
-    pub fn of_numbers(place: &DataPlace) -> CorePlace
+    pub fn of_numbers(place: &FlatPlace) -> CorePlace
         ensures { result ≡ viewed place.now }
     {
         match place.kind {
@@ -145,62 +105,39 @@ impl CorePlace {
 
     /// Its numbers.
     #[inline(always)]
-    pub(crate) fn numbers(&self) -> DataPlace
+    pub(crate) fn numbers(&self) -> FlatPlace
         ensures { viewed result ≡ self.now }
     {
         match *self {
-            CorePlace::Absent => DataPlace {
-                kind: PlaceKind::Absent,
-                base: 0,
-                index: 0,
-                scale: Scale::One,
-                trap: None,
-                offset: None,
-                displacement: AmodeOffset::ZERO,
-                target: 0,
-            },
-            CorePlace::Register(number) => DataPlace {
-                kind: PlaceKind::Register,
-                base: number,
-                index: 0,
-                scale: Scale::One,
-                trap: None,
-                offset: None,
-                displacement: AmodeOffset::ZERO,
-                target: 0,
-            },
+            CorePlace::Absent => FlatPlace::ABSENT,
+            CorePlace::Register(number) => FlatPlace::register(number),
             CorePlace::Base {
                 base,
                 trap,
                 offset,
                 displacement,
-            } => DataPlace {
-                kind: PlaceKind::Base,
+            } => FlatPlace::of_amode(&Amode::ImmReg {
                 base,
-                index: gpr::enc::RSP,
-                scale: Scale::One,
+                simm32: AmodeOffsetPlusKnownOffset {
+                    simm32: displacement,
+                    offset,
+                },
                 trap,
-                offset,
-                displacement,
-                target: 0,
-            },
+            }),
             CorePlace::BaseAndIndex {
                 base,
                 index,
                 scale,
                 trap,
                 displacement,
-            } => DataPlace {
-                kind: PlaceKind::BaseAndIndex,
+            } => FlatPlace::of_amode(&Amode::ImmRegRegShift {
                 base,
-                index,
+                index: NonRspGpr::new(index),
                 scale,
+                simm32: displacement,
                 trap,
-                offset: None,
-                displacement,
-                target: 0,
-            },
-            CorePlace::Relative(target) => relative(target),
+            }),
+            CorePlace::Relative(target) => FlatPlace::of_target(target),
         }
     }
 

@@ -5,7 +5,7 @@ ghost use Rattle.x64_core.specs.Rename.{renamed};
 ghost use Rattle.x64_core.specs.View.{core_view};
 
 use crate::instruction::Core;
-use cax64_place::place::home_if;
+use x64_place::place::home_if;
 
 impl Core {
     /// Puts others in the place of all its registers, each by its number in this table. All else stays.

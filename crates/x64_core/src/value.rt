@@ -4,12 +4,12 @@ ghost use Rattle.std.specs.Prelude.{◌≡◌, ◌^◌, IfSome, nat_lt, option_m
 ghost use Rattle.cax64_encoder.specs.ImmActions.{imm_named};
 ghost use Rattle.cax64_machine_code.specs.Line.{imm_bytes};
 ghost use Rattle.cax64_operand.specs.Immediate.{imm_value};
-ghost use Rattle.x64_core.specs.Shape.{imm_field};
+ghost use Rattle.x64_lines.specs.Shape.{imm_field};
 ghost use Rattle.x64_core.specs.Value.{is_imm_value};
 ghost use Rattle.x64_core.specs.View.{core_view};
 
 use crate::instruction::Core;
-use crate::shapes::OpImm;
+use x64_lines::shapes::OpImm;
 
 /// What the word of an immediate of this kind stands for.
 fn word_value(kind: OpImm, word: u32) -> Option<i64>

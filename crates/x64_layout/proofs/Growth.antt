@@ -20,7 +20,7 @@ no_span = record { least = 0; more = 0; spot = None }
 pub span_at : (spans : List Span) (n : ℕ) (s : Span) → slice_get spans n ≡ Some s → AreSpans spans → IsSpan (length spans) s
 span_at spans n s is are = subst (IsSpan (length spans)) (get_or_from_slice_get spans n s s is) (All-get_or (IsSpan (length spans)) spans n s (slice_get_within spans n s is) are.each)
 
--- A jump that doesn't reach, where no entry is longer than in a layout, is long in that.
+-- A jump that doesn't reach, where no span is longer than in a layout, is long in that.
 
 not_short : (a b least more : ℕ) {P : Type 0} → ((b ≡ least) × P) ⊎ (b ≡ least + more) → (P → ⊥) → b ≡ least + more
 not_short a b least more (inl h) far = absurd (far h.1)
@@ -125,7 +125,7 @@ places_small spans lens places are below noted as_many =
     All-from_get_or (λ place. place < 2 ^ 31) places 0 (λ i h.
     omega (arith, noted i (omega (arith, below.as_many)), place_small lens i (all_small spans lens are below) (omega (arith, below.as_many)), are.few))
 
--- A round, of which so many entries are done.
+-- A round, of which so many spans are done.
 
 pub record Round (spans : List Span) (start lens : List ℕ) (grew : Bool) (n : ℕ) : Type 0 where
   pub below : IsBelow spans lens
@@ -172,7 +172,7 @@ no_room_by start n spot far (inr le) = omega arith
 pub no_room : (start : List ℕ) (n : ℕ) (spot : Option ℕ) → (Reaches (place_in start) n spot → ⊥) → room_at (place_in start) n spot ≡ 0
 no_room start n spot far = no_room_by start n spot far (cases_lt 0 (room_at (place_in start) n spot))
 
--- an entry stays as short as it is
+-- a span stays as short as it is
 pub round_stays : (spans : List Span) (start lens : List ℕ) (grew : Bool) (n : ℕ) (s : Span) → slice_get spans n ≡ Some s → (IsBelow spans start) → Round spans start lens grew n → (s.least + s.more ≤ get_or lens n 0) ⊎ Reaches (place_in start) n s.spot → Round spans start lens grew (n + 1)
 round_stays spans start lens grew n s is below done stands = record {
   below = done.below;

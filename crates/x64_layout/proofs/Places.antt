@@ -4,7 +4,7 @@ use Rattle.std.proofs.lemmas.List.{take_all, get_or_past, get_or-set_same, get_o
 use Rattle.std.proofs.lemmas.List.Sums.{sum_by_more, sum_by-set}
 use Rattle.x64_layout.specs.Layout.{place_in, NoLonger}
 
--- Places, where some entries are longer.
+-- Places, where some spans are longer.
 
 place_past : (lens : List ℕ) (n : ℕ) → length lens ≤ n → place_in lens (n + 1) ≡ place_in lens n + get_or lens n 0
 place_past lens n past =
@@ -17,11 +17,11 @@ place_by : (lens : List ℕ) (n : ℕ) → (n < length lens) ⊎ (length lens �
 place_by lens n (inl within) = sum_by_more (λ x. x) lens n 0 within
 place_by lens n (inr past) = place_past lens n past
 
--- the next place
+-- the next position
 pub place_more : (lens : List ℕ) (n : ℕ) → place_in lens (n + 1) ≡ place_in lens n + get_or lens n 0
 place_more lens n = place_by lens n (cases_lt n (length lens))
 
--- what is between two entries has no fewer bytes
+-- what is between two spans has no fewer bytes
 gap_by : (a b : List ℕ) (i d : ℕ) → NoLonger a b → place_in a (i + d) + place_in b i ≤ place_in b (i + d) + place_in a i
 gap_by a b i zero longer = let here : i + zero ≡ i = omega arith in rw here (omega arith)
 gap_by a b i (suc d) longer =
@@ -35,7 +35,7 @@ gap_grows a b i k longer le =
     let far : i + (k - i) ≡ k = omega arith in
     subst (λ (n : ℕ). place_in a n + place_in b i ≤ place_in b n + place_in a i) far (gap_by a b i (k - i) longer)
 
--- a later entry has no earlier place
+-- a later span has no earlier position
 order_by : (a : List ℕ) (i d : ℕ) → place_in a i ≤ place_in a (i + d)
 order_by a i zero = let here : i + zero ≡ i = omega arith in rw here (omega arith)
 order_by a i (suc d) =
@@ -48,7 +48,7 @@ in_order a i k le =
     let far : i + (k - i) ≡ k = omega arith in
     subst (λ (n : ℕ). place_in a i ≤ place_in a n) far (order_by a i (k - i))
 
--- each place is no earlier, and all have no fewer bytes
+-- each position is no earlier, and all have no fewer bytes
 pub places_grow : (a b : List ℕ) (n : ℕ) → NoLonger a b → place_in a n ≤ place_in b n
 places_grow a b n longer = omega (arith, gap_grows a b 0 n longer (omega arith))
 
@@ -62,7 +62,7 @@ sum_grows a b longer =
 pub same_lens : (a b : List ℕ) → length a ≡ length b → NoLonger a b → NoLonger b a → a ≡ b
 same_lens a b e ab ba = ext_get_or 0 a b e (λ i h. omega (arith, ab i, ba i))
 
--- One entry is longer.
+-- One span is longer.
 
 pub place_before : (lens : List ℕ) (n y k : ℕ) → k ≤ n → place_in (set lens n y) k ≡ place_in lens k
 place_before lens n y k le = ap sum (take-set-le k lens n y le)

@@ -49,7 +49,7 @@ room_less lens n more by (Some spot) within (inr over) =
     let y : ℕ = get_or lens n 0 + more in
     rw (place_before lens n y spot over.1) (less_back (place_in lens (by + 1)) (place_in lens spot) (place_in (set lens n y) (by + 1)) more (in_order lens spot (by + 1) (omega arith)) (omega (arith, place_behind lens n y (by + 1) within (omega arith))))
 
--- An entry that has no room gets its longer form.
+-- A span that has no room gets its longer form.
 
 pub grown_rippling : (spans : List Span) (lens rooms : List ℕ) (n : ℕ) (s : Span) → slice_get spans n ≡ Some s → IsBelow spans lens → HasRooms (place_in lens) spans rooms → get_or rooms n 0 ≡ 0 → IsBelow spans (set lens n (s.least + s.more))
 grown_rippling spans lens rooms n s is below have room =

@@ -42,7 +42,7 @@ pub room_reaches : (place : ℕ → ℕ) (n : ℕ) (spot : Option ℕ) → 0 < r
 room_reaches place n None h = search arith
 room_reaches place n (Some spot) h = fits_room (place (n + 1)) (place spot) h
 
--- It has no more where entries are longer.
+-- It has no more where spans are longer.
 
 away_by : (end place end' place' : ℕ) → end ≤ place → place + end' ≤ place' + end → RoomIs end place → RoomIs end' place' → room_of end' place' ≤ room_of end place
 away_by end place end' place' le grows (inl h) (inl k) = omega (arith, h.0, h.1, k.0, k.1)

@@ -1,4 +1,4 @@
-//! Small rows of random entries, whose layouts are compared with all choices of forms.
+//! Small rows of random spans, whose layouts are compared with all choices of forms.
 
 ghost use Rattle.std.specs.Prelude.{◌<◌};
 
@@ -9,10 +9,10 @@ use std::alloc::{AllocError, Global};
 /// How many rows are tried.
 const ROWS: usize = 200;
 
-/// How many entries of two lengths a row has at most.
+/// How many spans of two lengths a row has at most.
 const MOST_JUMPS: usize = 8;
 
-/// How many entries a row has.
+/// How many spans a row has.
 const ENTRIES: u8 = 26;
 
 /// The next of a row of numbers.
@@ -59,7 +59,7 @@ fn random_row(alloc: Global, seed: u64) -> Result<Vec<Span>, AllocError> {
     Ok(spans)
 }
 
-/// The place of an entry, from the first one's.
+/// The position of a span, from the first one's.
 fn place(lens: &[u8], n: usize) -> u16 {
     let mut at = 0u16;
     for len in lens.iter().take(n) {
@@ -68,7 +68,7 @@ fn place(lens: &[u8], n: usize) -> u16 {
     at
 }
 
-/// Whether an entry has one of its lengths, and reaches its spot where it has the least.
+/// Whether a span has one of its lengths, and reaches its spot where it has the least.
 fn is_right(span: Span, lens: &[u8], n: usize) -> bool {
     let Some(len) = lens.get(n) else {
         return false;
@@ -97,7 +97,7 @@ fn is_layout(spans: &[Span], lens: &[u8]) -> bool {
     true
 }
 
-/// The lengths by a choice: from its last bit on one for each entry of two lengths.
+/// The lengths by a choice: from its last bit on one for each span of two lengths.
 fn chosen(alloc: Global, spans: &[Span], choice: u32) -> Result<Vec<u8>, AllocError> {
     let mut lens = Vec::new(alloc);
     let mut left = choice;

@@ -8,7 +8,7 @@ use crate::ripple::ripple;
 use crate::rounds::round;
 use crate::span::Span;
 
-/// Gives each entry its least length.
+/// Gives each span its least length.
 fn begin(spans: &[Span], lens: &mut [u8])
     requires { length lens.old ≡ length spans.now }
     ensures { IsBelow spans.now lens.new }
@@ -21,7 +21,7 @@ fn begin(spans: &[Span], lens: &mut [u8])
 /// How many rounds are made before growths are passed on. Most rows are done after three, of which the last changes nothing.
 const PLAIN_ROUNDS: u8 = 3;
 
-/// Finds the least layout, and answers how many entries were looked at, each as often as it was.
+/// Finds the least layout, and answers how many spans were looked at, each as often as it was.
 pub(crate) fn lay_out(spans: &[Span], lens: &mut [u8], places: &mut [u32], rooms: &mut [u8]) -> u64
     requires spans { AreSpans spans.now }
     requires lens { length lens.old ≡ length spans.now }
@@ -44,11 +44,11 @@ pub(crate) fn lay_out(spans: &[Span], lens: &mut [u8], places: &mut [u32], rooms
     looks
 }
 
-/// Lays entries out: gives each the length that it has in the least layout, which is as short as in any, and notes the places
+/// Lays spans out: gives each the length that it has in the least layout, which is as short as in any, and notes the positions
 /// of all, and behind them that of the end.
 ///
 /// What `lens`, `places` and `rooms` held before doesn't matter, nor what `rooms` holds afterwards. There is a length and a room
-/// for each entry, and a place more, which is that of the end; [`are_spans`](crate::are_spans) tells whether entries can be
+/// for each span, and a position more, which is that of the end; [`are_spans`](crate::are_spans) tells whether spans can be
 /// laid out. Where one of these doesn't hold, a build that wasn't proved may give lengths that are no layout, or abort. It
 /// takes time in proportion to their number, if each has a byte at least.
 pub fn least_layout(spans: &[Span], lens: &mut [u8], places: &mut [u32], rooms: &mut [u8])

@@ -12,11 +12,11 @@ use crate::rounds::note_places;
 use crate::span::Span;
 use std::cmp::min;
 
-/// A jump of the shorter form that goes over an entry is nearer to it than so many entries, if each has a byte at least. What is
+/// A jump of the shorter form that goes over a span is nearer to it than so many spans, if each has a byte at least. What is
 /// missed where some have none, the next round finds.
 const NEAR: usize = 128;
 
-/// How many bytes more make a jump too long for a distance of eight bits, whose end and spot are at these places. It is 0
+/// How many bytes more make a jump too long for a distance of eight bits, whose end and spot are at these positions. It is 0
 /// where it is too long already, and at most 129.
 fn room(end: u32, place: u32) -> u8
     requires end_small { end < 2 ^ 31 }
@@ -31,7 +31,7 @@ fn room(end: u32, place: u32) -> u8
     room as u8
 }
 
-/// Notes the room of each entry. What doesn't jump has more than enough.
+/// Notes the room of each span. What doesn't jump has more than enough.
 fn note_rooms(spans: &[Span], places: &[u32], rooms: &mut [u8])
     requires spans { AreSpans spans.now }
     requires places { length places.now ≡ length spans.now + 1 }
@@ -47,7 +47,7 @@ fn note_rooms(spans: &[Span], places: &[u32], rooms: &mut [u8])
     }
 }
 
-/// Whether the entry of the number `by` jumps over that of the number `n`, or back to it or over itself.
+/// Whether the span of the number `by` jumps over that of the number `n`, or back to it or over itself.
 fn goes_over(by: usize, span: Span, n: usize) -> bool
     ensures { IsTrue result ↔ GoesOver by span.spot n }
 {
@@ -58,8 +58,8 @@ fn goes_over(by: usize, span: Span, n: usize) -> bool
     })
 }
 
-/// Gives an entry its longer form, and takes the growth from the rooms of the jumps over it. Answers the first of these that
-/// doesn't reach any more, or else the next entry.
+/// Gives a span its longer form, and takes the growth from the rooms of the jumps over it. Answers the first of these that
+/// doesn't reach any more, or else the next span.
 fn grow(spans: &[Span], lens: &mut [u8], rooms: &mut [u8], n: usize) -> usize
     requires spans { AreSpans spans.now }
     requires below { IsBelow spans.now lens.old }
@@ -88,8 +88,8 @@ fn grow(spans: &[Span], lens: &mut [u8], rooms: &mut [u8], n: usize) -> usize
     next
 }
 
-/// Gives their longer form to the entries that have no room, and to those that have none therefore, and so on. Answers how
-/// many entries it looked at.
+/// Gives their longer form to the spans that have no room, and to those that have none therefore, and so on. Answers how
+/// many spans it looked at.
 fn spread(spans: &[Span], lens: &mut [u8], rooms: &mut [u8]) -> u64
     requires spans { AreSpans spans.now }
     requires below { IsBelow spans.now lens.old }
@@ -113,7 +113,7 @@ fn spread(spans: &[Span], lens: &mut [u8], rooms: &mut [u8]) -> u64
     looks
 }
 
-/// Notes places and rooms anew, and passes growths on. Answers how many entries it looked at.
+/// Notes positions and rooms anew, and passes growths on. Answers how many spans it looked at.
 pub(crate) fn ripple(spans: &[Span], lens: &mut [u8], places: &mut [u32], rooms: &mut [u8]) -> u64
     requires spans { AreSpans spans.now }
     requires below { IsBelow spans.now lens.old }

@@ -1,4 +1,4 @@
-//! Rounds over all entries, each of which gives their longer form to those that don't reach.
+//! Rounds over all spans, each of which gives their longer form to those that don't reach.
 
 ghost use Rattle.std.specs.Prelude.{◌≡◌, ◌<◌, ◌≤◌, ◌↔◌, ◌⊎◌, ◌+◌, ◌^◌, pos, ◌-ℤ◌, IsTrue, IfSome, FitsSigned, length, sum, All, slice_index};
 ghost use Rattle.std.specs.Bool.{OnTrue, OnFalse};
@@ -9,7 +9,7 @@ ghost use Rattle.x64_layout.specs.declared.span.TheConstants.{MOST_SPANS};
 
 use crate::span::Span;
 
-/// Notes the place of each entry, and behind them that of the end.
+/// Notes the position of each span, and behind them that of the end.
 pub(crate) fn note_places(lens: &[u8], places: &mut [u32])
     requires few { length lens.now ≤ MOST_SPANS }
     requires most { All (λ len. len ≤ 13) lens.now }
@@ -24,7 +24,7 @@ pub(crate) fn note_places(lens: &[u8], places: &mut [u32])
     places[lens.len()] = at;
 }
 
-/// Whether a distance of eight bits leads from the end of an entry to a place.
+/// Whether a distance of eight bits leads from the end of a span to a position.
 fn reaches(end: u32, place: u32) -> bool
     requires end_small { end < 2 ^ 31 }
     requires place_small { place < 2 ^ 31 }
@@ -33,7 +33,7 @@ fn reaches(end: u32, place: u32) -> bool
     place <= end + 127 && end <= place + 128
 }
 
-/// Whether the entry of this number can stay as short as it is.
+/// Whether the span of this number can stay as short as it is.
 fn stands(span: Span, len: u8, n: usize, places: &[u32]) -> bool
     requires most { span.least + span.more ≤ 13 }
     requires spot { IfSome span.spot (λ spot. spot < length places.now) }
@@ -48,7 +48,7 @@ fn stands(span: Span, len: u8, n: usize, places: &[u32]) -> bool
         .is_none_or(|spot| reaches(places[n + 1], places[spot as usize]))
 }
 
-/// Gives its longer form to each entry that doesn't reach its spot, and says whether there was one.
+/// Gives its longer form to each span that doesn't reach its spot, and says whether there was one.
 fn lengthen(spans: &[Span], places: &[u32], lens: &mut [u8]) -> bool
     requires spans { AreSpans spans.now }
     requires below { IsBelow spans.now lens.old }
@@ -69,7 +69,7 @@ fn lengthen(spans: &[Span], places: &[u32], lens: &mut [u8]) -> bool
     grew
 }
 
-/// A round over all: notes the places, gives their longer form to those that don't reach, and says whether all did.
+/// A round over all: notes the positions, gives their longer form to those that don't reach, and says whether all did.
 pub(crate) fn round(spans: &[Span], lens: &mut [u8], places: &mut [u32]) -> bool
     requires spans { AreSpans spans.now }
     requires below { IsBelow spans.now lens.old }

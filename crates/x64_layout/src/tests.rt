@@ -1,4 +1,4 @@
-//! Rows of entries whose least layouts are known, and rows that are made to take long.
+//! Rows of spans whose least layouts are known, and rows that are made to take long.
 
 use crate::least::lay_out;
 use crate::{Span, are_spans, least_layout};
@@ -18,7 +18,7 @@ enum Piece {
     Call,
 }
 
-/// A row, the lengths of some of its entries and the places of some.
+/// A row, the lengths of some of its spans and the positions of some.
 struct Row {
     pieces: &'static [Piece],
     lens: &'static [(usize, u8)],
@@ -126,7 +126,7 @@ const ROWS: [Row; 12] = [
     },
 ];
 
-/// Puts the entries of a piece behind others.
+/// Puts the spans of a piece behind others.
 fn push_piece(spans: &mut Vec<Span>, piece: Piece) -> Result<(), AllocError> {
     let (count, least, more, spot) = match piece {
         Piece::Plain(count, least) => (count, least, 0, None),
@@ -140,7 +140,7 @@ fn push_piece(spans: &mut Vec<Span>, piece: Piece) -> Result<(), AllocError> {
     Ok(())
 }
 
-/// Lengths, places, and how many entries were looked at.
+/// Lengths, positions, and how many spans were looked at.
 #[derive(Drop)]
 pub(crate) struct Laid {
     pub lens: Vec<u8>,

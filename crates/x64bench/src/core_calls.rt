@@ -1,65 +1,69 @@
-//! The same of instructions of the core, which the list's data is.
+//! What only instructions of the core have: they are made of others and of numbers, renamed, and read.
 
 use crate::timing::{ROUNDS, time_if};
-use cranelift_assembler_x64::InstData;
-use std::alloc::{AllocError, Global};
+use cranelift_assembler_x64::{Numbers, RowAndOperands};
+use std::alloc::Global;
 use std::io;
+use std::io::ErrorKind;
 use std::time::{Duration, Instant};
 use x64_core::{Core, CorePlace};
-use x64_core_data::{core_of_data, data_of_core};
-use x64_core_reader::{CoreReading, read_core};
-use x64_core_text::CoreText;
+use x64_lines::Op;
+use x64_lines::shapes::{OpFields, OpImm};
+use x64_of_port::{NotCore, core_of};
+use x64_place::FlatPlace;
+use x64_reader::{CoreReading, read_core};
 
-/// What is timed of the core.
+/// What is timed of the core alone.
 #[derive(Clone, Copy)]
 pub(crate) enum CoreCall {
-    IsEncodable,
-    IsEncodableAndEncode,
-    EncodeChecked,
-    Read,
     Rename,
-    ToString,
+    RenameTestAndEncode,
+    Read,
 }
 
-pub(crate) const CORE_CALLS: [CoreCall; 6] = [
-    CoreCall::IsEncodable,
-    CoreCall::IsEncodableAndEncode,
-    CoreCall::EncodeChecked,
-    CoreCall::Read,
+/// What is timed of them, in an order in which there is code before it is read.
+pub(crate) const CORE_CALLS: [CoreCall; 3] = [
     CoreCall::Rename,
-    CoreCall::ToString,
+    CoreCall::RenameTestAndEncode,
+    CoreCall::Read,
 ];
 
 impl CoreCall {
     pub(crate) fn name(self) -> &'static str {
         match self {
-            CoreCall::IsEncodable => "is_encodable",
-            CoreCall::IsEncodableAndEncode => "is_encodable_and_encode",
-            CoreCall::EncodeChecked => "encode_checked",
-            CoreCall::Read => "read",
             CoreCall::Rename => "rename",
-            CoreCall::ToString => "to_string",
+            CoreCall::RenameTestAndEncode => "rename_test_and_encode",
+            CoreCall::Read => "read",
         }
     }
 }
 
-/// Adds the instruction of the core that this is, where there is one. False where there is no memory.
-fn take(inst: &InstData, made: &mut Vec<Core>) -> bool {
-    match core_of_data(inst) {
+/// Adds the instruction of the core that this is. Whether there is one, or it's a no-operation, of which there is none.
+fn take<I: RowAndOperands<Family = Numbers>>(
+    inst: &I,
+    code: &Vec<u8>,
+    made: &mut Vec<Core>,
+) -> bool {
+    match core_of(inst, code) {
         Ok(core) => {
             // The prover takes a `push` of an instruction only in a function that has its place's type too.
             let _place: CorePlace = core.place();
             made.push(core).is_ok()
         }
-        Err(_) => true,
+        Err(NotCore::Nop) => true,
+        Err(NotCore::Fault(_)) => false,
     }
 }
 
 /// Makes an instruction of the core of each that there is one of: all but no-operations.
-fn take_all(data: &[InstData], made: &mut Vec<Core>) -> bool {
+fn take_all<I: RowAndOperands<Family = Numbers>>(
+    insts: &[I],
+    code: &Vec<u8>,
+    made: &mut Vec<Core>,
+) -> bool {
     made.clear();
-    for inst in data {
-        if !take(inst, made) {
+    for inst in insts {
+        if !take(inst, code, made) {
             return false;
         }
     }
@@ -67,67 +71,87 @@ fn take_all(data: &[InstData], made: &mut Vec<Core>) -> bool {
 }
 
 /// The best time of all rounds of making them.
-pub(crate) fn best_time_of_taking_core(
+pub(crate) fn best_time_of_taking<I: RowAndOperands<Family = Numbers>>(
     rt: &HostRuntime,
-    data: &[InstData],
+    insts: &[I],
+    code: &Vec<u8>,
     made: &mut Vec<Core>,
 ) -> io::Result<Duration> {
     let mut best = Duration::MAX;
     for _ in 0..ROUNDS {
         let start = Instant::now(rt)?;
-        let is_done = take_all(data, made);
+        let is_done = take_all(insts, code, made);
         best = best.min(time_if(rt, start, is_done)?);
     }
     Ok(best)
 }
 
-fn give_all(insts: &[Core], made: &mut Vec<InstData>) -> bool {
-    made.clear();
+/// What `of_numbers` makes an instruction of.
+#[derive(Clone, Copy)]
+pub(crate) struct MemReg {
+    op: Op,
+    place: FlatPlace,
+    reg: u8,
+}
+
+/// The numbers of an instruction that is memory and a register.
+fn numbers_of(inst: &Core) -> Option<MemReg> {
+    let shape = inst.op().shape();
+    if !matches!((shape.fields, shape.imm), (OpFields::RegMem, OpImm::None)) {
+        return None;
+    }
+    Some(MemReg {
+        op: inst.op(),
+        place: FlatPlace::of_amode(&inst.memory()?),
+        reg: inst.reg()?,
+    })
+}
+
+/// The instructions of a list that are memory and a register, by their numbers.
+pub(crate) fn memory_and_register(alloc: Global, insts: &[Core]) -> io::Result<Vec<MemReg>> {
+    let mut found = Vec::new(alloc);
     for inst in insts {
-        match data_of_core(inst) {
-            Ok(data) => {
-                if made.push(data).is_err() {
-                    return false;
-                }
-            }
-            Err(_) => return false,
+        if let Some(numbers) = numbers_of(inst) {
+            found
+                .push(numbers)
+                .map_err(|_| io::Error::from(ErrorKind::OutOfMemory))?;
+        }
+    }
+    Ok(found)
+}
+
+/// Adds the instruction of these numbers. Whether there is one.
+fn make(numbers: &MemReg, made: &mut Vec<Core>) -> bool {
+    match Core::of_numbers(numbers.op, numbers.reg, 0, numbers.place, 0) {
+        Some(core) => {
+            let _place: CorePlace = core.place();
+            made.push(core).is_ok()
+        }
+        None => false,
+    }
+}
+
+/// Makes an instruction of each, in place of what was made before. Whether all is made.
+fn make_all(numbers: &[MemReg], made: &mut Vec<Core>) -> bool {
+    made.clear();
+    for one in numbers {
+        if !make(one, made) {
+            return false;
         }
     }
     true
 }
 
-/// The best time of all rounds of making data of them again.
-pub(crate) fn best_time_of_giving(rt: &HostRuntime, insts: &[Core]) -> io::Result<Duration> {
+/// The best time of all rounds of making instructions of numbers.
+pub(crate) fn best_time_of_making(rt: &HostRuntime, numbers: &[MemReg]) -> io::Result<Duration> {
     let mut made = Vec::new(rt.alloc());
     let mut best = Duration::MAX;
     for _ in 0..ROUNDS {
         let start = Instant::now(rt)?;
-        let is_done = give_all(insts, &mut made);
+        let is_done = make_all(numbers, &mut made);
         best = best.min(time_if(rt, start, is_done)?);
     }
     Ok(best)
-}
-
-fn test_all(insts: &[Core], code: &Vec<u8>) -> bool {
-    insts.iter().all(|inst| inst.is_encodable(code))
-}
-
-fn put_all(insts: &[Core], code: &mut Vec<u8>) -> bool {
-    for inst in insts {
-        if !inst.is_encodable(&*code) || inst.encode(code).is_err() {
-            return false;
-        }
-    }
-    true
-}
-
-fn put_all_checked(insts: &[Core], code: &mut Vec<u8>) -> bool {
-    for inst in insts {
-        if inst.encode_checked(code).is_err() {
-            return false;
-        }
-    }
-    true
 }
 
 /// Reads the first instruction, and leaves all that is read with the caller.
@@ -171,17 +195,16 @@ fn rename_all(insts: &mut [Core], homes: &[u8; 256]) -> bool {
     true
 }
 
-/// The length of all texts, each made and let go. None where one has none.
-fn text_length(alloc: Global, insts: &[Core]) -> Result<Option<usize>, AllocError> {
-    let mut length: usize = 0;
+/// Renames, tests and encodes each instruction, one after the other.
+fn put_renamed(insts: &[Core], homes: &[u8; 256], code: &mut Vec<u8>) -> bool {
     for inst in insts {
-        if !inst.nameable() {
-            return Ok(None);
+        let mut inst = *inst;
+        inst.rename(homes);
+        if !inst.is_encodable(&*code) || inst.encode(code).is_err() {
+            return false;
         }
-        let text = inst.to_string(alloc)?;
-        length = length.wrapping_add(text.len());
     }
-    Ok(Some(length))
+    true
 }
 
 /// The time of one round. What is read is the code of the last call that encodes.
@@ -197,12 +220,9 @@ fn time_of_core(
     }
     let start = Instant::now(rt)?;
     let is_done = match call {
-        CoreCall::IsEncodable => test_all(insts, &*code),
-        CoreCall::IsEncodableAndEncode => put_all(insts, code),
-        CoreCall::EncodeChecked => put_all_checked(insts, code),
-        CoreCall::Read => reads_as(code.as_slice(), insts.len()),
         CoreCall::Rename => rename_all(insts, &homes),
-        CoreCall::ToString => text_length(rt.alloc(), insts)?.is_some(),
+        CoreCall::RenameTestAndEncode => put_renamed(insts, &homes, code),
+        CoreCall::Read => reads_as(code.as_slice(), insts.len()),
     };
     time_if(rt, start, is_done)
 }

@@ -5,23 +5,23 @@
 #![tactic(auto)]
 
 mod core_calls;
-mod data;
+mod texts;
 mod timing;
 
 use crate::core_calls::{
-    CORE_CALLS, best_time_of_core, best_time_of_giving, best_time_of_taking_core,
+    CORE_CALLS, best_time_of_core, best_time_of_making, best_time_of_taking, memory_and_register,
 };
-use crate::data::{
-    DATA_CALLS, best_time_of_data, best_time_of_making, best_time_of_taking, memory_and_register,
-};
-use crate::timing::{CALLS, Call, best_time, first_unfit};
-use cranelift_assembler_x64::{InstData, Instruction, InstructionText, Numbers, RowAndOperands};
+use crate::texts::{OfCore, OfPort, Texts};
+use crate::timing::{CALLS, best_time, best_time_of_reading, first_unfit};
+use cranelift_assembler_x64::{Numbers, RowAndOperands};
 use named_instructions::fields::Fault;
 use named_instructions::{Form, Refusal, TakesList, take_list};
 use std::io::ErrorKind;
 use std::process::ExitCode;
 use std::time::Duration;
 use std::{fs, io};
+use x64_core::Core;
+use x64_encode::Encode;
 
 fn refuse(rt: &impl Print, refusal: Refusal) -> io::Result<ExitCode> {
     let line = refusal.number;
@@ -56,44 +56,40 @@ fn print_time(
 }
 
 /// Times the calls that every instruction has, with this before the name of each.
-fn time_calls<I: Instruction + InstructionText>(
+fn time_calls<I: Encode, T: Texts<I>>(
     rt: &HostRuntime,
     front: &str,
     insts: &[I],
     code: &mut Vec<u8>,
 ) -> io::Result<()> {
     for call in CALLS {
-        let best = best_time(rt, call, insts, code)?;
+        let best = best_time::<I, T>(rt, call, insts, code)?;
         print_time(rt, front, call.name(), best, insts.len())?;
     }
     Ok(())
 }
 
-/// Times the same instructions as data.
-fn time_data(rt: &HostRuntime, data: &mut [InstData], code: &mut Vec<u8>) -> io::Result<()> {
-    time_calls(rt, "data_", &*data, code)?;
-    for call in DATA_CALLS {
-        let best = best_time_of_data(rt, call, data, code)?;
-        print_time(rt, "data_", call.name(), best, data.len())?;
+/// Times those that are instructions of the core, where there are some.
+fn time_core<I: RowAndOperands<Family = Numbers>>(
+    rt: &HostRuntime,
+    insts: &[I],
+    code: &mut Vec<u8>,
+) -> io::Result<()> {
+    let mut cores = Vec::new(rt.alloc());
+    let best = best_time_of_taking(rt, insts, &*code, &mut cores)?;
+    print_time(rt, "core_", "of", best, insts.len())?;
+    if cores.is_empty() {
+        return Ok(());
     }
-    let fields = memory_and_register(rt.alloc(), data)?;
-    let best = best_time_of_making(rt, fields.as_slice())?;
-    print_time(rt, "data_", "of_mem_reg", best, fields.len())
-}
-
-/// Times those that are instructions of the core.
-fn time_core(rt: &HostRuntime, data: &[InstData], code: &mut Vec<u8>) -> io::Result<()> {
-    let mut insts = Vec::new(rt.alloc());
-    let best = best_time_of_taking_core(rt, data, &mut insts)?;
-    print_time(rt, "core_", "of_data", best, data.len())?;
-    let best = best_time_of_giving(rt, insts.as_slice())?;
-    print_time(rt, "core_", "to_data", best, insts.len())?;
-    let count = insts.len();
+    time_calls::<Core, OfCore>(rt, "core_", cores.as_slice(), code)?;
+    let count = cores.len();
     for call in CORE_CALLS {
-        let best = best_time_of_core(rt, call, insts.as_mut_slice(), code)?;
+        let best = best_time_of_core(rt, call, cores.as_mut_slice(), code)?;
         print_time(rt, "core_", call.name(), best, count)?;
     }
-    Ok(())
+    let numbers = memory_and_register(rt.alloc(), cores.as_slice())?;
+    let best = best_time_of_making(rt, numbers.as_slice())?;
+    print_time(rt, "core_", "of_numbers", best, numbers.len())
 }
 
 fn time_list<I: RowAndOperands<Family = Numbers>>(
@@ -107,19 +103,15 @@ fn time_list<I: RowAndOperands<Family = Numbers>>(
     }
     let mut code: Vec<u8> = Vec::new(rt.alloc());
     code.reserve(count.saturating_mul(16))?;
-    if let Some(place) = first_unfit(insts, &code) {
+    if let Some(place) = first_unfit::<I, OfPort>(insts, &code) {
         let number = place.saturating_add(1);
         let fault = Fault::Malformed;
         return refuse(rt, Refusal { number, fault });
     }
-    time_calls(rt, "", insts, &mut code)?;
-    let best = best_time(rt, Call::ReadInst, insts, &mut code)?;
-    print_time(rt, "", Call::ReadInst.name(), best, count)?;
-    let mut data = Vec::new(rt.alloc());
-    let best = best_time_of_taking(rt, insts, &mut data)?;
-    print_time(rt, "data_", "of", best, count)?;
-    time_data(rt, data.as_mut_slice(), &mut code)?;
-    time_core(rt, data.as_slice(), &mut code)?;
+    time_calls::<I, OfPort>(rt, "", insts, &mut code)?;
+    let best = best_time_of_reading(rt, code.as_slice(), count)?;
+    print_time(rt, "", "read_inst", best, count)?;
+    time_core(rt, insts, &mut code)?;
     Ok(ExitCode::SUCCESS)
 }
 

@@ -1,18 +1,17 @@
 //! The best times of the calls, over a whole list each. Nothing here knows which instructions there are.
 
 ghost use Rattle.std.specs.Prelude.{◌↔◌, IsTrue, All};
-ghost use Rattle.cranelift_assembler_x64.specs.Instruction.{can_encode_in};
-ghost use Rattle.cranelift_assembler_x64.specs.Text.{nameable};
 ghost use Rattle.cranelift_assembler_x64.specs.Vec.{vec_state};
+ghost use Rattle.x64_encode.specs.Encode.{can_encode_by};
 
+use crate::texts::Texts;
+use cax64_sequence::{are_encodable, put_each, put_each_checked};
 use cranelift_assembler_x64::reader::{Reading, read_inst};
-use cranelift_assembler_x64::{
-    Instruction, InstructionText, all_encodable, encode_each, encode_each_checked,
-};
 use std::alloc::{AllocError, Global};
 use std::io;
 use std::io::ErrorKind;
 use std::time::{Duration, Instant};
+use x64_encode::Encode;
 
 pub(crate) const ROUNDS: u32 = 15;
 
@@ -26,7 +25,6 @@ pub(crate) enum Call {
     EncodeEachChecked,
     EncodedLen,
     ToString,
-    ReadInst,
 }
 
 /// What is timed of each type of instruction, in an order in which there is code before it is measured.
@@ -50,18 +48,14 @@ impl Call {
             Call::EncodeEachChecked => "encode_each_checked",
             Call::EncodedLen => "encoded_len",
             Call::ToString => "to_string",
-            Call::ReadInst => "read_inst",
         }
     }
 }
 
 /// The place of the first instruction that can't be encoded or has no text.
-pub(crate) fn first_unfit<I: Instruction + InstructionText>(
-    insts: &[I],
-    code: &Vec<u8>,
-) -> Option<usize> {
+pub(crate) fn first_unfit<I: Encode, T: Texts<I>>(insts: &[I], code: &Vec<u8>) -> Option<usize> {
     for (place, inst) in insts.iter().enumerate() {
-        if !inst.is_encodable(code) || !inst.nameable() {
+        if !inst.is_encodable(code) || !T::nameable(inst) {
             return Some(place);
         }
     }
@@ -78,33 +72,33 @@ pub(crate) fn time_if(rt: &HostRuntime, start: Instant, is_done: bool) -> io::Re
     }
 }
 
-/// The call is that of `encode_each`: `encode_all` is nothing else.
-fn time_encode_all<I: Instruction>(
+/// The call is `put_each`: `encode_each` and `encode_all` are nothing else.
+fn time_encode_all<I: Encode>(
     rt: &HostRuntime,
     insts: &[I],
     code: &mut Vec<u8>,
 ) -> io::Result<Duration> {
     code.clear();
-    if !all_encodable(insts, &*code) {
+    if !are_encodable(insts, &*code) {
         return Err(io::Error::from(ErrorKind::InvalidData));
     }
     let start = Instant::now(rt)?;
-    let is_done = encode_each(insts, code).is_ok();
+    let is_done = put_each(insts, code).is_ok();
     time_if(rt, start, is_done)
 }
 
-fn time_is_encodable<I: Instruction>(
+fn time_is_encodable<I: Encode>(
     rt: &HostRuntime,
     insts: &[I],
     code: &Vec<u8>,
 ) -> io::Result<Duration> {
     let start = Instant::now(rt)?;
-    let is_done = all_encodable(insts, code);
+    let is_done = are_encodable(insts, code);
     time_if(rt, start, is_done)
 }
 
 /// Encodes each instruction behind the test whether it can be.
-fn test_and_encode<I: Instruction>(insts: &[I], code: &mut Vec<u8>) -> bool {
+fn test_and_encode<I: Encode>(insts: &[I], code: &mut Vec<u8>) -> bool {
     for inst in insts {
         if !inst.is_encodable(&*code) || inst.encode(code).is_err() {
             return false;
@@ -113,7 +107,7 @@ fn test_and_encode<I: Instruction>(insts: &[I], code: &mut Vec<u8>) -> bool {
     true
 }
 
-fn time_is_encodable_and_encode<I: Instruction>(
+fn time_is_encodable_and_encode<I: Encode>(
     rt: &HostRuntime,
     insts: &[I],
     code: &mut Vec<u8>,
@@ -127,7 +121,7 @@ fn time_is_encodable_and_encode<I: Instruction>(
 /// Encodes each instruction by the call that tests it first. How many are put is counted, and the loop isn't inlined, as with
 /// the calls for a list.
 #[inline(never)]
-fn encode_checked<I: Instruction>(insts: &[I], code: &mut Vec<u8>) -> usize {
+fn encode_checked<I: Encode>(insts: &[I], code: &mut Vec<u8>) -> usize {
     for (whole, inst) in insts.iter().enumerate() {
         if inst.encode_checked(code).is_err() {
             return whole;
@@ -136,7 +130,7 @@ fn encode_checked<I: Instruction>(insts: &[I], code: &mut Vec<u8>) -> usize {
     insts.len()
 }
 
-fn time_encode_checked<I: Instruction>(
+fn time_encode_checked<I: Encode>(
     rt: &HostRuntime,
     insts: &[I],
     code: &mut Vec<u8>,
@@ -147,20 +141,20 @@ fn time_encode_checked<I: Instruction>(
     time_if(rt, start, is_done)
 }
 
-fn time_encode_each_checked<I: Instruction>(
+fn time_encode_each_checked<I: Encode>(
     rt: &HostRuntime,
     insts: &[I],
     code: &mut Vec<u8>,
 ) -> io::Result<Duration> {
     code.clear();
     let start = Instant::now(rt)?;
-    let is_done = encode_each_checked(insts, code).is_ok();
+    let is_done = put_each_checked(insts, code).is_ok();
     time_if(rt, start, is_done)
 }
 
 /// The length of all instructions.
-fn code_length<I: Instruction>(insts: &[I], code: &Vec<u8>) -> usize
-    requires { All (λ i. IsTrue (can_encode_in (vec_state code.now) (I.meant i))) insts.now }
+fn code_length<I: Encode>(insts: &[I], code: &Vec<u8>) -> usize
+    requires { All (λ i. IsTrue (can_encode_by (vec_state code.now) (I.line_meant i))) insts.now }
 {
     let mut length: usize = 0;
     for inst in insts {
@@ -169,12 +163,12 @@ fn code_length<I: Instruction>(insts: &[I], code: &Vec<u8>) -> usize
     length
 }
 
-fn time_encoded_len<I: Instruction>(
+fn time_encoded_len<I: Encode>(
     rt: &HostRuntime,
     insts: &[I],
     code: &Vec<u8>,
 ) -> io::Result<Duration> {
-    if !all_encodable(insts, code) {
+    if !are_encodable(insts, code) {
         return Err(io::Error::from(ErrorKind::InvalidData));
     }
     let start = Instant::now(rt)?;
@@ -183,30 +177,30 @@ fn time_encoded_len<I: Instruction>(
 }
 
 /// Whether each instruction has a text.
-fn all_nameable<I: InstructionText>(insts: &[I]) -> bool
-    ensures { IsTrue result ↔ All (λ i. IsTrue (nameable I.names (I.operands_of i))) insts.now }
+fn all_nameable<I, T: Texts<I>>(insts: &[I]) -> bool
+    ensures { IsTrue result ↔ All (λ i. IsTrue (T.has_text i)) insts.now }
 {
-    insts.iter().all(|inst| inst.nameable())
+    insts.iter().all(|inst| T::nameable(inst))
 }
 
 /// The length of all texts, each made and let go.
-fn text_length<I: InstructionText>(alloc: Global, insts: &[I]) -> Result<usize, AllocError>
-    requires { All (λ i. IsTrue (nameable I.names (I.operands_of i))) insts.now }
+fn text_length<I, T: Texts<I>>(alloc: Global, insts: &[I]) -> Result<usize, AllocError>
+    requires { All (λ i. IsTrue (T.has_text i)) insts.now }
 {
     let mut length: usize = 0;
     for inst in insts {
-        let text = inst.to_string(alloc)?;
+        let text = T::to_string(alloc, inst)?;
         length = length.wrapping_add(text.len());
     }
     Ok(length)
 }
 
-fn time_to_string<I: InstructionText>(rt: &HostRuntime, insts: &[I]) -> io::Result<Duration> {
-    if !all_nameable(insts) {
+fn time_to_string<I, T: Texts<I>>(rt: &HostRuntime, insts: &[I]) -> io::Result<Duration> {
+    if !all_nameable::<I, T>(insts) {
         return Err(io::Error::from(ErrorKind::InvalidData));
     }
     let start = Instant::now(rt)?;
-    let length = text_length(rt.alloc(), insts)?;
+    let length = text_length::<I, T>(rt.alloc(), insts)?;
     time_if(rt, start, length != 0)
 }
 
@@ -234,14 +228,23 @@ fn reads_as(code: &[u8], count: usize) -> bool {
     rest.is_empty()
 }
 
-fn time_read_inst(rt: &HostRuntime, code: &[u8], count: usize) -> io::Result<Duration> {
-    let start = Instant::now(rt)?;
-    let is_done = reads_as(code, count);
-    time_if(rt, start, is_done)
+/// The best time of all rounds of reading code of so many instructions.
+pub(crate) fn best_time_of_reading(
+    rt: &HostRuntime,
+    code: &[u8],
+    count: usize,
+) -> io::Result<Duration> {
+    let mut best = Duration::MAX;
+    for _ in 0..ROUNDS {
+        let start = Instant::now(rt)?;
+        let is_done = reads_as(code, count);
+        best = best.min(time_if(rt, start, is_done)?);
+    }
+    Ok(best)
 }
 
 /// The time of one round. `code` is what the last call that encodes made.
-fn time_of<I: Instruction + InstructionText>(
+fn time_of<I: Encode, T: Texts<I>>(
     rt: &HostRuntime,
     call: Call,
     insts: &[I],
@@ -254,13 +257,12 @@ fn time_of<I: Instruction + InstructionText>(
         Call::EncodeChecked => time_encode_checked(rt, insts, code),
         Call::EncodeEachChecked => time_encode_each_checked(rt, insts, code),
         Call::EncodedLen => time_encoded_len(rt, insts, &*code),
-        Call::ToString => time_to_string(rt, insts),
-        Call::ReadInst => time_read_inst(rt, code.as_slice(), insts.len()),
+        Call::ToString => time_to_string::<I, T>(rt, insts),
     }
 }
 
 /// The best time of all rounds.
-pub(crate) fn best_time<I: Instruction + InstructionText>(
+pub(crate) fn best_time<I: Encode, T: Texts<I>>(
     rt: &HostRuntime,
     call: Call,
     insts: &[I],
@@ -268,7 +270,7 @@ pub(crate) fn best_time<I: Instruction + InstructionText>(
 ) -> io::Result<Duration> {
     let mut best = Duration::MAX;
     for _ in 0..ROUNDS {
-        best = best.min(time_of(rt, call, insts, code)?);
+        best = best.min(time_of::<I, T>(rt, call, insts, code)?);
     }
     Ok(best)
 }

@@ -11,7 +11,6 @@ use cax64_address::operand::{GprMem, XmmMem};
 use cax64_encoder::Instruction;
 use cax64_immediate::{Imm8, Simm8, Simm32};
 use cax64_operand::{Numbers, RowAndOperands};
-use cax64_reader::read_inst;
 use cax64_register::{Fixed, Gpr, Xmm};
 use cax64_sink::{Constant, DeferredTarget, FixedSink};
 use cax64_text::InstructionText;
@@ -21,6 +20,7 @@ use lock_x::lock_cmpxchg16b_m;
 use nop::nop_9b;
 use simd::{andps_a, cmpps_a, vcmpps_b, vcvtpd2ps_a};
 use std::alloc::{AllocError, Allocator};
+use x64_reader::read_inst;
 use x64rows_command::{base_and_displacement, base_and_index};
 
 /// The most bytes of an instruction.

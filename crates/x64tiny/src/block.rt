@@ -1,6 +1,6 @@
 //! What is open where a statement stands.
 
-use cax64_sink::Label;
+use huqmeris::Label;
 
 #[derive(Clone, Copy)]
 pub(crate) enum Block {

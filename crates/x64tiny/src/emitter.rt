@@ -3,21 +3,18 @@
 use crate::function::{MOST, VARIABLES};
 use crate::operand::{Operand, Operator};
 use crate::refused::Refused;
-use cax64_address::amode::{Amode, Scale};
-use cax64_address::offset::AmodeOffset;
-use cax64_register::NonRspGpr;
-use cax64_sink::{DeferredTarget, Label};
-use std::alloc::Global;
-use x64_code_buffer::{CodeBuffer, Condition, Jump};
-use x64_core::Core;
-use x64_core::ops::arithmetic::{
+use huqmeris::ops::arithmetic::{
     ADDQ_MI_SXL, ADDQ_RM, ANDQ_MI_SXB, ANDQ_MI_SXL, ANDQ_RM, CMPQ_RM, ORQ_MI_SXL, ORQ_RM,
     SUBQ_MI_SXL, SUBQ_RM, XORQ_MI_SXL, XORQ_RM,
 };
-use x64_core::ops::control::{POPQ_M, PUSHQ_M, RETQ_ZO};
-use x64_core::ops::moves::{MOVQ_MI_SXL, MOVQ_MR, MOVQ_RM};
-use x64_core::ops::multiplication::{IMULQ_RM, IMULQ_RMI_SXL};
-use x64_core::ops::shifts::{SARQ_MC, SARQ_MI, SHLQ_MC, SHLQ_MI};
+use huqmeris::ops::control::{POPQ_M, PUSHQ_M, RETQ_ZO};
+use huqmeris::ops::moves::{MOVQ_MI_SXL, MOVQ_MR, MOVQ_RM};
+use huqmeris::ops::multiplication::{IMULQ_RM, IMULQ_RMI_SXL};
+use huqmeris::ops::shifts::{SARQ_MC, SARQ_MI, SHLQ_MC, SHLQ_MI};
+use huqmeris::{
+    Amode, AmodeOffset, CodeBuffer, Condition, Core, DeferredTarget, Jump, Label, NonRspGpr, Scale,
+};
+use std::alloc::Global;
 
 pub(crate) const RAX: u8 = 0;
 

@@ -2,7 +2,7 @@
 
 use crate::block::Block;
 use crate::refused::Refused;
-use cax64_sink::Label;
+use huqmeris::Label;
 use std::alloc::Global;
 
 /// The number of the register that stands for the first variable. Real ones are below it.

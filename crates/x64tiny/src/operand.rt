@@ -2,7 +2,7 @@
 
 use crate::function::Function;
 use crate::refused::Refused;
-use x64_code_buffer::Condition;
+use huqmeris::Condition;
 
 /// What an expression works on.
 #[derive(Clone, Copy)]

@@ -1,7 +1,6 @@
 //! Why a program isn't compiled.
 
-use cax64_encoder::EncodeError;
-use cax64_sink::SinkError;
+use huqmeris::{EncodeError, SinkError};
 use std::alloc::AllocError;
 
 #[derive(Clone, Copy)]

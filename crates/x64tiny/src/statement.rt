@@ -5,7 +5,7 @@ use crate::emitter::{ARGUMENTS, Emitter, RAX};
 use crate::function::Function;
 use crate::operand::{Operand, Operator, condition_against};
 use crate::refused::Refused;
-use cax64_sink::Label;
+use huqmeris::Label;
 use std::alloc::Global;
 
 /// Takes a program line by line.

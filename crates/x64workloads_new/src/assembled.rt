@@ -1,13 +1,12 @@
-//! What the job `assembled` has beside `data`: a jump to a label behind every sixth instruction, half of them forward.
+//! What the job `core_assembled` has beside `core`: a jump to a label behind every sixth instruction, half of them forward.
 
-use crate::data::{Body, Plan, push_settled};
+use crate::functions::{Body, Plan, push_settled};
 use crate::parts::Labels;
-use crate::work::Work;
 use cranelift_assembler_x64::{DeferredTarget, Label, SinkError};
+use huqmeris::{CodeBuffer, Condition, Core, Jump};
 use std::alloc::Global;
 use workload_source::digest::Digest;
 use workload_source::stub::bind;
-use x64_code_buffer::{CodeBuffer, Condition, Jump};
 
 /// The jumps, in turn.
 const JUMPS: [Jump; 8] = [
@@ -39,15 +38,15 @@ pub(crate) fn jump_behind(places: &Labels, labels: u32, number: usize) -> Option
     Some((JUMPS[turn % 8], Label(label)))
 }
 
-/// Pushes the instructions as `data` does, and the jumps between them.
+/// Pushes the instructions as `core` does, and the jumps between them.
 #[derive(Clone, Copy)]
 pub(crate) struct WithJumps;
 
-impl<W: Work> Body<W> for WithJumps {
+impl Body for WithJumps {
     fn push(
         &mut self,
         buffer: &mut CodeBuffer<Global>,
-        insts: &[W],
+        insts: &[Core],
         labels: u32,
         plan: &Plan,
         homes: &[u8; 256],

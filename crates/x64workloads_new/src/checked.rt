@@ -4,13 +4,13 @@ use crate::parts::{
     Labels, constants_at, digest_fault, finish, function_length, push_pool, set_offsets,
 };
 use cranelift_assembler_x64::{EncodeError, Label, RowAndOperands, SinkError};
+use huqmeris::CodeBuffer;
 use std::alloc::{AllocError, Global};
 use workload_source::digest::Digest;
 use workload_source::homes::{Homes, assign};
 use workload_source::maker::Maker;
 use workload_source::source::{Source, push};
 use workload_source::stub::bind;
-use x64_code_buffer::CodeBuffer;
 
 /// A function that is to be made.
 #[derive(Clone, Copy)]

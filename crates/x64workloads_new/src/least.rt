@@ -1,20 +1,19 @@
-//! What the job `assembled_least` has beside `assembled`: all of a function is a list, which is put in its least layout.
+//! What the job `core_assembled_least` has beside `core_assembled`: all of a function is a list, which is put in its least layout.
 
 use crate::assembled::jump_behind;
-use crate::data::{Body, Plan};
+use crate::functions::{Body, Plan};
 use crate::parts::{Labels, digest_fault};
-use crate::work::Work;
-use cranelift_assembler_x64::{InstData, Label, SinkError};
+use cranelift_assembler_x64::{Label, SinkError};
+use huqmeris::{CodeBuffer, Core, Item, Layout, LayoutError};
 use std::alloc::{AllocError, Global};
 use workload_source::digest::Digest;
-use x64_assemble::{Item, Layout, LayoutError};
-use x64_code_buffer::CodeBuffer;
+use workload_source::source::push;
 
 /// Lays out one function after the other, and keeps its memory.
 #[derive(Drop)]
 pub(crate) struct Least {
     layout: Layout<Global>,
-    items: Vec<Item<InstData>, Global>,
+    items: Vec<Item<Core>>,
 }
 
 impl Least {
@@ -26,38 +25,33 @@ impl Least {
     }
 
     /// Makes the list of a function: its instructions with the homes of their registers, jumps and labels.
-    fn fill(
-        &mut self,
-        insts: &[InstData],
-        labels: u32,
-        homes: &[u8; 256],
-    ) -> Result<(), AllocError> {
+    fn fill(&mut self, insts: &[Core], labels: u32, homes: &[u8; 256]) -> Result<(), AllocError> {
         self.items.clear();
         let mut places = Labels::new();
         for (number, inst) in insts.iter().enumerate() {
             if let Some(label) = places.step() {
-                self.items.push(Item::Bind(label))?;
+                push(&mut self.items, Item::Bind(label))?;
             }
             let mut settled = *inst;
-            Work::settle(&mut settled, homes);
-            self.items.push(Item::Inst(settled))?;
+            settled.rename(homes);
+            push(&mut self.items, Item::Inst(settled))?;
             if let Some((jump, label)) = jump_behind(&places, labels, number) {
-                self.items.push(Item::Jump(jump, label))?;
+                push(&mut self.items, Item::Jump(jump, label))?;
             }
         }
         for label in places.next..labels {
-            self.items.push(Item::Bind(Label(label)))?;
+            push(&mut self.items, Item::Bind(Label(label)))?;
         }
         Ok(())
     }
 }
 
-impl Body<InstData> for Least {
+impl Body for Least {
     /// What can't be encoded is told, and left out.
     fn push(
         &mut self,
         buffer: &mut CodeBuffer<Global>,
-        insts: &[InstData],
+        insts: &[Core],
         labels: u32,
         _plan: &Plan,
         homes: &[u8; 256],

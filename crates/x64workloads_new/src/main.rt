@@ -5,44 +5,39 @@
 
 mod assembled;
 mod checked;
-mod data;
+mod functions;
 mod kinds;
-mod kinds_of_core;
 mod least;
 mod parts;
 mod stubs;
-mod work;
 
 use crate::assembled::WithJumps;
 use crate::checked::functions_checked;
-use crate::data::{Plain, functions_of};
+use crate::functions::{Plain, functions_of};
 use crate::least::Least;
 use crate::stubs::stubs_again;
-use cranelift_assembler_x64::{InstData, SinkError};
+use cranelift_assembler_x64::SinkError;
 use std::alloc::Global;
 use std::process::ExitCode;
 use std::{env, io};
 use workload_source::digest::Digest;
 use workload_source::registers::Regs;
-use x64_core::Core;
 
 /// What is done.
 #[derive(Clone, Copy)]
 enum Job {
     StubsAgain,
-    Data,
-    Assembled,
-    AssembledLeast,
     Core,
+    CoreAssembled,
+    CoreAssembledLeast,
     FunctionsChecked,
 }
 
-const JOBS: [Job; 6] = [
+const JOBS: [Job; 5] = [
     Job::StubsAgain,
-    Job::Data,
-    Job::Assembled,
-    Job::AssembledLeast,
     Job::Core,
+    Job::CoreAssembled,
+    Job::CoreAssembledLeast,
     Job::FunctionsChecked,
 ];
 
@@ -50,10 +45,9 @@ impl Job {
     fn name(self) -> &'static str {
         match self {
             Job::StubsAgain => "stubs_again",
-            Job::Data => "data",
-            Job::Assembled => "assembled",
-            Job::AssembledLeast => "assembled_least",
             Job::Core => "core",
+            Job::CoreAssembled => "core_assembled",
+            Job::CoreAssembledLeast => "core_assembled_least",
             Job::FunctionsChecked => "functions_checked",
         }
     }
@@ -61,12 +55,9 @@ impl Job {
     fn do_it(self, alloc: Global, count: u32, seed: u64) -> Result<Digest, SinkError> {
         match self {
             Job::StubsAgain => stubs_again::<Regs>(alloc, count, seed),
-            Job::Data => functions_of::<InstData, Plain>(alloc, Plain, count, seed),
-            Job::Assembled => functions_of::<InstData, WithJumps>(alloc, WithJumps, count, seed),
-            Job::AssembledLeast => {
-                functions_of::<InstData, Least>(alloc, Least::new(alloc), count, seed)
-            }
-            Job::Core => functions_of::<Core, Plain>(alloc, Plain, count, seed),
+            Job::Core => functions_of(alloc, Plain, count, seed),
+            Job::CoreAssembled => functions_of(alloc, WithJumps, count, seed),
+            Job::CoreAssembledLeast => functions_of(alloc, Least::new(alloc), count, seed),
             Job::FunctionsChecked => functions_checked::<Regs>(alloc, count, seed),
         }
     }

@@ -1,12 +1,12 @@
 //! What the functions of all jobs here have beside their instructions: labels, offsets, a pool of constants and an end.
 
 use cranelift_assembler_x64::{CodeSink, Constant, Fault, Label, SinkError};
+use huqmeris::{CodeBuffer, FinishError};
 use std::alloc::Global;
 use workload_source::digest::Digest;
 use workload_source::maker::{Maker, OFFSETS};
 use workload_source::notices::digest_notices;
 use workload_source::random::Random;
-use x64_code_buffer::{CodeBuffer, FinishError};
 
 /// Where labels stand: in front of every fifth to eighth instruction.
 #[derive(Clone, Copy)]

@@ -1,13 +1,13 @@
 //! The stubs of `x64workloads`, all made in one buffer.
 
 use cranelift_assembler_x64::SinkError;
+use huqmeris::{CodeBuffer, FinishError};
 use std::alloc::Global;
 use workload_source::digest::Digest;
 use workload_source::homes::{Homes, assign};
 use workload_source::notices::digest_notices;
 use workload_source::source::Source;
 use workload_source::stub::{fill, of_stubs, renew};
-use x64_code_buffer::{CodeBuffer, FinishError};
 
 fn finish(buffer: &mut CodeBuffer<Global>, digest: &mut Digest) {
     digest_notices(digest, buffer.notices());

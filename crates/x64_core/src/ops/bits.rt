@@ -5,8 +5,8 @@ ghost use Rattle.std.specs.Prelude.{◌≡◌, map};
 ghost use Rattle.std.specs.List.{range_with_len};
 
 use crate::makers::{Mem, RegMem, RegRm, RmImm};
-use crate::op::Op;
 use std::marker::PhantomData;
+use x64_lines::Op;
 
 // Scans for a bit. (Intel SDM, volume 2, `BSF` and `BSR`.)
 

@@ -5,7 +5,7 @@ ghost use Rattle.std.specs.Prelude.{◌≡◌, map};
 ghost use Rattle.std.specs.List.{range_with_len};
 
 use crate::makers::{RegRm, Rm};
-use crate::op::Op;
+use x64_lines::Op;
 
 // A byte by a condition. (Intel SDM, volume 2, `SETcc`.)
 

@@ -5,8 +5,8 @@ ghost use Rattle.std.specs.Prelude.{◌≡◌, map};
 ghost use Rattle.std.specs.List.{range_with_len};
 
 use crate::makers::{Bare, RegRm, RegRmImm, Rm};
-use crate::op::Op;
 use std::marker::PhantomData;
+use x64_lines::Op;
 
 // Multiplications. (Intel SDM, volume 2, `MUL` and `IMUL`.)
 

@@ -5,7 +5,7 @@ ghost use Rattle.std.specs.Prelude.{◌≡◌, map};
 ghost use Rattle.std.specs.List.{range_with_len};
 
 use crate::makers::{RegMem, RegRm};
-use crate::op::Op;
+use x64_lines::Op;
 
 // Arithmetic of one floating-point value. (Intel SDM, volume 2, `ADDSS`, `ADDSD` and so on.)
 

@@ -5,8 +5,8 @@ ghost use Rattle.std.specs.Prelude.{◌≡◌, map};
 ghost use Rattle.std.specs.List.{range_with_len};
 
 use crate::makers::{RegRm, RegRmImm, Rm, RmImm};
-use crate::op::Op;
 use std::marker::PhantomData;
+use x64_lines::Op;
 
 // Rotations by `cl` and by a byte. (Intel SDM, volume 2, `RCL/RCR/ROL/ROR`.)
 

@@ -34,8 +34,8 @@ value-displacement-requires g c =
     let offsets = (g.S.CodeSink.state c.args.sink.now).offsets in
     offset_of f.read_gpr _ form is offsets (is_addressable f c.args.row o none g.met.R.WriteGpr.AsReg.same offsets given.can)
 
-pub code_of-requires-clause-fits : goal.code_of-requires-clause-fits
-code_of-requires-clause-fits g c =
+pub code_by_row-requires-clause-fits : goal.code_by_row-requires-clause-fits
+code_by_row-requires-clause-fits g c =
     let f = family_of (numbering g.R.ReadGpr.AsReg.settled g.R.ReadGpr.AsReg.enc) (numbering g.R.ReadWriteGpr.AsReg.settled g.R.ReadWriteGpr.AsReg.enc) (numbering g.R.WriteGpr.AsReg.settled g.R.WriteGpr.AsReg.enc) (numbering g.R.ReadXmm.AsReg.settled g.R.ReadXmm.AsReg.enc) (numbering g.R.ReadWriteXmm.AsReg.settled g.R.ReadWriteXmm.AsReg.enc) (numbering g.R.WriteXmm.AsReg.settled g.R.WriteXmm.AsReg.enc) g.R.WriteGpr.PartialEq.eq in
     let o = c.requires.0 in
     let given = c.requires.1 in
@@ -45,8 +45,8 @@ code_of-requires-clause-fits g c =
     let offsets = (g.S.CodeSink.state c.args.sink.now).offsets in
     fits_of f.read_gpr _ form is (line_of c.args.row) (fits_row f c.args.row o none given.signature)
 
-pub code_of-requires-clause-imm : goal.code_of-requires-clause-imm
-code_of-requires-clause-imm g c =
+pub code_by_row-requires-clause-imm : goal.code_by_row-requires-clause-imm
+code_by_row-requires-clause-imm g c =
     let f = family_of (numbering g.R.ReadGpr.AsReg.settled g.R.ReadGpr.AsReg.enc) (numbering g.R.ReadWriteGpr.AsReg.settled g.R.ReadWriteGpr.AsReg.enc) (numbering g.R.WriteGpr.AsReg.settled g.R.WriteGpr.AsReg.enc) (numbering g.R.ReadXmm.AsReg.settled g.R.ReadXmm.AsReg.enc) (numbering g.R.ReadWriteXmm.AsReg.settled g.R.ReadWriteXmm.AsReg.enc) (numbering g.R.WriteXmm.AsReg.settled g.R.WriteXmm.AsReg.enc) g.R.WriteGpr.PartialEq.eq in
     let o = c.requires.0 in
     let given = c.requires.1 in
@@ -56,8 +56,8 @@ code_of-requires-clause-imm g c =
     let offsets = (g.S.CodeSink.state c.args.sink.now).offsets in
     imm_of f.read_gpr _ form is (line_of c.args.row) (fits_row f c.args.row o none given.signature)
 
-pub code_of-requires-clause-numbered : goal.code_of-requires-clause-numbered
-code_of-requires-clause-numbered g c =
+pub code_by_row-requires-clause-numbered : goal.code_by_row-requires-clause-numbered
+code_by_row-requires-clause-numbered g c =
     let f = family_of (numbering g.R.ReadGpr.AsReg.settled g.R.ReadGpr.AsReg.enc) (numbering g.R.ReadWriteGpr.AsReg.settled g.R.ReadWriteGpr.AsReg.enc) (numbering g.R.WriteGpr.AsReg.settled g.R.WriteGpr.AsReg.enc) (numbering g.R.ReadXmm.AsReg.settled g.R.ReadXmm.AsReg.enc) (numbering g.R.ReadWriteXmm.AsReg.settled g.R.ReadWriteXmm.AsReg.enc) (numbering g.R.WriteXmm.AsReg.settled g.R.WriteXmm.AsReg.enc) g.R.WriteGpr.PartialEq.eq in
     let o = c.requires.0 in
     let given = c.requires.1 in
@@ -67,8 +67,8 @@ code_of-requires-clause-numbered g c =
     let offsets = (g.S.CodeSink.state c.args.sink.now).offsets in
     numbered_of f.read_gpr _ form is
 
-pub code_of-requires-clause-real : goal.code_of-requires-clause-real
-code_of-requires-clause-real g c =
+pub code_by_row-requires-clause-real : goal.code_by_row-requires-clause-real
+code_by_row-requires-clause-real g c =
     let f = family_of (numbering g.R.ReadGpr.AsReg.settled g.R.ReadGpr.AsReg.enc) (numbering g.R.ReadWriteGpr.AsReg.settled g.R.ReadWriteGpr.AsReg.enc) (numbering g.R.WriteGpr.AsReg.settled g.R.WriteGpr.AsReg.enc) (numbering g.R.ReadXmm.AsReg.settled g.R.ReadXmm.AsReg.enc) (numbering g.R.ReadWriteXmm.AsReg.settled g.R.ReadWriteXmm.AsReg.enc) (numbering g.R.WriteXmm.AsReg.settled g.R.WriteXmm.AsReg.enc) g.R.WriteGpr.PartialEq.eq in
     let o = c.requires.0 in
     let given = c.requires.1 in
@@ -90,6 +90,6 @@ returns-in-None-clause-encodes g c o given =
     let shape = fits_row f row o none given.signature in
     let small : FitsSigned w32 c.value-displacement.result = search rules in
     let displaced = to_z-of_z w32 c.value-displacement.result small ∙ c.value-displacement.ensures ∙ displacement_of f.read_gpr _ form is offsets in
-    let written : EncodesParts (form_parts plain.enc row (displacement_in offsets form.place) (form_named (line_of row) c.args.content.now.form)) (memory_in (place_named c.args.content.now.form.place)) (code_actions c.code_of.result) = rw displaced at c.code_of.ensures.encodes in
-    let size : length (all_bytes (code_actions c.code_of.result)) ≡ len_of (form_parts plain.enc row (displacement_in offsets form.place) (form_named (line_of row) c.args.content.now.form)) = rw displaced at c.code_of.ensures.length in
+    let written : EncodesParts (form_parts plain.enc row (displacement_in offsets form.place) (form_named (line_of row) c.args.content.now.form)) (memory_in (place_named c.args.content.now.form.place)) (code_actions c.code_by_row.result) = rw displaced at c.code_by_row.ensures.encodes in
+    let size : length (all_bytes (code_actions c.code_by_row.result)) ≡ len_of (form_parts plain.enc row (displacement_in offsets form.place) (form_named (line_of row) c.args.content.now.form)) = rw displaced at c.code_by_row.ensures.length in
     encodes_form f row o none offsets _ (encodes_of f.read_gpr _ form is (line_of row) shape real row (displacement_in offsets form.place) _ written) (length_of f.read_gpr _ form is (line_of row) shape real row (displacement_in offsets form.place) _ size)

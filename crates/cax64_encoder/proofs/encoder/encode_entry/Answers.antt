@@ -8,12 +8,12 @@ use Rattle.cax64_encoder.proofs.encoder.encode_entry.Goals as goal
 pub returns-clause-adds : goal.returns-clause-adds
 returns-clause-adds g c =
     let displacement = to_z-of_z w32 c.args.displacement c.ranges.displacement in
-    line_adds c.put.result (rw displacement at c.code_of_entry.ensures.encodes) (rw displacement at c.code_of_entry.ensures.length) c.put.ensures.run
+    line_adds c.put.result (rw displacement at c.code_by_entry.ensures.encodes) (rw displacement at c.code_by_entry.ensures.length) c.put.ensures.run
 
 pub returns-clause-leaves : goal.returns-clause-leaves
 returns-clause-leaves g c =
     let displacement = to_z-of_z w32 c.args.displacement c.ranges.displacement in
-    line_leaves c.put.result (rw displacement at c.code_of_entry.ensures.encodes) (rw displacement at c.code_of_entry.ensures.length) c.put.ensures.run
+    line_leaves c.put.result (rw displacement at c.code_by_entry.ensures.encodes) (rw displacement at c.code_by_entry.ensures.length) c.put.ensures.run
 
 pub returns-clause-error : goal.returns-clause-error
 returns-clause-error g c = run_error c.put.result c.put.ensures.run
@@ -22,4 +22,4 @@ pub returns-clause-keeps : goal.returns-clause-keeps
 returns-clause-keeps g c = ran_keeps c.put.ensures.run
 
 pub returns-clause-enough : goal.returns-clause-enough
-returns-clause-enough g c = line_enough c.code_of_entry.ensures.encodes c.put.ensures.run
+returns-clause-enough g c = line_enough c.code_by_entry.ensures.encodes c.put.ensures.run

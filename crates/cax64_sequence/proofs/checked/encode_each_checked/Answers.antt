@@ -1,82 +1,29 @@
-use Rattle.std.proofs.Common.{subst, sym, map, take}
-use Rattle.cax64_sequence.specs.List.{AddsAll}
-use Rattle.std.proofs.lemmas.List.Elements.{All-nil}
-use Rattle.cax64_sequence.proofs.Lists.{all_but_none, keeps_on}
-use Rattle.cax64_sequence.proofs.Putting.{put_none, put_next, put_in_front, front_on, put_leaves, put_late, put_bytes_fall, put_notices_fall, room_for_bytes, room_for_notices, tested_next, fault_there, fault_then, refusal_then, refused_though}
+use Rattle.std.proofs.Common.{sym, subst, take}
+use Rattle.cax64_sequence.proofs.Putting.{fault_then, refusal_then}
+use Rattle.cax64_sequence.proofs.Rows.{each_adds, each_leaves, each_len_is, each_notice_count_is, err_then, front_count_is, front_len_is, ok_then}
+use Rattle.cax64_sink.specs.Room.{FallsBy, HasRoom}
 use Rattle.cax64_sequence.proofs.checked.encode_each_checked.Goals as goal
 
-pub loop-whole-init : goal.loop-whole-init
-loop-whole-init g c = record {
-  put = put_none g.I.Instruction.meant c.args.insts.now (g.S.CodeSink.state c.args.sink.now);
-  tested = All-nil _;
-  beside = g.met.S.CodeSink.may_stay c.args.sink.now;
-}
-
-pub loop-whole-preserved : goal.loop-whole-preserved
-loop-whole-preserved g c =
-    let held = c.loop-whole.invariant in
-    let next = c.in_default.ensures in
-    record {
-      put = put_next g.I.Instruction.meant c.args.insts.now c.loop-whole.whole c.index-insts-whole.result (g.S.CodeSink.state c.args.sink.now) (g.S.CodeSink.state c.loop-whole.sink) (g.S.CodeSink.state c.encode_checked.new.sink) c.loop-whole-test.true c.index-insts-whole.is held.put next.adds next.keeps next.byte_room next.notice_room;
-      tested = tested_next g.I.Instruction.meant c.args.insts.now c.loop-whole.whole c.index-insts-whole.result (g.S.CodeSink.state c.args.sink.now) (g.S.CodeSink.state c.loop-whole.sink) c.loop-whole-test.true c.index-insts-whole.is held.put.keeps.offsets held.tested next.fault;
-      beside = g.met.S.CodeSink.may_go_on _ _ _ held.beside next.beside;
-    }
-
 pub returns-clause-adds : goal.returns-clause-adds
-returns-clause-adds g c = rw (all_but_none c.args.insts.now c.loop-whole.whole c.loop-whole-test.false c.loop-whole.auto.whole-end) at c.loop-whole.invariant.put.adds
+returns-clause-adds g c = ok_then c.put_each_checked.result (each_adds g.I.Instruction.meant c.args.insts.now (g.S.CodeSink.state c.args.sink.now) (g.S.CodeSink.state c.put_each_checked.new.sink)) c.put_each_checked.ensures.adds
 
-pub returns-clause-encodable : goal.returns-clause-encodable
-returns-clause-encodable g c = rw (all_but_none c.args.insts.now c.loop-whole.whole c.loop-whole-test.false c.loop-whole.auto.whole-end) at c.loop-whole.invariant.tested
+pub returns-clause-before : goal.returns-clause-before
+returns-clause-before g c = err_then c.put_each_checked.result (λ e. fault_then e.error (each_adds g.I.Instruction.meant (take e.whole c.args.insts.now) (g.S.CodeSink.state c.args.sink.now) (g.S.CodeSink.state c.put_each_checked.new.sink))) c.put_each_checked.ensures.before
 
-pub returns-clause-front : goal.returns-clause-front
-returns-clause-front g c = put_in_front g.I.Instruction.meant c.args.insts.now c.loop-whole.whole (g.S.CodeSink.state c.args.sink.now) (g.S.CodeSink.state c.loop-whole.sink) c.loop-whole.invariant.put
+pub returns-clause-leaves : goal.returns-clause-leaves
+returns-clause-leaves g c = err_then c.put_each_checked.result (λ e. refusal_then e.error (λ why. each_leaves g.I.Instruction.meant c.args.insts.now e.whole (g.S.CodeSink.state c.args.sink.now) (g.S.CodeSink.state c.put_each_checked.new.sink))) c.put_each_checked.ensures.leaves
 
-pub returns-clause-keeps : goal.returns-clause-keeps
-returns-clause-keeps g c = c.loop-whole.invariant.put.keeps
+pub returns-clause-room : goal.returns-clause-room
+returns-clause-room g c j within bytes notices =
+    let s = g.S.CodeSink.state c.args.sink.now in
+    c.put_each_checked.ensures.room j within (subst (HasRoom s.byte_room) (sym (front_len_is g.I.Instruction.meant s c.args.insts.now j)) bytes) (subst (HasRoom s.notice_room) (sym (front_count_is g.I.Instruction.meant s c.args.insts.now j)) notices)
 
 pub returns-clause-byte_room : goal.returns-clause-byte_room
-returns-clause-byte_room g c = rw (all_but_none c.args.insts.now c.loop-whole.whole c.loop-whole-test.false c.loop-whole.auto.whole-end) at c.loop-whole.invariant.put.byte_room
+returns-clause-byte_room g c =
+    let s = g.S.CodeSink.state c.args.sink.now in
+    subst (FallsBy s.byte_room (g.S.CodeSink.state c.put_each_checked.new.sink).byte_room) (each_len_is g.I.Instruction.meant s c.args.insts.now) c.put_each_checked.ensures.byte_room
 
 pub returns-clause-notice_room : goal.returns-clause-notice_room
-returns-clause-notice_room g c = rw (all_but_none c.args.insts.now c.loop-whole.whole c.loop-whole-test.false c.loop-whole.auto.whole-end) at c.loop-whole.invariant.put.notice_room
-
-pub returns-in-Err-clause-tested : goal.returns-in-Err-clause-tested
-returns-in-Err-clause-tested g c = c.loop-whole.invariant.tested
-
-pub returns-in-Err-clause-fault : goal.returns-in-Err-clause-fault
-returns-in-Err-clause-fault g c = fault_there g.I.Instruction.meant c.args.insts.now c.loop-whole.whole c.index-insts-whole.result (g.S.CodeSink.state c.args.sink.now) (g.S.CodeSink.state c.loop-whole.sink) _ c.loop-whole-test.true c.index-insts-whole.is c.loop-whole.invariant.put.keeps.offsets c.in-Err.ensures.fault
-
-pub returns-in-Err-clause-before : goal.returns-in-Err-clause-before
-returns-in-Err-clause-before g c =
-    let before = g.S.CodeSink.state c.args.sink.now in
-    fault_then c.in-Err.error (λ e. subst (λ z. AddsAll (map (λ i. g.I.Instruction.meant i before.offsets) (take c.loop-whole.whole c.args.insts.now)) before (g.S.CodeSink.state z)) (sym e) c.loop-whole.invariant.put.adds) c.in-Err.ensures.unchanged
-
-pub returns-in-Err-clause-leaves : goal.returns-in-Err-clause-leaves
-returns-in-Err-clause-leaves g c = refusal_then c.in-Err.error (λ why leaves. put_leaves g.I.Instruction.meant c.args.insts.now c.loop-whole.whole c.index-insts-whole.result (g.S.CodeSink.state c.args.sink.now) (g.S.CodeSink.state c.loop-whole.sink) (g.S.CodeSink.state c.encode_checked.new.sink) c.loop-whole-test.true c.index-insts-whole.is c.loop-whole.invariant.put leaves) c.in-Err.ensures.leaves
-
-pub returns-in-Err-clause-error : goal.returns-in-Err-clause-error
-returns-in-Err-clause-error g c = rw c.loop-whole.invariant.put.keeps.answers at c.in-Err.ensures.error
-
-pub returns-in-Err-clause-front : goal.returns-in-Err-clause-front
-returns-in-Err-clause-front g c = front_on _ _ _ (put_in_front g.I.Instruction.meant c.args.insts.now c.loop-whole.whole (g.S.CodeSink.state c.args.sink.now) (g.S.CodeSink.state c.loop-whole.sink) c.loop-whole.invariant.put) c.in-Err.ensures.front
-
-pub returns-in-Err-clause-keeps : goal.returns-in-Err-clause-keeps
-returns-in-Err-clause-keeps g c = keeps_on c.loop-whole.invariant.put.keeps c.in-Err.ensures.keeps
-
-pub returns-in-Err-clause-beside : goal.returns-in-Err-clause-beside
-returns-in-Err-clause-beside g c = g.met.S.CodeSink.may_go_on _ _ _ c.loop-whole.invariant.beside c.in-Err.ensures.beside
-
-pub returns-in-Err-clause-enough : goal.returns-in-Err-clause-enough
-returns-in-Err-clause-enough g c bytes notices =
-    let put = c.loop-whole.invariant.put in
-    c.in-Err.ensures.enough (room_for_bytes g.I.Instruction.meant c.args.insts.now c.loop-whole.whole (g.S.CodeSink.state c.args.sink.now) (g.S.CodeSink.state c.loop-whole.sink) c.loop-whole-test.true put bytes) (room_for_notices g.I.Instruction.meant c.args.insts.now c.loop-whole.whole (g.S.CodeSink.state c.args.sink.now) (g.S.CodeSink.state c.loop-whole.sink) c.loop-whole-test.true put notices)
-
-pub returns-in-Err-clause-room : goal.returns-in-Err-clause-room
-returns-in-Err-clause-room g c j within bytes notices =
-    refused_though c.in-Err.error c.in-Err.ensures.room (λ refused. put_late g.I.Instruction.meant c.args.insts.now c.loop-whole.whole j c.index-insts-whole.result (g.S.CodeSink.state c.args.sink.now) (g.S.CodeSink.state c.loop-whole.sink) c.loop-whole-test.true c.index-insts-whole.is c.loop-whole.invariant.put refused bytes notices)
-
-pub returns-in-Err-clause-byte_room : goal.returns-in-Err-clause-byte_room
-returns-in-Err-clause-byte_room g c = put_bytes_fall g.I.Instruction.meant c.args.insts.now c.loop-whole.whole c.index-insts-whole.result (g.S.CodeSink.state c.args.sink.now) (g.S.CodeSink.state c.loop-whole.sink) (g.S.CodeSink.state c.encode_checked.new.sink) c.loop-whole-test.true c.index-insts-whole.is c.loop-whole.invariant.put c.in-Err.ensures.byte_room
-
-pub returns-in-Err-clause-notice_room : goal.returns-in-Err-clause-notice_room
-returns-in-Err-clause-notice_room g c = put_notices_fall g.I.Instruction.meant c.args.insts.now c.loop-whole.whole c.index-insts-whole.result (g.S.CodeSink.state c.args.sink.now) (g.S.CodeSink.state c.loop-whole.sink) (g.S.CodeSink.state c.encode_checked.new.sink) c.loop-whole-test.true c.index-insts-whole.is c.loop-whole.invariant.put c.in-Err.ensures.notice_room
+returns-clause-notice_room g c =
+    let s = g.S.CodeSink.state c.args.sink.now in
+    subst (FallsBy s.notice_room (g.S.CodeSink.state c.put_each_checked.new.sink).notice_room) (each_notice_count_is g.I.Instruction.meant s c.args.insts.now) c.put_each_checked.ensures.notice_room

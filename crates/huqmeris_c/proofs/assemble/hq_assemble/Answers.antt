@@ -6,9 +6,9 @@ use Rattle.huqmeris_c.proofs.Untold.{unfinished_as}
 use Rattle.huqmeris_c.specs.Items.{AssembledTo, Counted, NotAssembled, Unlisted}
 use Rattle.huqmeris_c.proofs.Splits.{joined}
 use Rattle.huqmeris_c.specs.Putting.{HasPlaces, Unfinished, traps_in}
-use Rattle.cax64_plain.specs.declared.status.TheConstants.{HQ_OUT_OF_RANGE}
+use Rattle.x64_plain.specs.declared.status.TheConstants.{HQ_OUT_OF_RANGE}
 use Rattle.huqmeris_c.specs.declared.item.HqItem.{HqItem}
-use Rattle.cax64_plain.specs.declared.told.HqUse.{HqUse}
+use Rattle.x64_plain.specs.declared.told.HqUse.{HqUse}
 use Rattle.huqmeris_c.specs.declared.progress.HqDone.{HqDone}
 use Rattle.x64_code_buffer.specs.Buffer.{buffer_state, places_of}
 use Rattle.huqmeris_c.proofs.assemble.hq_assemble.Goals as goal

@@ -1,6 +1,6 @@
 use Rattle.std.proofs.Common.{◌≡◌, ◌∙◌, ◌<◌, ◌≤◌, ap, refl, sym, arith, drop, length, subst, ℕ}
 use Rattle.std.proofs.lemmas.List.{get_or-set_same}
-use Rattle.cax64_plain.specs.declared.reading.HqReading.{HqReading}
+use Rattle.x64_plain.specs.declared.reading.HqReading.{HqReading}
 use Rattle.huqmeris_c.proofs.Turns.{next, none_yet, read_at}
 use Rattle.huqmeris_c.proofs.decode_all.read_each.Goals as goal
 

@@ -1,5 +1,5 @@
 use Rattle.std.proofs.Common.{sym, ap}
-use Rattle.cax64_plain.specs.Status.{check_status}
+use Rattle.x64_plain.specs.Status.{check_status}
 use Rattle.huqmeris_c.proofs.Coded.{no_fault_of}
 use Rattle.huqmeris_c.proofs.encode.hq_check.Goals as goal
 

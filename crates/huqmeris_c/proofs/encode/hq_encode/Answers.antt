@@ -1,8 +1,8 @@
 use Rattle.std.proofs.Common.{◌∙◌, sym, ap}
-use Rattle.cax64_plain.specs.Plain.{place_of}
-use Rattle.cax64_plain.specs.Told.{told_at}
-use Rattle.cax64_plain.specs.declared.inst.HqInst.{HqInst}
-use Rattle.cax64_plain.proofs.Views.{same_view}
+use Rattle.x64_plain.specs.Plain.{place_of}
+use Rattle.x64_plain.specs.Told.{told_at}
+use Rattle.x64_plain.specs.declared.inst.HqInst.{HqInst}
+use Rattle.x64_plain.proofs.Views.{same_view}
 use Rattle.huqmeris_c.proofs.Coded.{put_code_done}
 use Rattle.huqmeris_c.proofs.encode.hq_encode.Goals as goal
 use Rattle.x64_core.specs.View.{core_view}

@@ -1,5 +1,5 @@
 use Rattle.std.proofs.Common.{◌∙◌, refl, ap}
-use Rattle.cax64_plain.proofs.Views.{same_view}
+use Rattle.x64_plain.proofs.Views.{same_view}
 use Rattle.huqmeris_c.specs.Encodes.{no_offsets}
 use Rattle.huqmeris_c.proofs.Coded.{no_fault_of}
 use Rattle.huqmeris_c.proofs.encode.hq_length.Goals as goal

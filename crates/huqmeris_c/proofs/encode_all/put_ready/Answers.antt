@@ -1,10 +1,10 @@
 use Rattle.std.proofs.Common.{◌≡◌, ◌≢◌, ◌∙◌, ◌+◌, ℕ, [], ◌∷◌, append-nil, refl, sym, take, ap, arith, rules}
 use Rattle.std.proofs.lemmas.Bool.Decides.{nat_tests}
 use Rattle.cax64_encoder.specs.Place.{memory_in}
-use Rattle.cax64_plain.specs.Plain.{place_of}
-use Rattle.cax64_plain.specs.Told.{told_at}
-use Rattle.cax64_plain.specs.declared.inst.HqInst.{HqInst}
-use Rattle.cax64_plain.proofs.Views.{same_view}
+use Rattle.x64_plain.specs.Plain.{place_of}
+use Rattle.x64_plain.specs.Told.{told_at}
+use Rattle.x64_plain.specs.declared.inst.HqInst.{HqInst}
+use Rattle.x64_plain.proofs.Views.{same_view}
 use Rattle.huqmeris_c.specs.Listed.{moved}
 use Rattle.huqmeris_c.proofs.Listing.{ready_next, ready_put, tells_nothing, tells_one}
 use Rattle.x64_core.specs.Core.{core_notices}

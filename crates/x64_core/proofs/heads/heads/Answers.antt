@@ -1,4 +1,4 @@
-use Rattle.x64_core.proofs.Table.{heads_is}
+use Rattle.x64_core.proofs.HeadTable.{heads_is}
 use Rattle.x64_core.proofs.heads.heads.Goals as goal
 
 pub returns : goal.returns

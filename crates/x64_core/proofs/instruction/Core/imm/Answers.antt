@@ -1,5 +1,5 @@
 use Rattle.std.proofs.Common.{refl}
-use Rattle.x64_core.proofs.MadeOf.{facts}
+use Rattle.x64_lines.proofs.Facts.{facts}
 use Rattle.x64_core.proofs.instruction.Core.imm.Goals as goal
 
 pub returns-clause-value : goal.returns-clause-value

@@ -1,6 +1,6 @@
 use Rattle.std.proofs.Common.{◌≡◌, refl, sym, ◌∙◌, true, false}
-use Rattle.x64_core.specs.Shape.{has_reg, shape_of}
-use Rattle.x64_core.proofs.MadeOf.{facts}
+use Rattle.x64_lines.specs.Shape.{has_reg, shape_of}
+use Rattle.x64_lines.proofs.Facts.{facts}
 use Rattle.x64_core.proofs.instruction.Core.reg.Goals as goal
 
 pub returns-then-has_reg : goal.returns-then-has_reg

@@ -1,6 +1,6 @@
 use Rattle.std.proofs.Common.{◌≡◌, refl, sym, ◌∙◌, true, false}
-use Rattle.x64_core.specs.Shape.{has_vvvv, shape_of}
-use Rattle.x64_core.proofs.MadeOf.{facts}
+use Rattle.x64_lines.specs.Shape.{has_vvvv, shape_of}
+use Rattle.x64_lines.proofs.Facts.{facts}
 use Rattle.x64_core.proofs.instruction.Core.vvvv.Goals as goal
 
 pub returns-then-has_vvvv : goal.returns-then-has_vvvv

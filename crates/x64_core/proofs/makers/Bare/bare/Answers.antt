@@ -1,12 +1,12 @@
 use Rattle.std.proofs.Common.{refl}
 use Rattle.x64_core.specs.declared.place.CorePlace.TheVariants.{Absent}
-use Rattle.x64_core.specs.declared.shapes.OpFields.TheVariants.{Bare}
-use Rattle.x64_core.specs.declared.shapes.OpImm.TheVariants.{None}
+use Rattle.x64_lines.specs.declared.shapes.OpFields.TheVariants.{Bare}
+use Rattle.x64_lines.specs.declared.shapes.OpImm.TheVariants.{None}
 use Rattle.x64_core.proofs.MadeOf.{fits_by, view_by}
 use Rattle.x64_core.proofs.makers.Bare.bare.Goals as goal
 
-pub invariant_of-result : goal.invariant_of-result
-invariant_of-result c = record { shape = rw c.numbers.ensures (fits_by _ Bare None 0 0 Absent 0 c.args.self.fields c.args.self.imm (refl)) }
+pub invariant_of-result-2 : goal.invariant_of-result-2
+invariant_of-result-2 c = record { shape = fits_by _ Bare None 0 0 Absent 0 c.args.self.fields c.args.self.imm (refl) }
 
 pub returns : goal.returns
-returns c = rw c.numbers.ensures (view_by c.args.self.op Bare None 0 0 Absent 0 c.args.self.fields c.args.self.imm)
+returns c = view_by c.args.self.op Bare None 0 0 Absent 0 c.args.self.fields c.args.self.imm

@@ -1,10 +1,12 @@
 use Rattle.std.proofs.Common.{refl, ◌∙◌}
-use Rattle.x64_core.specs.declared.shapes.OpFields.TheVariants.{Mem}
-use Rattle.x64_core.proofs.MadeOf.{fits_by, view_by, mem_fits}
+use Rattle.x64_core.specs.Viewed.{viewed}
+use Rattle.x64_lines.specs.declared.shapes.OpFields.TheVariants.{Mem}
+use Rattle.x64_core.proofs.MadeOf.{address_fits, fits_by, view_by}
+use Rattle.x64_core.proofs.Viewed.{viewed_operand}
 use Rattle.x64_core.proofs.makers.MemImm.mem.Goals as goal
 
 pub invariant_of-result : goal.invariant_of-result
-invariant_of-result g c = record { shape = rw c.numbers.ensures (fits_by _ Mem g.I.CoreImm.kind 0 0 c.of_amode.result c.word.result c.args.self.fields c.args.self.imm (rw (mem_fits Mem c.of_amode.result _ refl c.of_amode.ensures, c.word.ensures.fits) refl)) }
+invariant_of-result g c = record { shape = fits_by _ Mem g.I.CoreImm.kind 0 0 (viewed c.of_amode.result) c.word.result c.args.self.fields c.args.self.imm (rw (address_fits Mem c.of_amode.result _ refl c.of_amode.ensures, c.word.ensures.fits) refl) }
 
 pub returns : goal.returns
-returns g c = rw c.numbers.ensures (view_by c.args.self.op Mem g.I.CoreImm.kind 0 0 c.of_amode.result c.word.result c.args.self.fields c.args.self.imm ∙ rw (c.of_amode.ensures, c.word.ensures.value) refl)
+returns g c = view_by c.args.self.op Mem g.I.CoreImm.kind 0 0 (viewed c.of_amode.result) c.word.result c.args.self.fields c.args.self.imm ∙ rw (viewed_operand c.of_amode.result, c.of_amode.ensures, c.word.ensures.value) refl

@@ -1,12 +1,13 @@
-use Rattle.std.proofs.Common.{refl}
-use Rattle.x64_core.specs.declared.place.CorePlace.TheVariants.{Register}
-use Rattle.x64_core.specs.declared.shapes.OpFields.TheVariants.{RegRm}
-use Rattle.x64_core.specs.declared.shapes.OpImm.TheVariants.{None}
-use Rattle.x64_core.proofs.MadeOf.{fits_by, view_by}
+use Rattle.std.proofs.Common.{refl, ◌∙◌}
+use Rattle.x64_core.specs.Viewed.{viewed}
+use Rattle.x64_lines.specs.declared.shapes.OpFields.TheVariants.{RegRm}
+use Rattle.x64_lines.specs.declared.shapes.OpImm.TheVariants.{None}
+use Rattle.x64_core.proofs.MadeOf.{register_fits, fits_by, view_by}
+use Rattle.x64_core.proofs.Viewed.{viewed_operand}
 use Rattle.x64_core.proofs.makers.RegRm.regs.Goals as goal
 
 pub invariant_of-result : goal.invariant_of-result
-invariant_of-result c = record { shape = rw c.numbers.ensures (fits_by _ RegRm None c.args.reg 0 (Register c.args.rm) 0 c.args.self.fields c.args.self.imm (refl)) }
+invariant_of-result c = record { shape = fits_by _ RegRm None c.args.reg 0 (viewed c.register.result) 0 c.args.self.fields c.args.self.imm (rw (register_fits RegRm c.register.result _ refl c.register.ensures) refl) }
 
 pub returns : goal.returns
-returns c = rw c.numbers.ensures (view_by c.args.self.op RegRm None c.args.reg 0 (Register c.args.rm) 0 c.args.self.fields c.args.self.imm)
+returns c = view_by c.args.self.op RegRm None c.args.reg 0 (viewed c.register.result) 0 c.args.self.fields c.args.self.imm ∙ rw (viewed_operand c.register.result, c.register.ensures) refl

@@ -1,11 +1,13 @@
 use Rattle.std.proofs.Common.{refl, ◌∙◌}
-use Rattle.x64_core.specs.declared.shapes.OpFields.TheVariants.{Rm}
-use Rattle.x64_core.specs.declared.shapes.OpImm.TheVariants.{None}
-use Rattle.x64_core.proofs.MadeOf.{fits_by, view_by, mem_fits}
+use Rattle.x64_core.specs.Viewed.{viewed}
+use Rattle.x64_lines.specs.declared.shapes.OpFields.TheVariants.{Rm}
+use Rattle.x64_lines.specs.declared.shapes.OpImm.TheVariants.{None}
+use Rattle.x64_core.proofs.MadeOf.{address_fits, fits_by, view_by}
+use Rattle.x64_core.proofs.Viewed.{viewed_operand}
 use Rattle.x64_core.proofs.makers.Rm.mem.Goals as goal
 
 pub invariant_of-result : goal.invariant_of-result
-invariant_of-result c = record { shape = rw c.numbers.ensures (fits_by _ Rm None 0 0 c.of_amode.result 0 c.args.self.fields c.args.self.imm (rw (mem_fits Rm c.of_amode.result _ refl c.of_amode.ensures) refl)) }
+invariant_of-result c = record { shape = fits_by _ Rm None 0 0 (viewed c.of_amode.result) 0 c.args.self.fields c.args.self.imm (rw (address_fits Rm c.of_amode.result _ refl c.of_amode.ensures) refl) }
 
 pub returns : goal.returns
-returns c = rw c.numbers.ensures (view_by c.args.self.op Rm None 0 0 c.of_amode.result 0 c.args.self.fields c.args.self.imm ∙ rw (c.of_amode.ensures) refl)
+returns c = view_by c.args.self.op Rm None 0 0 (viewed c.of_amode.result) 0 c.args.self.fields c.args.self.imm ∙ rw (viewed_operand c.of_amode.result, c.of_amode.ensures) refl

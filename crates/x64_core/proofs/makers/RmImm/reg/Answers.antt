@@ -1,11 +1,12 @@
-use Rattle.std.proofs.Common.{refl}
-use Rattle.x64_core.specs.declared.place.CorePlace.TheVariants.{Register}
-use Rattle.x64_core.specs.declared.shapes.OpFields.TheVariants.{Rm}
-use Rattle.x64_core.proofs.MadeOf.{fits_by, view_by}
+use Rattle.std.proofs.Common.{refl, ◌∙◌}
+use Rattle.x64_core.specs.Viewed.{viewed}
+use Rattle.x64_lines.specs.declared.shapes.OpFields.TheVariants.{Rm}
+use Rattle.x64_core.proofs.MadeOf.{register_fits, fits_by, view_by}
+use Rattle.x64_core.proofs.Viewed.{viewed_operand}
 use Rattle.x64_core.proofs.makers.RmImm.reg.Goals as goal
 
 pub invariant_of-result : goal.invariant_of-result
-invariant_of-result g c = record { shape = rw c.numbers.ensures (fits_by _ Rm g.I.CoreImm.kind 0 0 (Register c.args.rm) c.word.result c.args.self.fields c.args.self.imm (rw c.word.ensures.fits refl)) }
+invariant_of-result g c = record { shape = fits_by _ Rm g.I.CoreImm.kind 0 0 (viewed c.register.result) c.word.result c.args.self.fields c.args.self.imm (rw (register_fits Rm c.register.result _ refl c.register.ensures, c.word.ensures.fits) refl) }
 
 pub returns : goal.returns
-returns g c = rw c.numbers.ensures (rw c.word.ensures.value at (view_by c.args.self.op Rm g.I.CoreImm.kind 0 0 (Register c.args.rm) c.word.result c.args.self.fields c.args.self.imm))
+returns g c = view_by c.args.self.op Rm g.I.CoreImm.kind 0 0 (viewed c.register.result) c.word.result c.args.self.fields c.args.self.imm ∙ rw (viewed_operand c.register.result, c.register.ensures, c.word.ensures.value) refl

@@ -1,5 +1,0 @@
-use Rattle.cax64_inst_data.proofs.TailTable.{found}
-use Rattle.cax64_inst_data.proofs.tails.entry.Goals as goal
-
-pub returns : goal.returns
-returns c = found c.args.kind c.args.class c.args.low _ _ _ c.requires.class c.requires.low c.kind_number.ensures.is c.from.ensures c.from-2.ensures

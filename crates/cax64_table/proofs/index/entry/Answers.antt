@@ -1,6 +1,0 @@
-use Rattle.std.proofs.Common.{arith}
-use Rattle.cax64_table.proofs.Slots.{entry_fits}
-use Rattle.cax64_table.proofs.index.entry.Goals as goal
-
-pub returns-clause-fits : goal.returns-clause-fits
-returns-clause-fits c = rw (c.from.ensures, c.from-2.ensures, c.from-3.ensures) (entry_fits c.args.numbers.low c.args.opcode (omega arith))

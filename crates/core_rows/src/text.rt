@@ -1,0 +1,5 @@
+//! Worked texts of the core, each by hand.
+
+mod growths;
+mod texts;
+mod words;

@@ -1,4 +1,0 @@
-pub mod Rows
-pub mod Taken
-pub mod Means
-pub mod Undone

@@ -1,5 +1,0 @@
-pub mod Table
-pub mod Keys
-pub mod Found
-pub mod Distinct
-pub mod Taken

@@ -1,0 +1,6 @@
+pub mod Table
+pub mod Keys
+pub mod Found
+pub mod Distinct
+pub mod Taken
+pub mod RowsRead
