@@ -167,13 +167,14 @@ fn note_core(
     reading: &Reading,
     bytes: &[u8],
 ) -> Result<(), Fault> {
-    match read_core(bytes) {
-        Some(line) if is_of_its_line(reading, &line) => {
-            if !is_made_again(alloc, &line) {
-                came.push_str(" but the core of it is read as another")?;
-            }
-        }
-        _ => came.push_str(" but the core's reader reads another")?,
+    let Some(line) = read_core(bytes) else {
+        came.push_str(" but the core's reader reads nothing")?;
+        return Ok(());
+    };
+    if !is_of_its_line(reading, &line) {
+        came.push_str(" but the core's reader reads another")?;
+    } else if !is_made_again(alloc, &line) {
+        came.push_str(" but the core of it is read as another")?;
     }
     Ok(())
 }
