@@ -109,23 +109,19 @@ RANDOM, GROUPED, IDIOMATIC = 1, 2, 3
 PUBLIC = "the public crate's `encode`"
 
 
-def first_runs(row, column):
-    """Of five runs before the tail of a base was looked up."""
-    return cell("docs/SPEED.md", "Against what", 1, row, column)
-
-
 def over_orders(row, column, place=0):
     """Over ten orders of the functions: the least, the mean, its error."""
     return cell("docs/SPEED.md", "Against what", 2, row, column, place)
 
 
-def of_data(row, column):
-    return cell("docs/SPEED.md", "Data", 1, row, column)
-
-
 def of_core(row, column):
-    """In random order, the same as data, grouped by kind, the same as data."""
+    """In parts of the public crate's time over the same list, the least over ten orders of the functions."""
     return cell("docs/SPEED.md", "The core", 1, row, column)
+
+
+def of_proved(row, column):
+    """In nanoseconds, of proved builds: in random order and grouped by kind."""
+    return cell("docs/SPEED.md", "The core", 2, row, column)
 
 
 def since(job, column):
@@ -148,34 +144,35 @@ def from_c(row, column):
 
 
 def nanoseconds(row, columns):
-    """What a row of data takes: its parts of the public crate's time, each times that."""
-    return [times(of_data(row, column), of_data(PUBLIC, column)) for column in columns]
+    """What a row beside the core takes: its parts of the public crate's time, each times that."""
+    return [times(of_core(row, column), of_core(PUBLIC, column)) for column in columns]
 
 
-DATA = nanoseconds("`data_encode_all`", (RANDOM, GROUPED, IDIOMATIC))
-RENAMED = nanoseconds("`data_rename`", (RANDOM, GROUPED, IDIOMATIC))
-ENUMERATION = [times(first_runs("`encode_all`", column), first_runs(PUBLIC, column)) for column in (RANDOM, GROUPED)]
-KEPT, READ = "`read`, beside `read_inst`, kept", "`read_inst`, called from C"
+CORE = nanoseconds("`core_encode_all`", (RANDOM, GROUPED, IDIOMATIC))
+RENAMED = nanoseconds("`core_rename`", (RANDOM, GROUPED, IDIOMATIC))
+ENUMERATION = nanoseconds("`encode_all`", (RANDOM, GROUPED, IDIOMATIC))
+KEPT, READ = "`read_inst`, kept", "`read_inst`, called from C"
 TRAPS_CHOSEN = rf"`hq_encode_all` {NUMBER} to {NUMBER} ns in random order, {NUMBER} to {NUMBER} grouped by line"
 KEYED = rf"`hq_decode` {NUMBER} to {NUMBER} ns, grouped by line {NUMBER} to {NUMBER},"
 ANY = None
 
 # Sentences of pages, and where each number of theirs stands, or how it follows; ANY for one that stands nowhere else.
 CLAIMS = (
-    ("README.md", rf"is encoded in {NUMBER} of the public crate's time, and as data in {NUMBER}",
-     over_orders("`encode_all`", RANDOM), of_data("`data_encode_all`", RANDOM)),
-    ("docs/SPEED.md", rf"Kept, it took {NUMBER} and {NUMBER} ns", of_core(KEPT, 2), of_core(KEPT, 4)),
+    ("README.md", rf"is encoded in {NUMBER} of the public crate's time, and as instructions of the core in {NUMBER}",
+     over_orders("`encode_all`", RANDOM), of_core("`core_encode_all`", RANDOM)),
+    ("docs/SPEED.md", rf"Kept, it took {NUMBER} and {NUMBER} ns", of_proved(KEPT, RANDOM), of_proved(KEPT, GROUPED)),
     ("docs/SPEED.md", rf"it takes {NUMBER} and 12.9 ns, of the public crate's {NUMBER} and",
      times(over_orders("`encode_checked`", GROUPED), over_orders(PUBLIC, GROUPED)), over_orders(PUBLIC, GROUPED)),
-    ("docs/SPEED.md", rf"data takes {NUMBER} to {NUMBER} ns to encode in any order of kinds, where the enumeration takes {NUMBER} "
-     rf"to {NUMBER}; it's renamed in {NUMBER} to {NUMBER},",
-     least(*DATA), most(*DATA), least(*ENUMERATION), most(*ENUMERATION), least(*RENAMED), most(*RENAMED)),
-    ("docs/SPEED.md", rf"the job of `functions` takes {NUMBER} of its time over it", beside("data")),
-    ("docs/SPEED.md", rf"and in {NUMBER} and {NUMBER} of the time that the public crate takes to put alone; its text takes {NUMBER} "
+    ("docs/SPEED.md", rf"the core takes {NUMBER} to {NUMBER} ns to encode in any order of kinds, where the enumeration takes {NUMBER} "
+     rf"to {NUMBER} for the same instructions; it's renamed in {NUMBER} to {NUMBER},",
+     least(*CORE), most(*CORE), least(*ENUMERATION), most(*ENUMERATION), least(*RENAMED), most(*RENAMED)),
+    ("docs/SPEED.md", rf"the job of `functions` takes {NUMBER} of its time over it", beside("core")),
+    ("docs/SPEED.md", rf"put in {NUMBER} and {NUMBER} of the time that the public crate takes to put alone; its text takes {NUMBER} "
      rf"and {NUMBER} of",
-     over(of_core("`encode_checked`", 1), of_core(PUBLIC, 1)), over(of_core("`encode_checked`", 3), of_core(PUBLIC, 3)),
-     over(of_core("`to_string`", 1), of_core("the public crate's `to_string`", 1)),
-     over(of_core("`to_string`", 3), of_core("the public crate's `to_string`", 3))),
+     over(of_proved("`encode_checked`", RANDOM), of_proved(PUBLIC, RANDOM)),
+     over(of_proved("`encode_checked`", GROUPED), of_proved(PUBLIC, GROUPED)),
+     over(of_proved("`to_string`", RANDOM), of_proved("the public crate's `to_string`", RANDOM)),
+     over(of_proved("`to_string`", GROUPED), of_proved("the public crate's `to_string`", GROUPED))),
     ("docs/PERF.md", rf"of the instructions at 5a4606d before, and {NUMBER} now", since("functions", 3)),
     ("docs/PERF.md", rf"`hq_check` {NUMBER} to {NUMBER} of the processor's instructions, `hq_rename` {NUMBER} to {NUMBER} ",
      counted("hq_check", 2), counted("hq_check", 3), counted("hq_rename", 2), counted("hq_rename", 3)),
@@ -188,8 +185,8 @@ CLAIMS = (
     ("docs/C.md", rf"Here it takes {NUMBER} and {NUMBER} less",
      less(from_c(READ, 1), from_c("`hq_decode`", 1)), less(from_c(READ, 3), from_c("`hq_decode`", 3))),
     ("docs/C.md", rf"took {NUMBER} and {NUMBER} \(\[SPEED\.md\]\(SPEED\.md\)\), so {NUMBER} and {NUMBER} more than `hq_decode`",
-     of_core(KEPT, 2), of_core(KEPT, 4), less(of_core(KEPT, 2), from_c("`hq_decode`", 1)),
-     less(of_core(KEPT, 4), from_c("`hq_decode`", 3))),
+     of_proved(KEPT, RANDOM), of_proved(KEPT, GROUPED), less(of_proved(KEPT, RANDOM), from_c("`hq_decode`", 1)),
+     less(of_proved(KEPT, GROUPED), from_c("`hq_decode`", 3))),
 )
 
 # Columns that are a quotient of others, as precisely as these are given: a table, the column, and the cells of each row.
