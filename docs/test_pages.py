@@ -152,7 +152,7 @@ class Times(Pages):
         self.refuses("of `reading` 2.56 isn't 3.750 over 1.076", 1, "times")
 
     def test_a_sentence_that_is_gone(self):
-        self.change("docs/SPEED.md", r"the job of `functions` takes", "the job of `functions` took")
+        self.change("docs/SPEED.md", r"the job `core` takes", "the job `core` took")
         self.refuses("docs/SPEED.md has no sentence", 1, "times")
 
     def test_a_time_that_no_sentence_has(self):

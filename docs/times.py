@@ -166,7 +166,7 @@ CLAIMS = (
     ("docs/SPEED.md", rf"the core takes {NUMBER} to {NUMBER} ns to encode in any order of kinds, where the enumeration takes {NUMBER} "
      rf"to {NUMBER} for the same instructions; it's renamed in {NUMBER} to {NUMBER},",
      least(*CORE), most(*CORE), least(*ENUMERATION), most(*ENUMERATION), least(*RENAMED), most(*RENAMED)),
-    ("docs/SPEED.md", rf"the job of `functions` takes {NUMBER} of its time over it", beside("core")),
+    ("docs/SPEED.md", rf"the job `core` takes {NUMBER} of the time of `functions_checked`", beside("core")),
     ("docs/SPEED.md", rf"put in {NUMBER} and {NUMBER} of the time that the public crate takes to put alone; its text takes {NUMBER} "
      rf"and {NUMBER} of",
      over(of_proved("`encode_checked`", RANDOM), of_proved(PUBLIC, RANDOM)),
